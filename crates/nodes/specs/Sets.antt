@@ -1,0 +1,33 @@
+-- Sets of nodes, each kept in a number: bit v of the number stands for node v.
+use Prim.Native.Nat.{ℕ, zero, suc, _+_, _/_, _%_, _^_}
+use mathlib.Core.Bool.{Bool, true, false}
+use mathlib.Core.List.{List, [], _∷_}
+use lib.Dec.{eqb}
+
+-- Whether the set holds node v: bit v of it is 1.
+unfoldable pub has : ℕ → ℕ → Bool
+has set v = eqb (set / 2 ^ v % 2) 1
+
+-- The count numbers from first on, in rising order.
+unfoldable pub range : ℕ → ℕ → List ℕ
+range first zero = []
+range first (suc count) = first ∷ range (suc first) count
+
+-- Puts an element in front of a list where the test says so.
+abbrev pub keptIf : Bool → ℕ → List ℕ → List ℕ
+keptIf true v vs = v ∷ vs
+keptIf false v vs = vs
+
+-- The numbers of a list that pass a test, in their order.
+abbrev pub keep : (ℕ → Bool) → List ℕ → List ℕ
+keep p [] = []
+keep p (v ∷ vs) = keptIf (p v) v (keep p vs)
+
+-- The members of a set among the nodes below k, lowest first.
+unfoldable pub members : ℕ → ℕ → List ℕ
+members k set = keep (has set) (range 0 k)
+
+-- The set that holds just the nodes of a list, each once in it.
+abbrev pub setOf : List ℕ → ℕ
+setOf [] = 0
+setOf (v ∷ vs) = 2 ^ v + setOf vs

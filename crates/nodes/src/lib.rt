@@ -1,0 +1,1 @@
+// Sets of graph nodes in a u32: bit v stands for node v.

@@ -1,0 +1,2 @@
+// The sheet: the format of its bytes, what they say, and the reader that refuses every other list of bytes.
+pub mod task;

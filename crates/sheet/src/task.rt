@@ -1,0 +1,30 @@
+// What a sheet says of its tasks, as structs by value.
+
+// What a job may take, in ticks: its work, over all nodes (01's C), and its span, along any chain of nodes (01's L).
+pub struct Budget {
+    pub work: u32,
+    pub span: u32,
+}
+
+// The figures of a task: D, then CN and LN, then CO and LO.
+pub struct Figures {
+    pub deadline: u32,
+    pub nominal: Budget,
+    pub overload: Budget,
+}
+
+// A task: its level (0 low, 1 high), the number of its nodes (01's k), its figures, and for each node the set of its
+// predecessors (01's masks).
+pub struct Task {
+    pub level: u8,
+    pub nodes: u8,
+    pub figures: Figures,
+    pub predecessors: [u32; 32],
+}
+
+// A sheet's processors (01's M), the number of its tasks (01's n), and the tasks.
+pub struct TaskSet {
+    pub processors: u8,
+    pub count: u8,
+    pub tasks: [Task; 16],
+}
