@@ -1,6 +1,6 @@
 -- Sets of nodes, each kept in a number: bit v of the number stands for node v.
 use Prim.Native.Nat.{ℕ, zero, suc, _+_, _/_, _%_, _^_}
-use mathlib.Core.Bool.{Bool, true, false}
+use mathlib.Core.Bool.{Bool, true, false, _&&_}
 use mathlib.Core.List.{List, [], _∷_}
 use lib.Dec.{eqb}
 
@@ -31,3 +31,22 @@ members k set = keep (has set) (range 0 k)
 abbrev pub setOf : List ℕ → ℕ
 setOf [] = 0
 setOf (v ∷ vs) = 2 ^ v + setOf vs
+
+-- Whether every number of a list passes a test.
+abbrev pub every : (ℕ → Bool) → List ℕ → Bool
+every p [] = true
+every p (v ∷ vs) = p v && every p vs
+
+-- 01, Ready: all predecessors ended. Whether every member of the set a, among the nodes below k, is a member of the set b.
+unfoldable pub isWithin : ℕ → ℕ → ℕ → Bool
+isWithin k a b = every (has b) (members k a)
+
+-- A test as a number: 1 where it passes.
+abbrev pub bit : Bool → ℕ
+bit true = 1
+bit false = 0
+
+-- 01, Running: the lowest-numbered ready nodes. How many numbers below v pass a test.
+unfoldable pub count : (ℕ → Bool) → ℕ → ℕ
+count p zero = 0
+count p (suc v) = count p v + bit (p v)

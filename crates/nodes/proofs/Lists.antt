@@ -1,0 +1,157 @@
+-- Laws of `range`, `keep` and `every`: lengths, elements, membership, and tests that agree. By induction on the list or on the count of the range.
+use Prim.Native.Nat.{ℕ, zero, suc, _+_, _≤_, _<_, zero-le, suc-le-suc}
+use mathlib.Core.Path.{_≡_, refl, sym, ap, ap₂, _∙_}
+use mathlib.Core.Logic.{_⊎_, inl, inr}
+use mathlib.Core.Bool.{Bool, true, false, _&&_, and-eq-true-iff}
+use mathlib.Core.List.{List, [], _∷_, _++_, map, List·Memᴰ, List·Memᴰ·head, List·Memᴰ·tail, List·Memᴰ·not-nil, List·Memᴰ·cases-cons}
+use native.Mathlib.Nat.{le-step, add-zero, zero-add}
+use native.Mathlib.Decide.{ℕ-discrete}
+use native.Mathlib.Omega.{arith}
+use lib.ListN.{length, getD}
+use Rattle.nodes.specs.Sets.{range, keep, keptIf, every}
+
+-- The numbers of a range.
+pub length-range : (first n : ℕ) → length (range first n) ≡ n
+unfolding range
+length-range first zero = refl
+length-range first (suc n) = ap suc (length-range (suc first) n)
+
+pub getD-range : (first n i d : ℕ) → i < n → getD (range first n) i d ≡ first + i
+unfolding range
+getD-range first zero i d h = absurd (omega arith)
+getD-range first (suc n) zero d h = sym (add-zero first)
+getD-range first (suc n) (suc i) d h = getD-range (suc first) n i d (omega arith) ∙ omega arith
+
+pub range-append : (first m n : ℕ) → range first (m + n) ≡ range first m ++ range (first + m) n
+unfolding range
+range-append first zero n = rw (zero-add, add-zero)
+range-append first (suc m) n =
+    let e : suc m + n ≡ suc (m + n) = omega arith in
+    let d : suc first + m ≡ first + suc m = omega arith in
+    rw (e, ← d) (ap (λ (xs : List ℕ). first ∷ xs) (range-append (suc first) m n))
+
+pub map-suc-range : (first n : ℕ) → map suc (range first n) ≡ range (suc first) n
+unfolding range
+map-suc-range first zero = refl
+map-suc-range first (suc n) = ap (λ (xs : List ℕ). suc first ∷ xs) (map-suc-range (suc first) n)
+
+-- A number stands in a range just where it lies within its bounds.
+pub mem-range : (first n v : ℕ) → first ≤ v → v < first + n → List·Memᴰ v (range first n)
+unfolding range
+mem-range first zero v low high = absurd (omega arith)
+mem-range first (suc n) v low high = go (ℕ-discrete v first) (mem-range (suc first) n v)
+  where
+    go : Dec (v ≡ first) → (suc first ≤ v → v < suc first + n → List·Memᴰ v (range (suc first) n)) → List·Memᴰ v (first ∷ range (suc first) n)
+    go (yes e) rest = List·Memᴰ·head e
+    go (no e) rest = List·Memᴰ·tail (rest (omega arith) (omega arith))
+
+pub range-mem : (first n v : ℕ) → List·Memᴰ v (range first n) → (first ≤ v) × (v < first + n)
+unfolding range
+range-mem first zero v m = absurd (List·Memᴰ·not-nil m)
+range-mem first (suc n) v m = go (range-mem (suc first) n v) (List·Memᴰ·cases-cons m)
+  where
+    go : (List·Memᴰ v (range (suc first) n) → (suc first ≤ v) × (v < suc first + n)) → (v ≡ first) ⊎ List·Memᴰ v (range (suc first) n) → (first ≤ v) × (v < first + suc n)
+    go rest (inl e) = omega arith
+    go rest (inr i) = let b = rest i in omega arith
+
+-- What `keep` keeps: a number of the list that passes the test, and every such number.
+mem-kept : (t : Bool) (v x : ℕ) (xs : List ℕ) → List·Memᴰ v (keptIf t x xs) → ((v ≡ x) × (t ≡ true)) ⊎ List·Memᴰ v xs
+mem-kept true v x xs m = go (List·Memᴰ·cases-cons m)
+  where
+    go : (v ≡ x) ⊎ List·Memᴰ v xs → ((v ≡ x) × (true ≡ true)) ⊎ List·Memᴰ v xs
+    go (inl e) = inl (e, refl)
+    go (inr i) = inr i
+mem-kept false v x xs m = inr m
+
+pub keep-mem : (p : ℕ → Bool) (xs : List ℕ) (v : ℕ) → List·Memᴰ v (keep p xs) → (p v ≡ true) × List·Memᴰ v xs
+keep-mem p [] v m = absurd (List·Memᴰ·not-nil m)
+keep-mem p (x ∷ xs) v m = go (keep-mem p xs v) (mem-kept (p x) v x (keep p xs) m)
+  where
+    go : (List·Memᴰ v (keep p xs) → (p v ≡ true) × List·Memᴰ v xs) → ((v ≡ x) × (p x ≡ true)) ⊎ List·Memᴰ v (keep p xs) → (p v ≡ true) × List·Memᴰ v (x ∷ xs)
+    go rest (inl e) = (ap p (e .0) ∙ e .1, List·Memᴰ·head (e .0))
+    go rest (inr i) = (rest i .0, List·Memᴰ·tail (rest i .1))
+
+kept-later : (t : Bool) (v x : ℕ) (xs : List ℕ) → List·Memᴰ v xs → List·Memᴰ v (keptIf t x xs)
+kept-later true v x xs m = List·Memᴰ·tail m
+kept-later false v x xs m = m
+
+pub mem-keep : (p : ℕ → Bool) (xs : List ℕ) (v : ℕ) → p v ≡ true → List·Memᴰ v xs → List·Memᴰ v (keep p xs)
+mem-keep p [] v t m = absurd (List·Memᴰ·not-nil m)
+mem-keep p (x ∷ xs) v t m = go (mem-keep p xs v t) (List·Memᴰ·cases-cons m)
+  where
+    go : (List·Memᴰ v xs → List·Memᴰ v (keep p xs)) → (v ≡ x) ⊎ List·Memᴰ v xs → List·Memᴰ v (keptIf (p x) x (keep p xs))
+    go rest (inl e) = rw (sym (ap p e) ∙ t) (List·Memᴰ·head e)
+    go rest (inr i) = kept-later (p x) v x (keep p xs) (rest i)
+
+-- Tests that agree on the list's numbers keep the same of them.
+pub keep-agree : (p q : ℕ → Bool) (xs : List ℕ) → ((v : ℕ) → List·Memᴰ v xs → p v ≡ q v) → keep p xs ≡ keep q xs
+keep-agree p q [] same = refl
+keep-agree p q (x ∷ xs) same = ap₂ (λ (t : Bool) (vs : List ℕ). keptIf t x vs) (same x (List·Memᴰ·head refl)) (keep-agree p q xs (λ v m. same v (List·Memᴰ·tail m)))
+
+pub keep-ext : (p q : ℕ → Bool) (first n : ℕ) → ((v : ℕ) → first ≤ v → v < first + n → p v ≡ q v) → keep p (range first n) ≡ keep q (range first n)
+keep-ext p q first n same = keep-agree p q (range first n) (λ v m. let b = range-mem first n v m in same v (b .0) (b .1))
+
+pub keep-ext-below : (p q : ℕ → Bool) (k : ℕ) → ((v : ℕ) → v < k → p v ≡ q v) → keep p (range 0 k) ≡ keep q (range 0 k)
+keep-ext-below p q k same = keep-ext p q 0 k (λ v low high. same v (omega arith))
+
+-- A keep of a keep, of a joined list and of a list of successors.
+keep-kept : (p : ℕ → Bool) (t : Bool) (x : ℕ) (xs : List ℕ) → keep p (keptIf t x xs) ≡ keptIf (t && p x) x (keep p xs)
+keep-kept p true x xs = refl
+keep-kept p false x xs = refl
+
+pub keep-keep : (p q : ℕ → Bool) (xs : List ℕ) → keep p (keep q xs) ≡ keep (λ v. q v && p v) xs
+keep-keep p q [] = refl
+keep-keep p q (x ∷ xs) = keep-kept p (q x) x (keep q xs) ∙ ap (keptIf (q x && p x) x) (keep-keep p q xs)
+
+kept-append : (t : Bool) (x : ℕ) (xs ys : List ℕ) → keptIf t x (xs ++ ys) ≡ keptIf t x xs ++ ys
+kept-append true x xs ys = refl
+kept-append false x xs ys = refl
+
+pub keep-append : (p : ℕ → Bool) (xs ys : List ℕ) → keep p (xs ++ ys) ≡ keep p xs ++ keep p ys
+keep-append p [] ys = refl
+keep-append p (x ∷ xs) ys = ap (keptIf (p x) x) (keep-append p xs ys) ∙ kept-append (p x) x (keep p xs) (keep p ys)
+
+map-kept : (t : Bool) (x : ℕ) (xs : List ℕ) → map suc (keptIf t x xs) ≡ keptIf t (suc x) (map suc xs)
+map-kept true x xs = refl
+map-kept false x xs = refl
+
+pub keep-map-suc : (p : ℕ → Bool) (xs : List ℕ) → keep p (map suc xs) ≡ map suc (keep (λ v. p (suc v)) xs)
+keep-map-suc p [] = refl
+keep-map-suc p (x ∷ xs) = ap (keptIf (p (suc x)) (suc x)) (keep-map-suc p xs) ∙ sym (map-kept (p (suc x)) x (keep (λ v. p (suc v)) xs))
+
+-- The numbers below suc k that pass: 0 or not, and the successors of those below k that pass one place up.
+pub keep-next : (p : ℕ → Bool) (k : ℕ) → keep p (range 0 (suc k)) ≡ keptIf (p 0) 0 (map suc (keep (λ v. p (suc v)) (range 0 k)))
+unfolding range
+keep-next p k = ap (keptIf (p 0) 0) (ap (keep p) (sym (map-suc-range 0 k)) ∙ keep-map-suc p (range 0 k))
+
+-- A keep is no longer than its list.
+length-kept : (t : Bool) (x : ℕ) (xs : List ℕ) (n : ℕ) → length xs ≤ n → length (keptIf t x xs) ≤ suc n
+length-kept true x xs n h = suc-le-suc h
+length-kept false x xs n h = le-step h
+
+pub length-keep : (p : ℕ → Bool) (xs : List ℕ) → length (keep p xs) ≤ length xs
+length-keep p [] = zero-le
+length-keep p (x ∷ xs) = length-kept (p x) x (keep p xs) (length xs) (length-keep p xs)
+
+-- A test that nothing passes keeps nothing.
+pub keep-none : (p : ℕ → Bool) (xs : List ℕ) → ((v : ℕ) → List·Memᴰ v xs → p v ≡ false) → keep p xs ≡ []
+keep-none p [] fails = refl
+keep-none p (x ∷ xs) fails = rw (fails x (List·Memᴰ·head refl)) (keep-none p xs (λ v m. fails v (List·Memᴰ·tail m)))
+
+-- A test that everything passes keeps the list.
+pub keep-all : (p : ℕ → Bool) (xs : List ℕ) → ((v : ℕ) → List·Memᴰ v xs → p v ≡ true) → keep p xs ≡ xs
+keep-all p [] passes = refl
+keep-all p (x ∷ xs) passes = rw (passes x (List·Memᴰ·head refl)) (ap (λ (vs : List ℕ). x ∷ vs) (keep-all p xs (λ v m. passes v (List·Memᴰ·tail m))))
+
+-- `every` says of each number of a list that it passes.
+pub every-mem : (p : ℕ → Bool) (vs : List ℕ) (v : ℕ) → every p vs ≡ true → List·Memᴰ v vs → p v ≡ true
+every-mem p [] v e m = absurd (List·Memᴰ·not-nil m)
+every-mem p (x ∷ vs) v e m = go (and-eq-true-iff (p x) (every p vs) .0 e) (every-mem p vs v) (List·Memᴰ·cases-cons m)
+  where
+    go : (p x ≡ true) × (every p vs ≡ true) → (every p vs ≡ true → List·Memᴰ v vs → p v ≡ true) → (v ≡ x) ⊎ List·Memᴰ v vs → p v ≡ true
+    go both rest (inl d) = ap p d ∙ both .0
+    go both rest (inr i) = rest (both .1) i
+
+pub mem-every : (p : ℕ → Bool) (vs : List ℕ) → ((v : ℕ) → List·Memᴰ v vs → p v ≡ true) → every p vs ≡ true
+mem-every p [] passes = refl
+mem-every p (x ∷ vs) passes = rw (passes x (List·Memᴰ·head refl)) (mem-every p vs (λ v m. passes v (List·Memᴰ·tail m)))
