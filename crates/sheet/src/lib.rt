@@ -1,2 +1,8 @@
 // The sheet: the format of its bytes, what they say, and the reader that refuses every other list of bytes.
+pub mod answer;
+mod directory;
+mod numbers;
+pub mod reader;
+mod record;
+mod rules;
 pub mod task;

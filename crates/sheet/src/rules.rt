@@ -1,0 +1,79 @@
+// The rules that a record keeps, each a test on what the record says.
+ghost use mathlib.Core.Path.{_≡_};
+ghost use Prim.Native.Nat.{_+_, _≤_};
+ghost use Rattle.sheet.specs.Rules.{within, shapeLawful, inRange, inOrder, lowLawful, figuresLawful, masksLawful, isHeavy};
+use crate::task::Figures;
+
+const FIGURE_LIMIT: u32 = 10000;
+
+pub fn is_within(low: u32, high: u32, x: u32) -> bool
+    ensures { λ r. ⌜ r ≡ within low high x ⌝ }
+{
+    (low <= x) & (x <= high)
+}
+
+pub fn shape_lawful(level: u8, nodes: u8, bytes: u32) -> bool
+    ensures { λ r. ⌜ r ≡ shapeLawful level nodes bytes ⌝ }
+{
+    (level <= 1) & is_within(1, 32, nodes as u32) & (bytes == 12 + 4 * (nodes as u32))
+}
+
+fn in_range(f: Figures) -> bool
+    ensures { λ r. ⌜ r ≡ inRange f ⌝ }
+{
+    is_within(1, FIGURE_LIMIT, f.deadline)
+        & is_within(1, FIGURE_LIMIT, f.nominal.work)
+        & is_within(1, FIGURE_LIMIT, f.overload.work)
+        & is_within(1, FIGURE_LIMIT, f.nominal.span)
+        & is_within(1, FIGURE_LIMIT, f.overload.span)
+}
+
+fn sum(a: u32, b: u32) -> u64
+    ensures { λ r. ⌜ r ≡ a + b ⌝ }
+{
+    (a as u64) + (b as u64)
+}
+
+// The last rule is put as sums, which do not wrap.
+fn in_order(f: Figures) -> bool
+    ensures { λ r. ⌜ r ≡ inOrder f ⌝ }
+{
+    (f.nominal.span <= f.nominal.work)
+        & (f.overload.span <= f.overload.work)
+        & (f.nominal.work <= f.overload.work)
+        & (f.nominal.span <= f.overload.span)
+        & (sum(f.overload.span, f.nominal.work) <= sum(f.overload.work, f.nominal.span))
+}
+
+fn low_lawful(level: u8, f: Figures) -> bool
+    ensures { λ r. ⌜ r ≡ lowLawful level f ⌝ }
+{
+    (level != 0) | ((f.nominal.work == f.overload.work) & (f.nominal.span == f.overload.span))
+}
+
+pub fn figures_lawful(level: u8, f: Figures) -> bool
+    ensures { λ r. ⌜ r ≡ figuresLawful level f ⌝ }
+{
+    in_range(f) & in_order(f) & low_lawful(level, f)
+}
+
+pub fn masks_lawful(masks: [u32; 32], nodes: u8) -> bool
+    requires { ⌜ nodes ≤ 32 ⌝ }
+    ensures { λ r. ⌜ r ≡ masksLawful masks nodes ⌝ }
+{
+    let k = nodes as usize;
+    let mut v = 0;
+    while v < k {
+        if masks[v] >> v != 0 {
+            return false;
+        }
+        v += 1;
+    }
+    true
+}
+
+pub fn is_heavy(f: Figures) -> bool
+    ensures { λ r. ⌜ r ≡ isHeavy f ⌝ }
+{
+    f.deadline < f.overload.work
+}
