@@ -113,3 +113,22 @@ taskSetOf s =
 -- A task set of zeros: what a refused reading gives.
 unfoldable pub zeroTaskSet : TaskSet
 zeroTaskSet = record { processors = 0; count = 0; tasks = replicate 16 zeroTask }
+
+-- What stands for a task where a list has none.
+abbrev pub missingTask : Task
+missingTask =
+    record {
+      level = 0;
+      nodes = 0;
+      figures =
+          record {
+            deadline = 0;
+            nominal = record { work = 0; span = 0 };
+            overload = record { work = 0; span = 0 };
+          };
+      predecessors = [];
+    }
+
+-- Task i of a task set.
+unfoldable pub taskIn : TaskSet → ℕ → Task
+taskIn set i = getD (set .tasks) i missingTask
