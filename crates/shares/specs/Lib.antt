@@ -1,1 +1,7 @@
 pub mod Test
+pub mod Low
+pub mod Search
+pub mod Row
+pub mod Deadline
+pub mod Cases
+pub mod Terms

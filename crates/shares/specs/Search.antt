@@ -1,0 +1,26 @@
+-- The search for a high task's least critical share.
+use Prim.Native.Nat.{ℕ, zero, suc, _+_, _-_}
+use mathlib.Core.Bool.{Bool, cond}
+use lib.Dec.{leb}
+use Rattle.sheet.specs.declared.task.Figures.{Figures}
+use Rattle.shares.specs.declared.search.Found.{Found}
+use Rattle.shares.specs.declared.search.Found.the-variants.{At, Nothing}
+use Rattle.shares.specs.Test.{passes}
+
+-- The first of the n numbers from k on that passes a test, or `none`.
+unfoldable pub first : (ℕ → Bool) → ℕ → ℕ → ℕ → ℕ
+first test none k zero = none
+first test none k (suc n) = cond (test k) k (first test none (suc k) n)
+
+-- 01, Shares: for typical share a, the first critical share b from a up to M that passes; M + 1 if none does.
+unfoldable pub leastCritical : ℕ → Figures → ℕ → ℕ
+leastCritical M f a = first (passes f a) (M + 1) a (M + 1 - a)
+
+-- The answer that says a number: a share within M, or none.
+unfoldable pub answerOf : ℕ → ℕ → Found
+answerOf M b = cond (leb b M) (At b) Nothing
+
+-- The number that an answer says: the share found, or M + 1 for none.
+unfoldable pub numberOf : ℕ → Found → ℕ
+numberOf M (At b) = b
+numberOf M Nothing = M + 1

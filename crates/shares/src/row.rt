@@ -1,0 +1,51 @@
+// The row of a task: the least critical share at each typical share 1 to 64, in cells 0 to 63; m + 1 for none.
+use crate::low::low_share;
+use crate::search::Found;
+use crate::search::least_critical;
+use crate::search::number_of;
+use sheet::task::Figures;
+use sheet::task::Task;
+ghost use mathlib.Core.Path.{_≡_};
+ghost use Prim.Native.Nat.{_≤_};
+ghost use Rattle.shares.specs.Search.{leastCritical};
+ghost use Rattle.shares.specs.Row.{lowCritical, tabulate, rowOf};
+
+// A low task's row. A share of 0, which no heavy task has, has no cell.
+fn low_row(f: Figures, m: u8) -> [u8; 64]
+    requires { ⌜ m ≤ 64 ⌝ }
+    ensures { λ r. ⌜ r ≡ tabulate (lowCritical m f) 1 64 ⌝ }
+{
+    let mut row = [m + 1; 64];
+    let found = low_share(f, m);
+    if let Found::At(share) = found {
+        if 0 < share {
+            row[share as usize - 1] = 0;
+        }
+    }
+    row
+}
+
+// A high task's row.
+fn high_row(f: Figures, m: u8) -> [u8; 64]
+    requires { ⌜ m ≤ 64 ⌝ }
+    ensures { λ r. ⌜ r ≡ tabulate (leastCritical m f) 1 64 ⌝ }
+{
+    let mut row = [0u8; 64];
+    for i in 0..64usize {
+        row[i] = number_of(least_critical(f, m, i as u8 + 1), m);
+    }
+    row
+}
+
+// The row of a task of either level.
+pub fn row(t: Task, m: u8) -> [u8; 64]
+    requires { ⌜ m ≤ 64 ⌝ }
+    ensures { λ r. ⌜ r ≡ rowOf m t ⌝ }
+{
+    let f = t.figures;
+    if t.level == 0 {
+        low_row(f, m)
+    } else {
+        high_row(f, m)
+    }
+}

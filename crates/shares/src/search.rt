@@ -1,0 +1,42 @@
+// The search for a high task's least critical share.
+use crate::test::meets;
+use crate::test::terms_of;
+use sheet::task::Figures;
+ghost use mathlib.Core.Path.{_≡_};
+ghost use Prim.Native.Nat.{_≤_};
+ghost use Rattle.shares.specs.Search.{leastCritical, answerOf, numberOf};
+
+// What a search for a share finds: a share, or none.
+pub enum Found {
+    At(u8),
+    Nothing,
+}
+
+// The least critical share from a up to m that passes at typical share a.
+pub fn least_critical(f: Figures, m: u8, a: u8) -> Found
+    requires { ⌜ m ≤ 64 ⌝ }
+    ensures { λ r. ⌜ r ≡ answerOf m (leastCritical m f a) ⌝ }
+{
+    let t = terms_of(f, a);
+    let mut b = a;
+    loop {
+        if m < b {
+            break Found::Nothing;
+        }
+        if meets(t, a, b) {
+            break Found::At(b);
+        }
+        b += 1;
+    }
+}
+
+// The number that stands for an answer in a row: m + 1 for none.
+pub fn number_of(r: Found, m: u8) -> u8
+    requires { ⌜ m ≤ 64 ⌝ }
+    ensures { λ n. ⌜ n ≡ numberOf m r ⌝ }
+{
+    match r {
+        Found::At(b) => b,
+        Found::Nothing => m + 1,
+    }
+}
