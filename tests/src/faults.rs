@@ -1,0 +1,309 @@
+//! Faulty sheets, each with the answer that document 01 gives it. A fault is put into a draft whose other parts hold,
+//! so that one row alone has cause to refuse it.
+use crate::proved::{Answer, NODES};
+use crate::random::Random;
+use crate::sheets::{pair, Draft, LIMIT};
+
+/// A sheet, and the answer that it must get.
+pub struct Faulty {
+    pub sheet: Vec<u8>,
+    pub answer: Answer,
+}
+
+/// A family of faults of one record: all records that come of one fault in it, at least one.
+pub type Family = fn(&[u8], &mut Random) -> Vec<Vec<u8>>;
+
+/// The families by their row, in the order of the rows. Each leaves the rows before it unbroken in a record that kept
+/// them, and each but the first leaves a record of the right length.
+pub const FAMILIES: [(u8, Family); 4] = [(3, shapes), (4, figures), (5, masks), (6, not_heavy)];
+
+/// Every single fault of a record, with its row.
+pub fn of_record(record: &[u8], random: &mut Random) -> Vec<(u8, Vec<u8>)> {
+    let mut all = Vec::new();
+    for (row, family) in FAMILIES {
+        all.extend(family(record, random).into_iter().map(|faulty| (row, faulty)));
+    }
+    all
+}
+
+/// A single fault of a record, with its row; the rows are equally likely.
+pub fn one_of_record(record: &[u8], random: &mut Random) -> (u8, Vec<u8>) {
+    let (row, family) = *random.pick(&FAMILIES);
+    let faulty = family(record, random);
+    (row, random.pick(&faulty).clone())
+}
+
+/// Records with two faults, of two rows, with the row that comes first.
+pub fn twice_of_record(record: &[u8], random: &mut Random) -> Vec<(u8, Vec<u8>)> {
+    let mut all = Vec::new();
+    for (i, (row, first)) in FAMILIES.into_iter().enumerate() {
+        for (_, second) in FAMILIES.into_iter().skip(i + 1) {
+            let faulty = second(record, random);
+            let base = random.pick(&faulty);
+            all.extend(first(base, random).into_iter().map(|twice| (row, twice)));
+        }
+    }
+    all
+}
+
+/// Row 1: M or n out of range, and the sheet cut within its directory.
+pub fn of_header(draft: &Draft) -> Vec<Faulty> {
+    let sheet = draft.bytes();
+    let edits = [(0, 0), (0, 65), (0, 128), (0, 255), (1, 0), (1, 17), (1, 128), (1, 255)];
+    let out_of_range = edits.into_iter().map(|(at, value)| {
+        let mut sheet = sheet.clone();
+        sheet[at] = value;
+        sheet
+    });
+    let cut = (0..2 + 4 * draft.records.len()).map(|length| sheet[..length].to_vec());
+    out_of_range.chain(cut).map(|sheet| Faulty { sheet, answer: (1, 255) }).collect()
+}
+
+/// Row 2: each pair out of place, and the last end before or past the sheet's. The draft's records are not empty.
+pub fn of_directory(draft: &Draft, random: &mut Random) -> Vec<Faulty> {
+    let count = draft.records.len();
+    let last = count - 1;
+    let sheet = draft.bytes();
+    let places = draft.places();
+    let mut all = Vec::new();
+    let mut add = |sheet: Vec<u8>, task: usize| all.push(Faulty { sheet, answer: (2, task as u8) });
+    let with_pair = |task, offset, length| {
+        let mut sheet = sheet.clone();
+        set_pair(&mut sheet, task, offset, length);
+        sheet
+    };
+    for task in 0..count {
+        let (place, length) = (places[task], draft.records[task].len());
+        let elsewhere = place + random.within(1..=65_535);
+        for offset in [place - 1, place + 1, place ^ 256, 0, 65_535, elsewhere] {
+            add(with_pair(task, offset, length), task);
+        }
+        let other = length + random.within(1..=65_535);
+        for wrong in [length - 1, length + 1, length ^ 256, 0, 65_535, other] {
+            add(with_pair(task, place, wrong), last.min(task + 1));
+        }
+        add(with_gap(draft, task), task);
+        for shift in [65_535, 1, random.within(1..=65_535)] {
+            add(with_shift(draft, task, shift), first_wrapped(&places, task, shift).unwrap_or(last));
+        }
+        if task < last {
+            let mut swapped = with_pair(task, places[task + 1], draft.records[task + 1].len());
+            set_pair(&mut swapped, task + 1, place, length);
+            add(swapped, task);
+        }
+    }
+    for more in [1, 2, 4, random.within(1..=5_000), 65_536, 131_072] {
+        add(sheet.iter().copied().chain(random.bytes(more)).collect(), last);
+    }
+    all
+}
+
+/// The draft's sheet with a byte between a record and what stands before it, which the directory knows of.
+fn with_gap(draft: &Draft, task: usize) -> Vec<u8> {
+    let place = draft.places()[task];
+    let mut sheet = with_shift_of_offsets(draft, task, 1);
+    sheet.insert(place, 0);
+    sheet
+}
+
+/// The draft's sheet with a task's length changed and all later offsets with it, modulo 65,536.
+fn with_shift(draft: &Draft, task: usize, shift: usize) -> Vec<u8> {
+    let mut sheet = with_shift_of_offsets(draft, task + 1, shift);
+    set_pair(&mut sheet, task, draft.places()[task], draft.records[task].len() + shift);
+    sheet
+}
+
+fn with_shift_of_offsets(draft: &Draft, from: usize, shift: usize) -> Vec<u8> {
+    let mut sheet = draft.bytes();
+    for task in from..draft.records.len() {
+        set_pair(&mut sheet, task, draft.places()[task] + shift, draft.records[task].len());
+    }
+    sheet
+}
+
+fn set_pair(sheet: &mut [u8], task: usize, offset: usize, length: usize) {
+    sheet[2 + 4 * task..][..4].copy_from_slice(&pair(offset, length));
+}
+
+/// The first later task that `with_shift` puts out of place: its offset and the end before it differ, since one of them
+/// wraps and the other does not.
+fn first_wrapped(places: &[usize], task: usize, shift: usize) -> Option<usize> {
+    let length = places[task + 1] - places[task] + shift;
+    let end = places[task] + length % 65_536;
+    (task + 1..places.len() - 1).find(|&later| {
+        let stands = (places[later] + shift) % 65_536;
+        stands != end + places[later] - places[task + 1]
+    })
+}
+
+/// Row 3: level, k or the record's length wrong.
+fn shapes(record: &[u8], random: &mut Random) -> Vec<Vec<u8>> {
+    let k = record[1];
+    let mut all = Vec::new();
+    for level in [2, 3, 16, 17, 128, 255] {
+        all.push(with_byte(record, 0, level));
+    }
+    for wrong in [0, 33, 64, 255, k - 1, k + 1] {
+        all.push(with_byte(record, 1, wrong));
+    }
+    for length in [0, 1, 2, 11, 12, record.len() - 4, record.len() - 2, record.len() - 1] {
+        all.push(record[..length].to_vec());
+    }
+    for more in [1, 2, 4, 128, random.within(1..=1_000)] {
+        all.push(record.iter().copied().chain(random.bytes(more)).collect());
+    }
+    let of_no_node = with_byte(&record[..12], 1, 0);
+    let masks = record[12..].iter().copied().cycle().take(4 * (NODES + 1));
+    let of_33_nodes = with_byte(&record[..12], 1, 33).into_iter().chain(masks).collect();
+    all.extend([of_no_node, of_33_nodes]);
+    all
+}
+
+/// Row 4: each figure out of its range, and each rule broken, alone where the other rules allow it.
+fn figures(record: &[u8], random: &mut Random) -> Vec<Vec<u8>> {
+    let [cn, co, ln] = [CN, CO, LN].map(|place| figure(record, place));
+    let mut all = Vec::new();
+    let mut add = |edits: &[(usize, usize)]| all.push(with_figures(record, edits));
+    for place in [D, CN, CO, LN, LO] {
+        for value in [0, LIMIT + 1, 65_535, random.within(LIMIT + 1..=65_535)] {
+            add(&[(place, value)]);
+        }
+    }
+    let past = LIMIT + 1;
+    for edits in [
+        [(CN, 0), (LN, 0), (CO, co), (LO, co)],
+        [(CN, cn), (LN, 0), (CO, co), (LO, 0)],
+        [(CN, 0), (LN, 0), (CO, 0), (LO, 0)],
+        [(CN, past), (LN, ln), (CO, past), (LO, ln)],
+        [(CN, cn), (LN, cn), (CO, past), (LO, past)],
+        [(CN, past), (LN, past), (CO, past), (LO, past)],
+    ] {
+        add(&edits);
+    }
+    let rules: &[fn(usize, &mut Random) -> Four] = if record[0] == 0 { &OF_LOW } else { &OF_HIGH };
+    for rule in rules {
+        for _ in 0..3 {
+            let Four { cn, ln, co, lo } = rule(co, random);
+            add(&[(CN, cn), (LN, ln), (CO, co), (LO, lo)]);
+        }
+    }
+    all
+}
+
+/// The figures that the rules relate.
+struct Four {
+    cn: usize,
+    ln: usize,
+    co: usize,
+    lo: usize,
+}
+
+/// Breaks of a high task's rules, given a lawful CO above 1.
+const OF_HIGH: [fn(usize, &mut Random) -> Four; 6] = [
+    // LN > CN alone.
+    |co, random| {
+        let cn = random.skewed(1..=co - 1);
+        let ln = random.skewed(cn + 1..=co);
+        Four { cn, ln, co, lo: random.skewed(ln..=co) }
+    },
+    // LO > CO, with LN > CN.
+    |co, random| {
+        let co = co.min(LIMIT - 1);
+        let cn = random.skewed(1..=co);
+        Four { cn, ln: cn + 1, co, lo: co + 1 }
+    },
+    // LO > CO, with CO − CN < LO − LN.
+    |co, random| {
+        let co = co.min(LIMIT - 1);
+        let cn = random.skewed(1..=co);
+        Four { cn, ln: random.skewed(1..=cn), co, lo: random.skewed(co + 1..=LIMIT) }
+    },
+    // CN > CO, with LN = LO.
+    |co, random| {
+        let co = co.min(LIMIT - 1);
+        let ln = random.skewed(1..=co);
+        Four { cn: random.skewed(co + 1..=LIMIT), ln, co, lo: ln }
+    },
+    // LN > LO alone.
+    |co, random| {
+        let cn = random.skewed(2..=co);
+        let ln = random.skewed(2..=cn);
+        Four { cn, ln, co, lo: random.skewed(1..=ln - 1) }
+    },
+    // CO − CN < LO − LN alone.
+    |co, random| {
+        let cn = random.skewed(2..=co);
+        let ln = random.skewed(1..=cn - 1);
+        Four { cn, ln, co, lo: ln + (co - cn) + random.skewed(1..=cn - ln) }
+    },
+];
+
+/// Breaks of a low task's rules, given a lawful CO above 1.
+const OF_LOW: [fn(usize, &mut Random) -> Four; 4] = [
+    // L > C.
+    |co, random| {
+        let co = co.min(LIMIT - 1);
+        let lo = random.skewed(co + 1..=LIMIT);
+        Four { cn: co, ln: lo, co, lo }
+    },
+    // CN ≠ CO alone.
+    |co, random| {
+        let cn = random.skewed(1..=co - 1);
+        let ln = random.skewed(1..=cn);
+        Four { cn, ln, co, lo: ln }
+    },
+    // CN ≠ CO and LN ≠ LO, as a high task may have them.
+    |co, random| {
+        let cn = random.skewed(1..=co - 1);
+        let ln = random.skewed(1..=cn);
+        Four { cn, ln, co, lo: ln + random.skewed(1..=co - cn) }
+    },
+    // LN ≠ LO.
+    |co, random| {
+        let ln = random.skewed(1..=co - 1);
+        Four { cn: co, ln, co, lo: random.skewed(ln + 1..=co) }
+    },
+];
+
+/// Row 5: each node's mask with its own bit, or a higher one.
+fn masks(record: &[u8], random: &mut Random) -> Vec<Vec<u8>> {
+    let mut all = Vec::new();
+    for v in 0..(record.len() - 12) / 4 {
+        for bit in [v, random.within(v..=NODES - 1), NODES - 1] {
+            let at = 12 + 4 * v + bit / 8;
+            all.push(with_byte(record, at, record[at] | 1 << (bit % 8)));
+        }
+    }
+    all
+}
+
+/// Row 6: D at CO, and above it where there is room.
+fn not_heavy(record: &[u8], random: &mut Random) -> Vec<Vec<u8>> {
+    let co = figure(record, CO);
+    [co, random.skewed(co..=LIMIT), LIMIT].map(|d| with_figures(record, &[(D, d)])).to_vec()
+}
+
+// Where the figures stand in a record.
+const D: usize = 2;
+const CN: usize = 4;
+const CO: usize = 6;
+const LN: usize = 8;
+const LO: usize = 10;
+
+fn figure(record: &[u8], place: usize) -> usize {
+    u16::from_le_bytes([record[place], record[place + 1]]).into()
+}
+
+fn with_figures(record: &[u8], edits: &[(usize, usize)]) -> Vec<u8> {
+    let mut record = record.to_vec();
+    for &(place, value) in edits {
+        record[place..][..2].copy_from_slice(&(value as u16).to_le_bytes());
+    }
+    record
+}
+
+fn with_byte(bytes: &[u8], at: usize, value: u8) -> Vec<u8> {
+    let mut bytes = bytes.to_vec();
+    bytes[at] = value;
+    bytes
+}

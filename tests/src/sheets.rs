@@ -1,0 +1,198 @@
+//! Makers of sheets: random valid ones, and bytes that look more or less like a sheet.
+use crate::proved::{NODES, TASKS};
+use crate::random::Random;
+use crate::reader::{Figures, Level, Sheet, Task};
+
+/// The largest figure, and the most processors.
+pub const LIMIT: usize = 10_000;
+pub const PROCESSORS: usize = 64;
+
+/// The sheet of document 01's case 14: A, B, E, M 8.
+#[rustfmt::skip]
+pub const CASE_14: [u8; 62] = [
+    8, 3, 14, 0, 16, 0, 30, 0, 16, 0, 46, 0, 16, 0,
+    1, 1, 45, 0, 9, 0, 52, 0, 4, 0, 20, 0, 0, 0, 0, 0,
+    1, 1, 54, 0, 11, 0, 80, 0, 4, 0, 42, 0, 0, 0, 0, 0,
+    0, 1, 18, 0, 66, 0, 66, 0, 6, 0, 6, 0, 0, 0, 0, 0,
+];
+
+/// A sheet before its directory is written: M, and each task's record, right or wrong.
+#[derive(Clone, Debug)]
+pub struct Draft {
+    pub processors: u8,
+    pub records: Vec<Vec<u8>>,
+}
+
+impl Draft {
+    pub fn of(sheet: &Sheet) -> Draft {
+        Draft { processors: sheet.processors, records: sheet.tasks.iter().map(record).collect() }
+    }
+
+    /// Where each record starts, and at last where the sheet ends.
+    pub fn places(&self) -> Vec<usize> {
+        let first = 2 + 4 * self.records.len();
+        let ends = self.records.iter().scan(first, |end, record| {
+            *end += record.len();
+            Some(*end)
+        });
+        std::iter::once(first).chain(ends).collect()
+    }
+
+    /// The sheet, with a directory that has every record in place.
+    pub fn bytes(&self) -> Vec<u8> {
+        let directory =
+            self.places().into_iter().zip(&self.records).flat_map(|(place, record)| pair(place, record.len()));
+        [self.processors, self.records.len() as u8]
+            .into_iter()
+            .chain(directory)
+            .chain(self.records.iter().flatten().copied())
+            .collect()
+    }
+
+    /// The sheet with one record replaced.
+    pub fn with_record(&self, task: usize, record: Vec<u8>) -> Draft {
+        let mut draft = self.clone();
+        draft.records[task] = record;
+        draft
+    }
+}
+
+/// The bytes of a directory's pair, each number modulo 65,536.
+pub fn pair(offset: usize, length: usize) -> [u8; 4] {
+    let ([a, b], [c, d]) = ((offset as u16).to_le_bytes(), (length as u16).to_le_bytes());
+    [a, b, c, d]
+}
+
+fn record(task: &Task) -> Vec<u8> {
+    let Figures { d, cn, co, ln, lo } = task.figures;
+    [(task.level == Level::High) as u8, task.masks.len() as u8]
+        .into_iter()
+        .chain([d, cn, co, ln, lo].into_iter().flat_map(u16::to_le_bytes))
+        .chain(task.masks.iter().flat_map(|mask| mask.to_le_bytes()))
+        .collect()
+}
+
+/// A random valid sheet; the ends of each range are likely.
+pub fn valid(random: &mut Random) -> Sheet {
+    let processors = random.skewed(1..=PROCESSORS) as u8;
+    let count = random.skewed(1..=TASKS);
+    Sheet { processors, tasks: (0..count).map(|_| valid_task(random)).collect() }
+}
+
+/// A random valid sheet of so many tasks, with few nodes each.
+pub fn small(random: &mut Random, count: usize) -> Sheet {
+    let mut sheet = Sheet { processors: random.within(1..=PROCESSORS) as u8, tasks: Vec::new() };
+    for _ in 0..count {
+        let mut task = valid_task(random);
+        task.masks.truncate(random.within(1..=4));
+        sheet.tasks.push(task);
+    }
+    sheet
+}
+
+fn valid_task(random: &mut Random) -> Task {
+    let level = *random.pick(&[Level::Low, Level::High, Level::High]);
+    let figures = valid_figures(random, level);
+    let nodes = random.skewed(1..=NODES);
+    let masks = (0..nodes).map(|v| {
+        let below = (1 << v) - 1;
+        let some = random.word() as u32 & below;
+        *random.pick(&[0, below, some])
+    });
+    Task { level, figures, masks: masks.collect() }
+}
+
+/// Figures that keep every rule of a level. `LO ≤ CO` follows from `LN ≤ CN` and `CO − CN ≥ LO − LN`.
+fn valid_figures(random: &mut Random, level: Level) -> Figures {
+    let co = random.skewed(2..=LIMIT);
+    let d = random.skewed(1..=co - 1);
+    let cn = if level == Level::High { random.skewed(1..=co) } else { co };
+    let ln = random.skewed(1..=cn);
+    let lo = ln + random.skewed(0..=co - cn);
+    let [d, cn, co, ln, lo] = [d, cn, co, ln, lo].map(|figure| figure as u16);
+    Figures { d, cn, co, ln, lo }
+}
+
+/// Bytes with a header and a directory that mostly hold, and records that are random but near the rules.
+pub fn plausible(random: &mut Random) -> Vec<u8> {
+    let processors = if random.once_in(40) { random.word() as u8 } else { random.within(1..=PROCESSORS) as u8 };
+    let count = random.skewed(1..=TASKS);
+    let draft = Draft { processors, records: (0..count).map(|_| plausible_record(random)).collect() };
+    let mut sheet = draft.bytes();
+    if random.once_in(10) {
+        let at = random.within(1..=1 + 4 * count);
+        sheet[at] = random.word() as u8;
+    }
+    sheet
+}
+
+fn plausible_record(random: &mut Random) -> Vec<u8> {
+    let mut record = record(&valid_task(random));
+    let few = random.within(3..=12);
+    for figure in 0..5 {
+        let value = match random.within(0..=9) {
+            0 => random.within(0..=few),
+            1 => random.within(LIMIT - few..=LIMIT + few),
+            _ => continue,
+        };
+        record[2 + 2 * figure..][..2].copy_from_slice(&(value as u16).to_le_bytes());
+    }
+    if random.once_in(6) {
+        let at = random.within(12..=record.len() - 1);
+        record[at] |= 1 << random.within(0..=7);
+    }
+    if random.once_in(10) {
+        let at = random.within(0..=1);
+        record[at] = random.skewed(0..=34) as u8;
+    }
+    if random.once_in(20) {
+        record.truncate(random.within(0..=record.len()));
+    }
+    record
+}
+
+#[cfg(test)]
+mod tests {
+    use super::*;
+    use crate::reader::read;
+
+    #[test]
+    fn the_reader_gives_back_what_was_drafted() {
+        let mut random = Random::of_test("drafts");
+        for _ in 0..2_000 {
+            let sheet = valid(&mut random);
+            assert_eq!(read(&Draft::of(&sheet).bytes()), Ok(sheet));
+        }
+    }
+
+    #[test]
+    fn case_14_is_laid_out_again() {
+        assert_eq!(Draft::of(&read(&CASE_14).unwrap()).bytes(), CASE_14);
+    }
+
+    #[test]
+    fn the_makers_reach_the_limits() {
+        let mut random = Random::of_test("limits");
+        let sheets: Vec<Sheet> = (0..2_000).map(|_| valid(&mut random)).collect();
+        let tasks = || sheets.iter().flat_map(|sheet| &sheet.tasks);
+        let often = |count: usize| assert!(count >= 50, "{count}");
+        for end in [1, PROCESSORS] {
+            often(sheets.iter().filter(|sheet| usize::from(sheet.processors) == end).count());
+        }
+        for end in [1, TASKS] {
+            often(sheets.iter().filter(|sheet| sheet.tasks.len() == end).count());
+        }
+        for end in [1, NODES] {
+            often(tasks().filter(|task| task.masks.len() == end).count());
+        }
+        for level in [Level::Low, Level::High] {
+            let figures = || tasks().filter(|task| task.level == level).map(|task| task.figures);
+            often(figures().filter(|f| usize::from(f.lo) == LIMIT).count());
+            often(figures().filter(|f| f.d == 1).count());
+            often(figures().filter(|f| f.ln == 1).count());
+            often(figures().filter(|f| f.d + 1 == f.co).count());
+            often(figures().filter(|f| f.co - f.cn == f.lo - f.ln).count());
+        }
+        often(tasks().filter(|task| task.figures.cn == 1).count());
+    }
+}
