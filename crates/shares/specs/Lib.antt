@@ -5,3 +5,4 @@ pub mod Row
 pub mod Deadline
 pub mod Cases
 pub mod Terms
+pub mod Totals

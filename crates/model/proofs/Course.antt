@@ -1,0 +1,245 @@
+-- A job over a list of calls: true reports carried from call to call, one call of an alive job, and a job that has ended.
+use Prim.Native.Nat.{ℕ, _+_, _≤_, _<_}
+use mathlib.Core.Path.{_≡_, refl, sym, ap, subst, subst₃, fun-ext, _∙_}
+use mathlib.Core.Bool.{Bool, true, false, cond, _&&_, _||_, true≢false, and-true}
+use mathlib.Core.List.{List, [], _∷_, _++_}
+use mathlib.Core.Logic.{_⊎_, inl, inr}
+use native.Mathlib.Nat.{add-zero, zero-add}
+use native.Mathlib.Omega.{arith}
+use lib.Bits.{bitOr}
+use lib.Dec.{eqb}
+use lib.ListN.{length, getD}
+use Rattle.nodes.specs.Sets.{has, bit}
+use Rattle.nodes.proofs.Bits.{has-or}
+use Rattle.model.specs.Row.{Row, isHigh, runningSet, joined, tickedRow, isLate, switchedRow}
+use Rattle.model.specs.Step.{Model, Call, tick, rowAt}
+use Rattle.model.specs.Run.{after, isAccepted, isTick, isReleaseOf, releasesIn, isRunning, runsOn, runsIn, TrueReports}
+use Rattle.model.proofs.Nodes.{all-ended-at, all-ended-intro}
+use Rattle.model.proofs.Steps.{next, Turn, same, begins, ticks, TickAt, Settled, stays-critical, stays-typical, turns, turn, release-of}
+use Rattle.model.proofs.Lasting.{length-step, kept-by-call}
+use Rattle.model.proofs.Job.{Live, Over, AfterTick, goes-on, ends, live-tick}
+
+-- The reports of task i are true over the calls, where each node v ran on c v ticks before them.
+unfoldable pub TrueFrom : ℕ → (ℕ → ℕ) → (ℕ → ℕ) → Model → List Call → Type 0
+TrueFrom i len c m calls =
+    (before : List Call) (reports : List ℕ) (rest : List Call) →
+    calls ≡ before ++ tick reports ∷ rest →
+    releasesIn i m before ≡ 0 →
+    isAccepted (after m before) (tick reports) ≡ true →
+    (v : ℕ) → has (getD reports i 0) v ≡ (isRunning i v (after m before) && eqb (c v + runsIn i v m before + 1) (len v))
+
+pub true-from-start : (i : ℕ) (len : ℕ → ℕ) (m : Model) (calls : List Call) → TrueReports i len m calls →
+    TrueFrom i len (λ _. 0) m calls
+unfolding TrueReports TrueFrom
+true-from-start i len m calls h before reports rest e z a v =
+    h before reports rest e z a v
+    ∙ ap (λ (n : ℕ). isRunning i v (after m before) && eqb (n + 1) (len v)) (sym (zero-add (runsIn i v m before)))
+
+-- What each node has run after one more call.
+abbrev pub ranAfter : ℕ → Model → Call → (ℕ → ℕ) → ℕ → ℕ
+ranAfter i m x c v = c v + cond (runsOn i v m x) 1 0
+
+pub true-from-next : (i : ℕ) (len c : ℕ → ℕ) (m : Model) (x : Call) (calls : List Call) → isReleaseOf i m x ≡ false →
+    TrueFrom i len c m (x ∷ calls) → TrueFrom i len (ranAfter i m x c) (next m x) calls
+unfolding TrueFrom
+true-from-next i len c m x calls none h before reports rest e z a v =
+    h (x ∷ before) reports rest (ap (λ (l : List Call). x ∷ l) e)
+    (ap (λ (t : Bool). cond t 1 0 + releasesIn i (next m x) before) none ∙ omega (arith, z)) a v
+    ∙ ap (λ (n : ℕ). isRunning i v (after (next m x) before) && eqb n (len v))
+    (grouped (c v) (cond (runsOn i v m x) 1 0) (runsIn i v (next m x) before))
+  where
+    grouped : (a b d : ℕ) → a + (b + d) + 1 ≡ a + b + d + 1
+    grouped a b d = omega arith
+
+-- A count of calls that is 0 has none of its calls, neither the first nor among the rest.
+pub count-zero : (t : Bool) (n : ℕ) → cond t 1 0 + n ≡ 0 → (t ≡ false) × (n ≡ 0)
+count-zero true n e = absurd (omega arith)
+count-zero false n e = (refl, omega arith)
+
+-- The switch leaves a high task's row.
+pub high-switched : (r : Row) → isHigh (r .fixed) ≡ true → switchedRow r ≡ r
+unfolding switchedRow
+high-switched r h =
+    ap (λ (b : Bool). record { fixed = r .fixed; job = record { age = r .job .age; ended = r .job .ended; alive = b } })
+    (ap (λ (t : Bool). r .job .alive && t) h ∙ and-true (r .job .alive))
+
+-- A high task's row, and every row while the state stays typical, is after an accepted tick what its part of the tick makes of it;
+-- and where the state is typical after the tick, it was so before and no job is late.
+pub record PlainTick (m : Model) (i : ℕ) (reports : List ℕ) : Type 0 where
+  pub row : rowAt (next m (tick reports)) i ≡ tickedRow (rowAt m i) (getD reports i 0)
+  pub calm : next m (tick reports) .critical ≡ false →
+      (m .critical ≡ false) × (isLate (rowAt (next m (tick reports)) i) ≡ false)
+
+high-ticked : (r : Row) (report : ℕ) → isHigh (r .fixed) ≡ true → isHigh (tickedRow r report .fixed) ≡ true
+unfolding tickedRow
+high-ticked r report h = h
+
+pub plain-tick : (m : Model) (i : ℕ) (reports : List ℕ) → TickAt m i reports →
+    (isHigh (rowAt m i .fixed) ≡ true) ⊎ (next m (tick reports) .critical ≡ false) → PlainTick m i reports
+plain-tick m i reports at why = go why (at .settled)
+  where
+    go : (isHigh (rowAt m i .fixed) ≡ true) ⊎ (next m (tick reports) .critical ≡ false) →
+        Settled m (next m (tick reports)) i (tickedRow (rowAt m i) (getD reports i 0)) → PlainTick m i reports
+    go w (stays-critical b n e) = record { row = e; calm = λ f. absurd (true≢false (sym n ∙ f)) }
+    go w (stays-typical b n e l) = record { row = e; calm = λ f. (b, ap isLate e ∙ l) }
+    go (inl h) (turns b n e) =
+        record {
+          row = e ∙ high-switched (tickedRow (rowAt m i) (getD reports i 0)) (high-ticked (rowAt m i) (getD reports i 0) h);
+          calm = λ f. absurd (true≢false (sym n ∙ f));
+        }
+    go (inr h) (turns b n e) = absurd (true≢false (sym n ∙ h))
+
+false-and : (x y : Bool) → x ≡ false → (x && y) ≡ false
+false-and x y e = ap (λ (t : Bool). t && y) e
+
+-- A job that has ended stays so until the next Release of its task.
+over-ticked : (r : Row) (report : ℕ) → Over r → Over (tickedRow r report)
+unfolding tickedRow joined
+over-ticked r report o =
+    record {
+      nodes =
+          all-ended-intro (r .fixed .nodes) (bitOr (r .job .ended) report)
+          (λ v l. has-or (r .job .ended) report v
+          ∙ ap (λ (t : Bool). t || has report v) (all-ended-at (r .fixed .nodes) (r .job .ended) v (o .nodes) l));
+      gone = false-and (r .job .alive) _ (o .gone);
+    }
+
+over-switched : (r : Row) → Over r → Over (switchedRow r)
+unfolding switchedRow
+over-switched r o = record { nodes = o .nodes; gone = false-and (r .job .alive) _ (o .gone) }
+
+over-step : (m : Model) (x : Call) (i : ℕ) → i < length (m .rows) → isReleaseOf i m x ≡ false → Over (rowAt m i) →
+    Over (rowAt (next m x) i)
+over-step m x i h none o =
+    kept-by-call Over (λ r critical report named. over-ticked r report) over-switched m x i h (λ e. absurd (true≢false (sym e ∙ none))) o
+
+-- A job that is not alive stays so until the next Release of its task.
+abbrev Dead : Row → Type 0
+Dead r = r .job .alive ≡ false
+
+dead-ticked : (r : Row) (report : ℕ) → Dead r → Dead (tickedRow r report)
+unfolding tickedRow
+dead-ticked r report e = false-and (r .job .alive) _ e
+
+dead-switched : (r : Row) → Dead r → Dead (switchedRow r)
+unfolding switchedRow
+dead-switched r e = false-and (r .job .alive) _ e
+
+pub dead-step : (m : Model) (x : Call) (i : ℕ) → i < length (m .rows) → isReleaseOf i m x ≡ false →
+    rowAt m i .job .alive ≡ false → rowAt (next m x) i .job .alive ≡ false
+dead-step m x i h none e =
+    kept-by-call Dead (λ r critical report named. dead-ticked r report) dead-switched m x i h (λ t. absurd (true≢false (sym t ∙ none))) e
+
+pub over-after : (m : Model) (calls : List Call) (i : ℕ) → i < length (m .rows) → releasesIn i m calls ≡ 0 → Over (rowAt m i) →
+    Over (rowAt (after m calls) i)
+over-after m [] i h none o = o
+over-after m (x ∷ calls) i h none o =
+    let z = count-zero (isReleaseOf i m x) (releasesIn i (next m x) calls) none in
+    over-after (next m x) calls i (rw (length-step m x) h) (z .1) (over-step m x i h (z .0) o)
+
+-- The same job seen in another mode, where typical follows from typical.
+abbrev in-mode : {len : ℕ → ℕ} {work span : ℕ} {r : Row} {critical : Bool} {c : ℕ → ℕ} {n : ℕ} (critical′ : Bool) →
+    (critical′ ≡ false → critical ≡ false) → Live len work span r critical c n → Live len work span r critical′ c n
+in-mode critical′ typical l =
+    record {
+      alive = l .alive;
+      sound = l .sound;
+      downwards = l .downwards;
+      keeps = l .keeps;
+      full₁ = l .full₁;
+      full₂ = l .full₂;
+      partial = l .partial;
+      ticks = l .ticks;
+      typical = λ h. l .typical (typical h);
+      age = l .age;
+      done = l .done;
+      progress = l .progress;
+    }
+
+-- What a call that is no Release of its task makes of an alive job: it is no accepted tick and nothing happens, or a tick runs,
+-- or the job ends with it.
+module _ {len : ℕ → ℕ} {work span : ℕ} {r : Row} {critical : Bool} {c : ℕ → ℕ} {n : ℕ}
+    (live : Live len work span r critical c n) where
+  pub data Moved (worked : Bool) (r′ : Row) (critical′ : Bool) (d : ℕ → ℕ) : Type 0 where
+    rests : worked ≡ false → critical′ ≡ critical → (l : Live len work span r′ critical′ d n) → l .full₁ ≡ live .full₁ →
+        Moved worked r′ critical′ d
+    works : worked ≡ true → (l : Live len work span r′ critical′ d (n + 1)) → l .full₁ ≤ live .full₁ + 1 →
+        (critical ≡ true → l .full₁ ≡ live .full₁) →
+        (critical′ ≡ false → (critical ≡ false) × (isLate r′ ≡ false)) →
+        Moved worked r′ critical′ d
+    ended : Over r′ → Moved worked r′ critical′ d
+
+module _ {len : ℕ → ℕ} {work span : ℕ} (i : ℕ) (m : Model) {c : ℕ → ℕ} {n : ℕ}
+    (live : Live len work span (rowAt m i) (m .critical) c n) where
+  idle-step : (x : Call) → isTick m x ≡ false → next m x .critical ≡ m .critical → rowAt (next m x) i ≡ rowAt m i →
+      Moved live (isTick m x) (rowAt (next m x) i) (next m x .critical) (ranAfter i m x c)
+  idle-step x t mode e =
+      subst₃ (λ (r′ : Row) (critical′ : Bool) (d : ℕ → ℕ). Moved live (isTick m x) r′ critical′ d) (sym e) (sym mode)
+      (fun-ext (λ v. sym (ap (λ (b : Bool). c v + cond (b && isRunning i v m) 1 0) t ∙ add-zero (c v))))
+      (rests t refl live refl)
+
+  pub true-head : (reports : List ℕ) (calls : List Call) → isAccepted m (tick reports) ≡ true →
+      TrueFrom i len c m (tick reports ∷ calls) →
+      (v : ℕ) → has (getD reports i 0) v ≡ (has (runningSet (m .critical) (rowAt m i)) v && eqb (c v + 1) (len v))
+  unfolding TrueFrom isRunning
+  true-head reports calls a h v =
+      h [] reports calls refl refl a v
+      ∙ ap (λ (z : ℕ). has (runningSet (m .critical) (rowAt m i)) v && eqb (z + 1) (len v)) (add-zero (c v))
+
+  pub ran-head : (reports : List ℕ) → isAccepted m (tick reports) ≡ true →
+      (v : ℕ) → ranAfter i m (tick reports) c v ≡ c v + bit (has (runningSet (m .critical) (rowAt m i)) v)
+  unfolding isRunning
+  ran-head reports a v =
+      ap (λ (b : Bool). c v + cond (b && has (runningSet (m .critical) (rowAt m i)) v) 1 0) a
+      ∙ ap (λ (z : ℕ). c v + z) (one (has (runningSet (m .critical) (rowAt m i)) v))
+    where
+      one : (t : Bool) → cond t 1 0 ≡ bit t
+      one true = refl
+      one false = refl
+
+  -- The job after its part of an accepted tick with true reports, whatever the tick makes of the mode.
+  pub part-step : (reports : List ℕ) (calls : List Call) → isAccepted m (tick reports) ≡ true → TickAt m i reports →
+      TrueFrom i len c m (tick reports ∷ calls) →
+      AfterTick live (tickedRow (rowAt m i) (getD reports i 0)) (ranAfter i m (tick reports) c)
+  part-step reports calls a at h =
+      live-tick live (ranAfter i m (tick reports) c) (getD reports i 0) (at .named) (ran-head reports a)
+      (true-head reports calls a h)
+
+  tick-step : (reports : List ℕ) (calls : List Call) → isAccepted m (tick reports) ≡ true → TickAt m i reports →
+      (isHigh (rowAt m i .fixed) ≡ true) ⊎ (next m (tick reports) .critical ≡ false) →
+      TrueFrom i len c m (tick reports ∷ calls) →
+      Moved live (isTick m (tick reports)) (rowAt (next m (tick reports)) i) (next m (tick reports) .critical)
+      (ranAfter i m (tick reports) c)
+  tick-step reports calls a at why h =
+      subst (λ (r′ : Row). Moved live (isTick m (tick reports)) r′ critical′ (ranAfter i m (tick reports) c)) (sym (plain .row))
+      (go (part-step reports calls a at h))
+    where
+      critical′ : Bool
+      critical′ = next m (tick reports) .critical
+
+      plain : PlainTick m i reports
+      plain = plain-tick m i reports at why
+
+      go : AfterTick live (tickedRow (rowAt m i) (getD reports i 0)) (ranAfter i m (tick reports) c) →
+          Moved live (isTick m (tick reports)) (tickedRow (rowAt m i) (getD reports i 0)) (next m (tick reports) .critical)
+          (ranAfter i m (tick reports) c)
+      go (goes-on l most fixed) =
+          works a (in-mode (next m (tick reports) .critical) (λ f. plain .calm f .0) l) most fixed
+          (λ f. (plain .calm f .0, ap isLate (sym (plain .row)) ∙ plain .calm f .1))
+      go (ends o) = ended o
+
+  -- One call of a high task's alive job, or of any while the state stays typical.
+  pub live-step : (x : Call) (calls : List Call) → i < length (m .rows) →
+      (isHigh (rowAt m i .fixed) ≡ true) ⊎ (next m x .critical ≡ false) →
+      isReleaseOf i m x ≡ false → TrueFrom i len c m (x ∷ calls) →
+      Moved live (isTick m x) (rowAt (next m x) i) (next m x .critical) (ranAfter i m x c)
+  live-step x calls known why none h = go (turn m i x known)
+    where
+      go : Turn m i x → Moved live (isTick m x) (rowAt (next m x) i) (next m x .critical) (ranAfter i m x c)
+      go (same t r mode e) = idle-step x t mode e
+      go (begins e a at) = absurd (true≢false (sym (release-of m i x e a) ∙ none))
+      go (ticks reports e a at) =
+          subst (λ (y : Call). Moved live (isTick m y) (rowAt (next m y) i) (next m y .critical) (ranAfter i m y c)) (sym e)
+          (tick-step reports calls (ap (isAccepted m) (sym e) ∙ a) at
+          (subst (λ (y : Call). (isHigh (rowAt m i .fixed) ≡ true) ⊎ (next m y .critical ≡ false)) e why)
+          (subst (λ (y : Call). TrueFrom i len c m (y ∷ calls)) e h))

@@ -1,0 +1,121 @@
+-- What the theorem assumes can be met: by task A of 01's cases alone, at (1, 2), with the lengths 4, 3, 2 of case 13.
+use Prim.Native.Nat.{ℕ, zero, suc, _≤_, _<_, _^_}
+use mathlib.Core.Path.{_≡_, refl, sym, ap, _∙_}
+use mathlib.Core.Bool.{Bool, true, false, true≢false}
+use mathlib.Core.List.{List, [], _∷_}
+use native.Mathlib.Omega.{arith}
+use lib.Dec.{lit<, lit≤}
+use lib.ListN.{getD}
+use Rattle.sheet.specs.declared.task.TaskSet.{TaskSet}
+use Rattle.shares.specs.declared.share.Share.{Share}
+use Rattle.shares.specs.Test.{excess, demand, passes, virtualDeadline}
+use Rattle.shares.specs.Low.{isLow}
+use Rattle.shares.specs.Deadline.{virtualOf}
+use Rattle.nodes.proofs.Bits.{has-zero}
+use Rattle.model.specs.Budget.{sumBelow, Chain, alone as single, link, along}
+use Rattle.sheet.specs.Format.{taskIn}
+use Rattle.shares.specs.Totals.{shareAt, shareTotal}
+use Rattle.model.specs.Plan.{freshRow, fresh, LawfulTask, PassingPair, LowPair, Planned}
+use Rattle.model.specs.Claim.{KeepsBudget}
+use Rattle.nodes.specs.Sets.{has}
+use Rattle.model.specs.Row.{lowLevel, highLevel, precedes, predecessorsOf}
+use Rattle.model.proofs.Worked.{alone}
+
+-- The sheet of task A alone, two processors, and its allocation.
+abbrev sheetA : TaskSet
+sheetA =
+    record {
+      processors = 2;
+      count = 1;
+      tasks =
+          record {
+            level = 1;
+            nodes = 3;
+            figures =
+                record {
+                  deadline = 45;
+                  nominal = record { work = 9; span = 4 };
+                  overload = record { work = 52; span = 20 };
+                };
+            predecessors = 0 ∷ 0 ∷ 0 ∷ [];
+          }
+          ∷ [];
+    }
+
+abbrev sharesA : List Share
+sharesA = record { typical = 1; critical = 2 } ∷ []
+
+-- Its fresh model is the one of the worked facts.
+fresh-alone : fresh sheetA sharesA ≡ alone
+unfolding fresh freshRow virtualOf isLow virtualDeadline
+fresh-alone = refl
+
+-- The sheet and the allocation are planned.
+planned-alone : Planned sheetA sharesA
+unfolding taskIn shareAt highLevel lowLevel predecessorsOf passes demand excess
+planned-alone =
+    record {
+      tasks = lit≤ tt;
+      each = refl;
+      lawful = lawful;
+      high = high;
+      low = low;
+      fits = fits;
+    }
+  where
+    masks : (v : ℕ) → v < 3 → predecessorsOf (0 ∷ 0 ∷ 0 ∷ []) v < 2 ^ v
+    masks zero h = lit< tt
+    masks (suc zero) h = lit< tt
+    masks (suc (suc zero)) h = lit< tt
+    masks (suc (suc (suc v))) h = absurd (omega arith)
+
+    lawful : (i : ℕ) → i < 1 → LawfulTask (taskIn sheetA i)
+    lawful zero h =
+        record {
+          nodes = lit≤ tt;
+          figures = record { span = lit≤ tt; spans = lit≤ tt };
+          low = λ e. absurd (omega arith);
+          heavy = lit< tt;
+          masks = masks;
+        }
+    lawful (suc i) h = absurd (omega arith)
+
+    high : (i : ℕ) → i < 1 → taskIn sheetA i .level ≡ highLevel → PassingPair (taskIn sheetA i .figures) (shareAt sharesA i)
+    high zero h e = record { positive = lit≤ tt; ordered = lit≤ tt; passing = refl }
+    high (suc i) h e = absurd (omega arith)
+
+    low : (i : ℕ) → i < 1 → taskIn sheetA i .level ≡ lowLevel → LowPair (taskIn sheetA i .figures) (shareAt sharesA i)
+    low zero h e = absurd (omega arith)
+    low (suc i) h e = absurd (omega arith)
+
+    fits : (critical : Bool) → shareTotal critical sharesA ≤ 2
+    fits true = lit≤ tt
+    fits false = lit≤ tt
+
+-- Lengths that 01 gives a job of it.
+abbrev lengthsA : ℕ → ℕ
+lengthsA v = getD (4 ∷ 3 ∷ 2 ∷ []) v 1
+
+-- They keep the nominal budgets.
+nominal-alone : KeepsBudget (taskIn sheetA 0) (taskIn sheetA 0 .figures .nominal) lengthsA
+unfolding KeepsBudget taskIn sumBelow precedes predecessorsOf
+nominal-alone = record { positive = positive; work = lit≤ tt; span = span }
+  where
+    at-most : (v : ℕ) → v < 3 → (1 ≤ lengthsA v) × (lengthsA v ≤ 4)
+    at-most zero h = (lit≤ tt, lit≤ tt)
+    at-most (suc zero) h = (lit≤ tt, lit≤ tt)
+    at-most (suc (suc zero)) h = (lit≤ tt, lit≤ tt)
+    at-most (suc (suc (suc v))) h = absurd (omega arith)
+
+    positive : (v : ℕ) → v < 3 → 1 ≤ lengthsA v
+    positive v h = at-most v h .0
+
+    none : (v : ℕ) → _≡_ {A = ℕ} (getD (0 ∷ 0 ∷ 0 ∷ []) v 0) 0
+    none zero = refl
+    none (suc zero) = refl
+    none (suc (suc zero)) = refl
+    none (suc (suc (suc v))) = refl
+
+    span : (u : ℕ) (rest : List ℕ) → Chain 3 (precedes (0 ∷ 0 ∷ 0 ∷ [])) u rest → along lengthsA u rest ≤ 4
+    span u rest (single l) = at-most u l .1
+    span u rest (link {v = v} l e c) = absurd (true≢false (sym e ∙ ap (λ (n : ℕ). has n u) (none v) ∙ has-zero u))

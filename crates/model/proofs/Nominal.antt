@@ -1,0 +1,279 @@
+-- Nominal: while every high job keeps its nominal budget under true reports, an alive one has fewer than V ticks behind it, so that no
+-- tick switches. By induction on the calls, with what is known of each alive high job and of each Release to come.
+use Prim.Native.Nat.{ℕ, suc, _+_, _<_}
+use mathlib.Core.Path.{_≡_, refl, sym, ap, subst, _∙_}
+use mathlib.Core.Bool.{Bool, true, false, cond, not, _&&_, true≢false, and-eq-true-iff}
+use mathlib.Core.List.{List, [], _∷_}
+use mathlib.Core.Option.{Option, none, some}
+use mathlib.Core.Logic.{inl}
+use native.Mathlib.Omega.{arith}
+use borrow.Author.Tests.{lt-leb, eqb-true}
+use lib.Dec.{leb, eqb}
+use lib.ListN.{length, getD}
+use Rattle.sheet.specs.declared.task.TaskSet.{TaskSet}
+use Rattle.shares.specs.declared.share.Share.{Share}
+use Rattle.shares.proofs.Ends.{nominal-ends}
+use Rattle.model.specs.Row.{Fixed, Row, highLevel, isHigh, allEnded, joined, tickedRow, isLate}
+use Rattle.model.specs.Step.{Model, Call, release, tick, Refusal, Step, step, stepBy, refusalOf, rowAt, noRow, released, tickedRows, lowestLate, switchedTo, switching, ticked}
+use Rattle.model.specs.Run.{answers, isNone, isAccepted, isTick, isReleaseOf}
+use Rattle.sheet.specs.Format.{taskIn}
+use Rattle.shares.specs.Totals.{shareAt}
+use Rattle.model.specs.Plan.{freshRow, fresh, Planned}
+use Rattle.model.specs.Claim.{ReleaseIn, begun, NominalJob, isSwitched, noneSwitched, StaysTypical, Nominal}
+use Rattle.model.proofs.Steps.{next, accepted-step, refused-step, length-ticked, get-ticked, tick-tests, tick-at, Turn, same, begins, ticks, turn}
+use Rattle.model.proofs.Lasting.{fixed-step, same-fixed, length-step}
+use Rattle.model.proofs.Fresh.{fresh-length, fresh-row}
+use Rattle.model.proofs.Released.{plannedFixed, high-fixed, known-task, live-at-release, fixed-begun}
+use Rattle.model.proofs.Job.{Live, AfterTick, goes-on, ends, TypicalBelow, typical-below}
+use Rattle.model.proofs.Course.{TrueFrom, true-from-start, ranAfter, true-from-next, Moved, rests, works, ended, part-step, live-step, dead-step}
+
+-- While a job that keeps the budget is alive in typical mode, fewer than V ticks have passed.
+abbrev Before : ℕ → ℕ → Fixed → Type 0
+Before work span f = TypicalBelow work span f (f .virtual)
+
+-- An alive job of task i that keeps such a budget, with true reports over the calls to come.
+record Honest (i : ℕ) (m : Model) (calls : List Call) : Type 0 where
+  pub len : ℕ → ℕ
+  pub work : ℕ
+  pub span : ℕ
+  pub counts : ℕ → ℕ
+  pub passed : ℕ
+  pub live : Live len work span (rowAt m i) (m .critical) counts passed
+  pub before : Before work span (rowAt m i .fixed)
+  pub reports : TrueFrom i len counts m calls
+
+-- The state is typical; every alive high job is honest, and so is every one to come.
+record Calm (m : Model) (calls : List Call) : Type 0 where
+  pub typical : m .critical ≡ false
+  pub alive : (i : ℕ) → i < length (m .rows) → isHigh (rowAt m i .fixed) ≡ true → rowAt m i .job .alive ≡ true →
+      Honest i m calls
+  pub coming : (i : ℕ) (job : ReleaseIn m i calls) → isHigh (rowAt m i .fixed) ≡ true → Honest i (begun job) (job .since)
+
+none-late-intro : (j : ℕ) (rows : List Row) → ((i : ℕ) → i < length rows → isLate (getD rows i noRow) ≡ false) →
+    lowestLate j rows ≡ none
+none-late-intro j [] h = refl
+none-late-intro j (r ∷ rows) h =
+    ap (λ (t : Bool). cond t (some j) (lowestLate (suc j) rows)) (h 0 (omega arith))
+    ∙ none-late-intro (suc j) rows (λ i b. h (suc i) (omega arith))
+
+-- After its part of a tick no honest job is late.
+part-not-late : (m : Model) (reports : List ℕ) (calls : List Call) → Calm m (tick reports ∷ calls) →
+    isAccepted m (tick reports) ≡ true →
+    (i : ℕ) → i < length (m .rows) → isLate (tickedRow (rowAt m i) (getD reports i 0)) ≡ false
+unfolding isLate tickedRow
+part-not-late m reports calls calm a i known = go (isHigh (r .fixed)) refl (part .job .alive) refl
+  where
+    r : Row
+    r = rowAt m i
+
+    part : Row
+    part = tickedRow r (getD reports i 0)
+
+    go : (x : Bool) → isHigh (r .fixed) ≡ x → (y : Bool) → part .job .alive ≡ y →
+        (x && y && leb (r .fixed .virtual) (part .job .age)) ≡ false
+    go false high y alive = refl
+    go true high false alive = refl
+    go true high true alive =
+        settled (part-step i m (honest .live) reports calls a (tick-at m i reports a known) (honest .reports))
+      where
+        honest : Honest i m (tick reports ∷ calls)
+        honest = calm .alive i known high
+            (and-eq-true-iff (r .job .alive) (not (allEnded (r .fixed .nodes) (joined r (getD reports i 0)))) .0 alive .0)
+
+        settled : AfterTick (honest .live) (tickedRow r (getD reports i 0)) (ranAfter i m (tick reports) (honest .counts)) →
+            leb (r .fixed .virtual) (part .job .age) ≡ false
+        settled (goes-on l most fixed) = lt-leb (r .fixed .virtual) (part .job .age) (omega (arith, typical-below l (calm .typical) (honest .before), l .age))
+        settled (ends o) = absurd (true≢false (sym alive ∙ o .gone))
+
+-- A call that leaves the state typical and does not answer that it switched.
+record Quiet (m : Model) (x : Call) : Type 0 where
+  pub typical : next m x .critical ≡ false
+  pub answer : isSwitched (step m x .answer) ≡ false
+
+quiet-tick : (m : Model) (reports : List ℕ) (calls : List Call) → Calm m (tick reports ∷ calls) →
+    isAccepted m (tick reports) ≡ true → Quiet m (tick reports)
+unfolding ticked rowAt
+quiet-tick m reports calls calm a =
+    record { typical = ap (λ (s : Step). s .model .critical) e; answer = ap (λ (s : Step). isSwitched (s .answer)) e }
+  where
+    rows : List Row
+    rows = tickedRows (m .rows) reports
+
+    calm-at : (i : ℕ) → i < length rows → isLate (getD rows i noRow) ≡ false
+    calm-at i h =
+        let known : i < length (m .rows) = rw (length-ticked (m .rows) reports) at h in
+        ap isLate (get-ticked (m .rows) reports i (tick-tests m reports a .0) known)
+        ∙ part-not-late m reports calls calm a i known
+
+    e : step m (tick reports) ≡ switchedTo rows none
+    e =
+        accepted-step m (tick reports) a
+        ∙ ap (λ (t : Bool). switching t rows) (calm .typical)
+        ∙ ap (switchedTo rows) (none-late-intro 0 rows calm-at)
+
+quiet-refused : (m : Model) (x : Call) → m .critical ≡ false → isAccepted m x ≡ false → Quiet m x
+unfolding isAccepted step
+quiet-refused m x typical a =
+    record { typical = ap (λ (n : Model). n .critical) (refused-step m x a) ∙ typical; answer = go (refusalOf m x) a }
+  where
+    go : (o : Option Refusal) → isNone o ≡ false → isSwitched (stepBy o m x .answer) ≡ false
+    go none e = absurd (true≢false e)
+    go (some r) e = refl
+
+quiet-step : (m : Model) (x : Call) (calls : List Call) → Calm m (x ∷ calls) → Quiet m x
+unfolding released
+quiet-step m (tick reports) calls calm = go (isAccepted m (tick reports)) refl
+  where
+    go : (t : Bool) → isAccepted m (tick reports) ≡ t → Quiet m (tick reports)
+    go true a = quiet-tick m reports calls calm a
+    go false a = quiet-refused m (tick reports) (calm .typical) a
+quiet-step m (release i) calls calm = go (isAccepted m (release i)) refl
+  where
+    go : (t : Bool) → isAccepted m (release i) ≡ t → Quiet m (release i)
+    go true a =
+        record {
+          typical = ap (λ (s : Step). s .model .critical) (accepted-step m (release i) a) ∙ calm .typical;
+          answer = ap (λ (s : Step). isSwitched (s .answer)) (accepted-step m (release i) a);
+        }
+    go false a = quiet-refused m (release i) (calm .typical) a
+
+-- A Release of the rest of the list is one of the list.
+later : (m : Model) (x : Call) (calls : List Call) (i : ℕ) → ReleaseIn (next m x) i calls → ReleaseIn m i (x ∷ calls)
+later m x calls i job =
+    record {
+      before = x ∷ job .before;
+      since = job .since;
+      list = ap (λ (l : List Call). x ∷ l) (job .list);
+      accepted = job .accepted;
+    }
+
+honest-next : (m : Model) (x : Call) (calls : List Call) (i : ℕ) → i < length (m .rows) → isHigh (rowAt m i .fixed) ≡ true →
+    isReleaseOf i m x ≡ false → rowAt (next m x) i .job .alive ≡ true → Honest i m (x ∷ calls) → Honest i (next m x) calls
+honest-next m x calls i known high no-release alive h =
+    go (live-step i m (h .live) x calls known (inl high) no-release (h .reports))
+  where
+    before : Before (h .work) (h .span) (rowAt (next m x) i .fixed)
+    before = subst (Before (h .work) (h .span)) (sym (same-fixed (next m x) m (fixed-step m x) i)) (h .before)
+
+    carry : (n : ℕ) → Live (h .len) (h .work) (h .span) (rowAt (next m x) i) (next m x .critical)
+        (ranAfter i m x (h .counts)) n → Honest i (next m x) calls
+    carry n l =
+        record {
+          len = h .len;
+          work = h .work;
+          span = h .span;
+          counts = ranAfter i m x (h .counts);
+          passed = n;
+          live = l;
+          before = before;
+          reports = true-from-next i (h .len) (h .counts) m x calls no-release (h .reports);
+        }
+
+    go : Moved (h .live) (isTick m x) (rowAt (next m x) i) (next m x .critical) (ranAfter i m x (h .counts)) →
+        Honest i (next m x) calls
+    go (rests w mode l same₁) = carry (h .passed) l
+    go (works w l most fixed calm) = carry (h .passed + 1) l
+    go (ended o) = absurd (true≢false (sym alive ∙ o .gone))
+
+calm-next : (m : Model) (x : Call) (calls : List Call) → Calm m (x ∷ calls) → Calm (next m x) calls
+unfolding begun later
+calm-next m x calls calm =
+    record {
+      typical = quiet-step m x calls calm .typical;
+      alive = λ i known high alive. at i (rw (length-step m x) at known) (rw (fixed i) at high) alive;
+      coming = λ i job high. calm .coming i (later m x calls i job) (rw (fixed i) at high);
+    }
+  where
+    fixed : (i : ℕ) → rowAt (next m x) i .fixed ≡ rowAt m i .fixed
+    fixed i = same-fixed (next m x) m (fixed-step m x) i
+
+    at : (i : ℕ) → i < length (m .rows) → isHigh (rowAt m i .fixed) ≡ true → rowAt (next m x) i .job .alive ≡ true →
+        Honest i (next m x) calls
+    at i known high alive = go (turn m i x known)
+      where
+        goes : isReleaseOf i m x ≡ false → Honest i (next m x) calls
+        goes no-release = was (rowAt m i .job .alive) refl
+          where
+            was : (t : Bool) → rowAt m i .job .alive ≡ t → Honest i (next m x) calls
+            was true e = honest-next m x calls i known high no-release alive (calm .alive i known high e)
+            was false e = absurd (true≢false (sym alive ∙ dead-step m x i known no-release e))
+
+        go : Turn m i x → Honest i (next m x) calls
+        go (same t r mode e) = goes r
+        go (begins e a at) =
+            subst (λ (y : Call). Honest i (next m y) calls) (sym e)
+            (calm .coming i
+            (record {
+              before = [];
+              since = calls;
+              list = ap (λ (y : Call). y ∷ calls) e;
+              accepted = ap (isAccepted m) (sym e) ∙ a;
+            })
+            high)
+        go (ticks reports e a at) = goes (ap (isReleaseOf i m) e)
+
+calm-stays : (m : Model) (calls : List Call) → Calm m calls → StaysTypical m calls
+calm-stays m [] calm = record { typical = calm .typical; answered = refl }
+calm-stays m (x ∷ calls) calm =
+    let rest = calm-stays (next m x) calls (calm-next m x calls calm) in
+    record {
+      typical = rest .typical;
+      answered = ap (λ (t : Bool). cond t false (noneSwitched (answers (next m x) calls))) (quiet-step m x calls calm .answer)
+          ∙ rest .answered;
+    }
+
+module _ (ts : TaskSet) (shares : List Share) (planned : Planned ts shares) where
+  before-high : (i : ℕ) → i < ts .count → taskIn ts i .level ≡ highLevel →
+      Before (taskIn ts i .figures .nominal .work) (taskIn ts i .figures .nominal .span) (plannedFixed ts shares i)
+  unfolding freshRow
+  before-high i h level full p span work =
+      rw (high-fixed ts shares i level .1)
+      (nominal-ends (taskIn ts i .figures) (shareAt shares i .typical) full p (planned .high i h level .positive) span work)
+
+  level-high : (i : ℕ) → i < ts .count → isHigh (rowAt (fresh ts shares) i .fixed) ≡ true → taskIn ts i .level ≡ highLevel
+  unfolding isHigh freshRow
+  level-high i h high =
+      eqb-true (taskIn ts i .level) highLevel
+      (sym (ap (λ (r : Row). eqb (r .fixed .level) highLevel) (fresh-row ts shares planned i h)) ∙ high)
+
+  none-alive : (i : ℕ) → i < ts .count → rowAt (fresh ts shares) i .job .alive ≡ false
+  unfolding freshRow
+  none-alive i h = ap (λ (r : Row). r .job .alive) (fresh-row ts shares planned i h)
+
+  -- Demand 3, nominal.
+  pub nominal : (calls : List Call) → Nominal ts shares calls
+  unfolding Nominal fresh begun
+  nominal calls honest =
+      calm-stays (fresh ts shares) calls
+      (record {
+        typical = refl;
+        alive = λ i known high alive.
+            absurd (true≢false (sym alive ∙ none-alive i (rw (fresh-length ts shares planned) at known)));
+        coming = coming;
+      })
+    where
+      coming : (i : ℕ) (job : ReleaseIn (fresh ts shares) i calls) → isHigh (rowAt (fresh ts shares) i .fixed) ≡ true →
+          Honest i (begun job) (job .since)
+      coming i job high =
+          record {
+            len = own .lengths;
+            work = taskIn ts i .figures .nominal .work;
+            span = taskIn ts i .figures .nominal .span;
+            counts = λ _. 0;
+            passed = 0;
+            live = live-at-release ts shares planned (job .before) i (taskIn ts i .figures .nominal) (own .lengths)
+                (job .accepted) (own .keeps);
+            before =
+                subst (Before (taskIn ts i .figures .nominal .work) (taskIn ts i .figures .nominal .span))
+                (sym (fixed-begun ts shares planned (job .before) i i known)) (before-high i known level);
+            reports = true-from-start i (own .lengths) (begun job) (job .since) (own .reports);
+          }
+        where
+          known : i < ts .count
+          known = known-task ts shares planned (job .before) i (job .accepted)
+
+          level : taskIn ts i .level ≡ highLevel
+          level = level-high i known high
+
+          own : NominalJob (taskIn ts i) i (begun job) (job .since)
+          own = honest i job level

@@ -1,0 +1,229 @@
+-- What one step does to one row: nothing, a release, or its part of a tick and perhaps the switch.
+use Prim.Native.Nat.{ℕ, zero, suc, _<_}
+use mathlib.Core.Path.{_≡_, refl, sym, ap, ap₂, subst₂, _∙_}
+use mathlib.Core.Bool.{Bool, true, false, cond, _&&_, true≢false, false≢true, and-false}
+use mathlib.Core.List.{List, [], _∷_, map}
+use mathlib.Core.Option.{Option, none, some}
+use native.Mathlib.Omega.{arith}
+use native.Mathlib.Decide.{ℕ-discrete}
+use borrow.Author.Tests.{eqb-true, leb-false, eq-eqb, ne-eqb}
+use lib.Dec.{eqb, leb}
+use lib.ListN.{length, getD, List·getD-map}
+use lib.Seq.{getD-set-same, getD-set-other}
+use Rattle.model.specs.Row.{Row, isSubset, runningSet, releasedRow, tickedRow, isLate, switchedRow}
+use Rattle.sheet.specs.Answers.{noTask}
+use Rattle.model.specs.Step.{Model, Call, release, tick, Refusal, refusal, unknownTask, wrongCount, notRunning, Step, step, stepBy, rowAt, noRow, releaseRefusal, reportRefusal, tickRefusal, refusalOf, released, tickedRows, lowestLate, switchedTo, switching, ticked}
+use Rattle.model.specs.Run.{after, isNone, isAccepted, isTick, isReleaseOf}
+
+-- The model after one call.
+abbrev pub next : Model → Call → Model
+next m c = step m c .model
+
+none-is : (o : Option Refusal) → isNone o ≡ true → o ≡ none
+none-is none e = refl
+none-is (some r) e = absurd (false≢true e)
+
+pub length-ticked : (rows : List Row) (reports : List ℕ) → length (tickedRows rows reports) ≡ length rows
+length-ticked [] reports = refl
+length-ticked (r ∷ rows) [] = refl
+length-ticked (r ∷ rows) (x ∷ reports) = ap suc (length-ticked rows reports)
+
+pub get-ticked : (rows : List Row) (reports : List ℕ) (i : ℕ) → length reports ≡ length rows → i < length rows →
+    getD (tickedRows rows reports) i noRow ≡ tickedRow (getD rows i noRow) (getD reports i 0)
+get-ticked [] reports i e h = absurd (omega arith)
+get-ticked (r ∷ rows) [] i e h = absurd (omega arith)
+get-ticked (r ∷ rows) (x ∷ reports) zero e h = refl
+get-ticked (r ∷ rows) (x ∷ reports) (suc i) e h = get-ticked rows reports i (omega arith) (omega arith)
+
+get-subset : (critical : Bool) (j : ℕ) (rows : List Row) (reports : List ℕ) (i : ℕ) →
+    isNone (reportRefusal critical j rows reports) ≡ true → length reports ≡ length rows → i < length rows →
+    isSubset (getD reports i 0) (runningSet critical (getD rows i noRow)) ≡ true
+get-subset critical j [] reports i e l h = absurd (omega arith)
+get-subset critical j (r ∷ rows) [] i e l h = absurd (omega arith)
+get-subset critical j (r ∷ rows) (x ∷ reports) i e l h =
+    go i h (isSubset x (runningSet critical r)) refl e (λ u n b. get-subset critical (suc j) rows reports u n (omega arith) b)
+  where
+    go : (i : ℕ) → i < suc (length rows) → (t : Bool) → isSubset x (runningSet critical r) ≡ t →
+        isNone (cond t (reportRefusal critical (suc j) rows reports) (refusal notRunning j)) ≡ true →
+        ((u : ℕ) → isNone (reportRefusal critical (suc j) rows reports) ≡ true → u < length rows →
+        isSubset (getD reports u 0) (runningSet critical (getD rows u noRow)) ≡ true) →
+        isSubset (getD (x ∷ reports) i 0) (runningSet critical (getD (r ∷ rows) i noRow)) ≡ true
+    go zero b true s n rest = s
+    go (suc u) b true s n rest = rest u n (omega arith)
+    go u b false s n rest = absurd (false≢true n)
+
+none-late : (j : ℕ) (rows : List Row) (i : ℕ) → lowestLate j rows ≡ none → i < length rows → isLate (getD rows i noRow) ≡ false
+none-late j [] i e h = absurd (omega arith)
+none-late j (r ∷ rows) i e h = go i h (isLate r) refl e (none-late (suc j) rows)
+  where
+    go : (i : ℕ) → i < suc (length rows) → (t : Bool) → isLate r ≡ t → cond t (some j) (lowestLate (suc j) rows) ≡ none →
+        ((u : ℕ) → lowestLate (suc j) rows ≡ none → u < length rows → isLate (getD rows u noRow) ≡ false) →
+        isLate (getD (r ∷ rows) i noRow) ≡ false
+    go i b true s n rest = let z : _≡_ {A = ℕ} 0 1 = cc in absurd (omega arith)
+    go zero b false s n rest = s
+    go (suc u) b false s n rest = rest u n (omega arith)
+
+switched-noRow : switchedRow noRow ≡ noRow
+unfolding switchedRow
+switched-noRow = refl
+
+get-switched : (rows : List Row) (i : ℕ) → getD (map switchedRow rows) i noRow ≡ switchedRow (getD rows i noRow)
+get-switched rows i = ap (getD (map switchedRow rows) i) (sym switched-noRow) ∙ List·getD-map switchedRow rows i noRow
+
+-- What an accepted tick does to task i: its part of the tick, then the switch or none.
+pub data Settled (m after : Model) (i : ℕ) (part : Row) : Type 0 where
+  stays-critical : m .critical ≡ true → after .critical ≡ true → rowAt after i ≡ part → Settled m after i part
+  stays-typical : m .critical ≡ false → after .critical ≡ false → rowAt after i ≡ part → isLate part ≡ false →
+      Settled m after i part
+  turns : m .critical ≡ false → after .critical ≡ true → rowAt after i ≡ switchedRow part → Settled m after i part
+
+settle : (m : Model) (rows : List Row) (i : ℕ) → i < length rows →
+    Settled m (switching (m .critical) rows .model) i (getD rows i noRow)
+unfolding rowAt
+settle m rows i h = go (m .critical) refl
+  where
+    late : (o : Option ℕ) → lowestLate 0 rows ≡ o → m .critical ≡ false →
+        Settled m (switchedTo rows o .model) i (getD rows i noRow)
+    late none e typical = stays-typical typical refl refl (none-late 0 rows i e h)
+    late (some j) e typical = turns typical refl (get-switched rows i)
+
+    go : (t : Bool) → m .critical ≡ t → Settled m (switching t rows .model) i (getD rows i noRow)
+    go true e = stays-critical e refl refl
+    go false e = late (lowestLate 0 rows) refl e
+
+-- An accepted tick, as task i sees it.
+pub record TickAt (m : Model) (i : ℕ) (reports : List ℕ) : Type 0 where
+  pub named : isSubset (getD reports i 0) (runningSet (m .critical) (rowAt m i)) ≡ true
+  pub settled : Settled m (next m (tick reports)) i (tickedRow (rowAt m i) (getD reports i 0))
+
+-- An accepted Release of task i.
+pub record ReleaseAt (m : Model) (i : ℕ) : Type 0 where
+  pub known : i < length (m .rows)
+  pub row : rowAt (next m (release i)) i ≡ releasedRow (rowAt m i)
+
+-- A call as task i sees it: nothing happens to it, its job begins, or a tick.
+pub data Turn (m : Model) (i : ℕ) (c : Call) : Type 0 where
+  same : isTick m c ≡ false → isReleaseOf i m c ≡ false → next m c .critical ≡ m .critical → rowAt (next m c) i ≡ rowAt m i →
+      Turn m i c
+  begins : c ≡ release i → isAccepted m c ≡ true → ReleaseAt m i → Turn m i c
+  ticks : (reports : List ℕ) → c ≡ tick reports → isAccepted m c ≡ true → TickAt m i reports → Turn m i c
+
+pub accepted-step : (m : Model) (c : Call) → isAccepted m c ≡ true → step m c ≡ stepBy none m c
+unfolding isAccepted step
+accepted-step m c e = ap (λ (o : Option Refusal). stepBy o m c) (none-is (refusalOf m c) e)
+
+pub refused-step : (m : Model) (c : Call) → isAccepted m c ≡ false → next m c ≡ m
+unfolding isAccepted step
+refused-step m c e = go (refusalOf m c) e
+  where
+    go : (o : Option Refusal) → isNone o ≡ false → stepBy o m c .model ≡ m
+    go none e = absurd (true≢false e)
+    go (some r) e = refl
+
+-- An accepted Release names a task: row 11 does not hold.
+release-known : (m : Model) (i : ℕ) → isAccepted m (release i) ≡ true → i < length (m .rows)
+unfolding isAccepted releaseRefusal
+release-known m i e = leb-false (length (m .rows)) i (go (leb (length (m .rows)) i) _ e)
+  where
+    go : (t : Bool) (o : Option Refusal) → isNone (cond t (refusal unknownTask noTask) o) ≡ true → t ≡ false
+    go true o n = absurd (false≢true n)
+    go false o n = refl
+
+pub release-at : (m : Model) (i : ℕ) → isAccepted m (release i) ≡ true → ReleaseAt m i
+unfolding rowAt released
+release-at m i e =
+    let known : i < length (m .rows) = release-known m i e in
+    record {
+      known = known;
+      row =
+          ap (λ (s : Step). rowAt (s .model) i) (accepted-step m (release i) e)
+          ∙ getD-set-same (m .rows) i (releasedRow (rowAt m i)) noRow known;
+    }
+
+-- What the rows 14 and 15 leave of an accepted tick.
+pub tick-tests : (m : Model) (reports : List ℕ) → isAccepted m (tick reports) ≡ true →
+    (length reports ≡ length (m .rows)) × (isNone (reportRefusal (m .critical) 0 (m .rows) reports) ≡ true)
+unfolding isAccepted tickRefusal
+tick-tests m reports e = go (eqb (length reports) (length (m .rows))) refl e
+  where
+    go : (t : Bool) → eqb (length reports) (length (m .rows)) ≡ t →
+        isNone (cond t (reportRefusal (m .critical) 0 (m .rows) reports) (refusal wrongCount noTask)) ≡ true →
+        (length reports ≡ length (m .rows)) × (isNone (reportRefusal (m .critical) 0 (m .rows) reports) ≡ true)
+    go true s n = (eqb-true (length reports) (length (m .rows)) s, n)
+    go false s n = absurd (false≢true n)
+
+pub tick-at : (m : Model) (i : ℕ) (reports : List ℕ) → isAccepted m (tick reports) ≡ true → i < length (m .rows) →
+    TickAt m i reports
+unfolding rowAt ticked
+tick-at m i reports e h =
+    let tests = tick-tests m reports e in
+    record {
+      named = get-subset (m .critical) 0 (m .rows) reports i (tests .1) (tests .0) h;
+      settled =
+          subst₂ (λ (n : Model) (r : Row). Settled m n i r)
+          (sym (ap (λ (s : Step). s .model) (accepted-step m (tick reports) e)))
+          (get-ticked (m .rows) reports i (tests .0) h)
+          (settle m (tickedRows (m .rows) reports) i (rw (length-ticked (m .rows) reports) h));
+    }
+
+-- A Release of another task leaves the row and the state.
+release-other : (m : Model) (i j : ℕ) → isAccepted m (release j) ≡ true → (i ≡ j → ⊥) →
+    (next m (release j) .critical ≡ m .critical) × (rowAt (next m (release j)) i ≡ rowAt m i)
+unfolding rowAt released
+release-other m i j e other = (
+  ap (λ (s : Step). s .model .critical) (accepted-step m (release j) e),
+  ap (λ (s : Step). rowAt (s .model) i) (accepted-step m (release j) e)
+      ∙ getD-set-other (m .rows) j i (releasedRow (rowAt m j)) noRow other,
+)
+
+refused-turn : (m : Model) (i : ℕ) (c : Call) → isAccepted m c ≡ false → isTick m c ≡ false → isReleaseOf i m c ≡ false →
+    Turn m i c
+refused-turn m i c e t r =
+    same t r (ap (λ (n : Model). n .critical) (refused-step m c e)) (ap (λ (n : Model). rowAt n i) (refused-step m c e))
+
+-- Every call, as a task of the model sees it.
+pub turn : (m : Model) (i : ℕ) (c : Call) → i < length (m .rows) → Turn m i c
+turn m i (tick reports) h = go (isAccepted m (tick reports)) refl
+  where
+    go : (t : Bool) → isAccepted m (tick reports) ≡ t → Turn m i (tick reports)
+    go true e = ticks reports refl e (tick-at m i reports e h)
+    go false e = refused-turn m i (tick reports) e e refl
+turn m i (release j) h = go (isAccepted m (release j)) refl (ℕ-discrete i j)
+  where
+    go : (t : Bool) → isAccepted m (release j) ≡ t → Dec (i ≡ j) → Turn m i (release j)
+    go true e (yes s) = begins (ap release (sym s)) e (release-at m i (ap (λ (u : ℕ). isAccepted m (release u)) s ∙ e))
+    go true e (no s) =
+        let kept = release-other m i j e s in
+        same refl (ap (λ (t : Bool). t && isAccepted m (release j)) (ne-eqb i j s)) (kept .0) (kept .1)
+    go false e d = refused-turn m i (release j) e refl (ap (λ (t : Bool). eqb i j && t) e ∙ and-false (eqb i j))
+
+-- The Release by which a job begins counts as one of its task.
+pub release-of : (m : Model) (i : ℕ) (x : Call) → x ≡ release i → isAccepted m x ≡ true → isReleaseOf i m x ≡ true
+release-of m i x e a = ap (isReleaseOf i m) e ∙ ap₂ _&&_ (eq-eqb i i refl) (ap (isAccepted m) (sym e) ∙ a)
+
+-- The critical state lasts.
+critical-step : (m : Model) (c : Call) → m .critical ≡ true → next m c .critical ≡ true
+unfolding released ticked
+critical-step m c e = go (isAccepted m c) refl
+  where
+    accepted : (c : Call) → isAccepted m c ≡ true → next m c .critical ≡ true
+    accepted (release i) a = ap (λ (s : Step). s .model .critical) (accepted-step m (release i) a) ∙ e
+    accepted (tick reports) a =
+        ap (λ (s : Step). s .model .critical) (accepted-step m (tick reports) a)
+        ∙ ap (λ (t : Bool). switching t (tickedRows (m .rows) reports) .model .critical) e
+
+    go : (t : Bool) → isAccepted m c ≡ t → next m c .critical ≡ true
+    go true a = accepted c a
+    go false a = ap (λ (n : Model). n .critical) (refused-step m c a) ∙ e
+
+critical-lasts : (m : Model) (calls : List Call) → m .critical ≡ true → after m calls .critical ≡ true
+critical-lasts m [] e = e
+critical-lasts m (c ∷ calls) e = critical-lasts (next m c) calls (critical-step m c e)
+
+-- A list of calls that ends in the typical state began in it.
+pub typical-before : (m : Model) (calls : List Call) → after m calls .critical ≡ false → m .critical ≡ false
+typical-before m calls e = go (m .critical) refl
+  where
+    go : (t : Bool) → m .critical ≡ t → t ≡ false
+    go true c = sym (critical-lasts m calls c) ∙ e
+    go false c = refl

@@ -1,0 +1,148 @@
+-- Sums, counts and tests over the numbers below k, each by induction on k.
+use Prim.Native.Nat.{ℕ, zero, suc, _+_, _≤_, _<_, min}
+use mathlib.Core.Path.{_≡_, refl, ap, ap₂, _∙_}
+use mathlib.Core.Bool.{Bool, true, false, _&&_, true≢false, false≢true}
+use native.Mathlib.Omega.{arith}
+use native.Mathlib.Decide.{decLt}
+use lib.Dec.{ltb}
+use borrow.Author.Tests.{ltb-true, ltb-false, lt-ltb}
+use Rattle.nodes.specs.Sets.{bit, count}
+use Rattle.sheet.specs.Rules.{allBelow}
+use Rattle.model.specs.Budget.{sumBelow}
+
+-- Whether v is among the s lowest numbers that pass the test: it passes, and fewer than s below it do.
+unfoldable pub lowest : ℕ → (ℕ → Bool) → ℕ → Bool
+lowest s p v = p v && ltb (count p v) s
+
+and-left : (x y : Bool) → (x && y) ≡ true → x ≡ true
+and-left true y e = refl
+and-left false y e = e
+
+and-right : (x y : Bool) → (x && y) ≡ true → y ≡ true
+and-right true y e = e
+and-right false y e = absurd (false≢true e)
+
+and-true : (x : Bool) → (x && true) ≡ x
+and-true true = refl
+and-true false = refl
+
+-- What holds below k and at k holds below suc k.
+below-cases : (P : ℕ → Type 0) (k : ℕ) → ((v : ℕ) → v < k → P v) → P k → (v : ℕ) → v < suc k → P v
+below-cases P k below at v l = go (decLt v k)
+  where
+    go : Dec (v < k) → P v
+    go (yes h) = below v h
+    go (no h) = let e : v ≡ k = omega arith in rw e at
+
+pub sum-le : (k : ℕ) (f g : ℕ → ℕ) → ((v : ℕ) → v < k → f v ≤ g v) → sumBelow k f ≤ sumBelow k g
+unfolding sumBelow
+sum-le zero f g h = omega arith
+sum-le (suc k) f g h = omega (arith, sum-le k f g (λ v l. h v (omega arith)), h k (omega arith))
+
+pub sum-same : (k : ℕ) (f g : ℕ → ℕ) → ((v : ℕ) → v < k → f v ≡ g v) → sumBelow k f ≡ sumBelow k g
+unfolding sumBelow
+sum-same zero f g h = refl
+sum-same (suc k) f g h = omega (arith, sum-same k f g (λ v l. h v (omega arith)), h k (omega arith))
+
+pub sum-add : (k : ℕ) (f g : ℕ → ℕ) → sumBelow k (λ v. f v + g v) ≡ sumBelow k f + sumBelow k g
+unfolding sumBelow
+sum-add zero f g = refl
+sum-add (suc k) f g = omega (arith, sum-add k f g)
+
+pub sum-zero : (k : ℕ) → sumBelow k (λ _. 0) ≡ 0
+unfolding sumBelow
+sum-zero zero = refl
+sum-zero (suc k) = omega (arith, sum-zero k)
+
+pub sum-bits : (k : ℕ) (p : ℕ → Bool) → sumBelow k (λ v. bit (p v)) ≡ count p k
+unfolding sumBelow count
+sum-bits zero p = refl
+sum-bits (suc k) p = omega (arith, sum-bits k p)
+
+pub sum-at : (k : ℕ) (f : ℕ → ℕ) (v : ℕ) → v < k → f v ≤ sumBelow k f
+unfolding sumBelow
+sum-at zero f v l = absurd (omega arith)
+sum-at (suc k) f v l =
+    below-cases (λ u. f u ≤ sumBelow k f + f k) k (λ u h. omega (arith, sum-at k f u h)) (omega arith) v l
+
+pub count-same : (v : ℕ) (p q : ℕ → Bool) → ((u : ℕ) → u < v → p u ≡ q u) → count p v ≡ count q v
+unfolding count
+count-same zero p q h = refl
+count-same (suc v) p q h = ap₂ (λ n t. n + bit t) (count-same v p q (λ u l. h u (omega arith))) (h v (omega arith))
+
+pub count-mono : (p : ℕ → Bool) (u v : ℕ) → u ≤ v → count p u ≤ count p v
+unfolding count
+count-mono p u zero l = let e : u ≡ zero = omega arith in rw e (omega arith)
+count-mono p u (suc v) l =
+    below-cases (λ w. count p w ≤ count p v + bit (p v)) (suc v) (λ w h. omega (arith, count-mono p w v (omega arith))) (omega arith) u
+    (omega arith)
+
+pub count-some : (p : ℕ → Bool) (k v : ℕ) → v < k → p v ≡ true → 1 ≤ count p k
+count-some p k v l e =
+    omega (arith, sum-bits k p, sum-at k (λ u. bit (p u)) v l, ap bit e)
+
+pub count-lowest : (s : ℕ) (p : ℕ → Bool) (k : ℕ) → count (lowest s p) k ≡ min s (count p k)
+unfolding count lowest
+count-lowest s p zero = omega arith
+count-lowest s p (suc k) = ap (λ n. n + bit (p k && ltb (count p k) s)) (count-lowest s p k) ∙ more (count p k) (p k)
+  where
+    taken : (n : ℕ) (t : Bool) → ltb n s ≡ t → min s n + bit t ≡ min s (n + 1)
+    taken n true e = omega (arith, ltb-true n s e)
+    taken n false e = omega (arith, ltb-false n s e)
+
+    more : (n : ℕ) (t : Bool) → min s n + bit (t && ltb n s) ≡ min s (n + bit t)
+    more n true = taken n (ltb n s) refl
+    more n false = omega arith
+
+pub lowest-all : (s : ℕ) (p : ℕ → Bool) (k : ℕ) → count p k < s → (v : ℕ) → v < k → lowest s p v ≡ p v
+unfolding lowest
+lowest-all s p k few v l = rw (lt-ltb (count p v) s (omega (arith, count-mono p v k (omega arith)))) (and-true (p v))
+
+pub lowest-passes : (s : ℕ) (p : ℕ → Bool) (v : ℕ) → lowest s p v ≡ true → p v ≡ true
+unfolding lowest
+lowest-passes s p v e = and-left (p v) (ltb (count p v) s) e
+
+pub lowest-same : (s v : ℕ) (p q : ℕ → Bool) → ((u : ℕ) → u ≤ v → p u ≡ q u) → lowest s p v ≡ lowest s q v
+unfolding lowest
+lowest-same s v p q h = ap₂ (λ t n. t && ltb n s) (h v (omega arith)) (count-same v p q (λ u l. h u (omega arith)))
+
+pub all-at : (k : ℕ) (p : ℕ → Bool) → allBelow k p ≡ true → (v : ℕ) → v < k → p v ≡ true
+unfolding allBelow
+all-at zero p e v l = absurd (omega arith)
+all-at (suc k) p e v l =
+    below-cases (λ u. p u ≡ true) k (all-at k p (and-left (allBelow k p) (p k) e)) (and-right (allBelow k p) (p k) e) v l
+
+pub all-intro : (k : ℕ) (p : ℕ → Bool) → ((v : ℕ) → v < k → p v ≡ true) → allBelow k p ≡ true
+unfolding allBelow
+all-intro zero p h = refl
+all-intro (suc k) p h = ap₂ _&&_ (all-intro k p (λ v l. h v (omega arith))) (h k (omega arith))
+
+pub all-same : (k : ℕ) (p q : ℕ → Bool) → ((v : ℕ) → v < k → p v ≡ q v) → allBelow k p ≡ allBelow k q
+unfolding allBelow
+all-same zero p q h = refl
+all-same (suc k) p q h = ap₂ _&&_ (all-same k p q (λ v l. h v (omega arith))) (h k (omega arith))
+
+pub all-fails : (k : ℕ) (p : ℕ → Bool) (v : ℕ) → v < k → p v ≡ false → allBelow k p ≡ false
+all-fails k p v l e = go (allBelow k p) refl
+  where
+    go : (t : Bool) → allBelow k p ≡ t → t ≡ false
+    go true all = cc (all-at k p all v l)
+    go false some = refl
+
+-- The least number below k that fails a test: all below it pass.
+pub record LeastFailing (k : ℕ) (p : ℕ → Bool) : Type 0 where
+  pub at : ℕ
+  pub below : at < k
+  pub fails : p at ≡ false
+  pub others : (u : ℕ) → u < at → p u ≡ true
+
+pub least-failing : (k : ℕ) (p : ℕ → Bool) → allBelow k p ≡ false → LeastFailing k p
+unfolding allBelow
+least-failing zero p e = absurd (true≢false e)
+least-failing (suc k) p e = go (least-failing k p) (allBelow k p) refl
+  where
+    go : (allBelow k p ≡ false → LeastFailing k p) → (t : Bool) → allBelow k p ≡ t → LeastFailing (suc k) p
+    go earlier false some =
+        let w = earlier some in
+        record { at = w .at; below = omega arith; fails = w .fails; others = w .others }
+    go earlier true all = record { at = k; below = omega arith; fails = rw all at e; others = all-at k p all }

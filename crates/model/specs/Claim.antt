@@ -1,0 +1,132 @@
+-- Demand 3 of document 01, read off the model: what holds of a task set, its allocation and a list of calls that starts fresh.
+use Prim.Native.Nat.{ℕ, _+_, _≤_, _<_, _^_}
+use mathlib.Core.Path.{_≡_}
+use mathlib.Core.Bool.{Bool, true, false, cond}
+use mathlib.Core.List.{List, [], _∷_, _++_, map}
+use lib.ListN.{length}
+use Rattle.sheet.specs.declared.task.Budget.{Budget}
+use Rattle.sheet.specs.declared.task.Task.{Task}
+use Rattle.sheet.specs.declared.task.TaskSet.{TaskSet}
+use Rattle.shares.specs.declared.share.Share.{Share}
+use Rattle.shares.specs.Totals.{shareIn, shareAt}
+use Rattle.model.specs.Row.{Fixed, Row, lowLevel, highLevel, precedes, allEnded, running}
+use Rattle.model.specs.Step.{Model, Call, release, Answer, accepted, ran, switched, refused, step, rowAt}
+use Rattle.model.specs.Run.{after, answers, isAccepted, ticksIn, releasesIn, TrueReports}
+use Rattle.model.specs.Budget.{Keeps}
+use Rattle.sheet.specs.Format.{taskIn}
+use Rattle.model.specs.Plan.{fresh}
+
+-- 01, Dispatch: a job begins with an accepted Release: one of task i in a list of calls, the calls before it and those since.
+pub record ReleaseIn (start : Model) (i : ℕ) (calls : List Call) : Type 0 where
+  pub before : List Call
+  pub since : List Call
+  pub list : calls ≡ before ++ release i ∷ since
+  pub accepted : isAccepted (after start before) (release i) ≡ true
+
+-- The model just after that Release.
+unfoldable pub begun : {start : Model} {i : ℕ} {calls : List Call} → ReleaseIn start i calls → Model
+begun {start} {i} r = step (after start (r .before)) (release i) .model
+
+-- The lengths of the nodes of a task's job keep a budget: each is at least 1, their total keeps the work, every chain's the span.
+unfoldable pub KeepsBudget : Task → Budget → (ℕ → ℕ) → Type 0
+KeepsBudget t b lengths = Keeps (t .nodes) (precedes (t .predecessors)) (b .work) (b .span) lengths
+
+-- 01, Dispatch: a job has ended when all its nodes have; it is then no longer alive.
+pub record Ended (t : Task) (r : Row) : Type 0 where
+  pub nodes : allEnded (t .nodes) (r .job .ended) ≡ true
+  pub gone : r .job .alive ≡ false
+
+-- D accepted ticks have followed the release that left the model m, and no other Release of task i was accepted since. (A job that is
+-- not the last of its task in a list is so in a shorter list.)
+pub record DeadlinePassed (t : Task) (i : ℕ) (m : Model) (since : List Call) : Type 0 where
+  pub last : releasesIn i m since ≡ 0
+  pub ticks : t .figures .deadline ≤ ticksIn m since
+
+-- Each job of a task of this level whose lengths keep this budget, with true reports, has ended once D accepted ticks have
+-- followed its release, whatever the other tasks do.
+unfoldable pub EndInTime : ℕ → (Task → Budget) → TaskSet → List Share → List Call → Type 0
+EndInTime level budget ts shares calls =
+    (i : ℕ) (job : ReleaseIn (fresh ts shares) i calls) (lengths : ℕ → ℕ) →
+    taskIn ts i .level ≡ level →
+    KeepsBudget (taskIn ts i) (budget (taskIn ts i)) lengths →
+    TrueReports i lengths (begun job) (job .since) →
+    DeadlinePassed (taskIn ts i) i (begun job) (job .since) →
+    Ended (taskIn ts i) (rowAt (after (fresh ts shares) calls) i)
+
+-- Demand 3, deadline: each high job whose lengths keep its overload budgets, with true reports, has ended once D accepted ticks
+-- have followed its release, whatever the other tasks do.
+unfoldable pub Deadline : TaskSet → List Share → List Call → Type 0
+Deadline ts shares calls = EndInTime highLevel (λ t. t .figures .overload) ts shares calls
+
+-- The same of each low job that keeps its budgets, if the state stayed typical: it is so after the list, and the critical state
+-- lasts.
+unfoldable pub LowDeadline : TaskSet → List Share → List Call → Type 0
+LowDeadline ts shares calls =
+    after (fresh ts shares) calls .critical ≡ false → EndInTime lowLevel (λ t. t .figures .nominal) ts shares calls
+
+-- The sum of a number over the rows.
+abbrev pub totalOf : (Row → ℕ) → List Row → ℕ
+totalOf f [] = 0
+totalOf f (r ∷ rows) = f r + totalOf f rows
+
+-- The number of running nodes of a task.
+unfoldable pub runningCount : Bool → Row → ℕ
+runningCount critical r = length (running critical r)
+
+-- Demand 3, capacity: at every moment, so on each accepted tick, no task runs more nodes than its share, nor all together more
+-- than M.
+pub record Capacity (ts : TaskSet) (shares : List Share) (m : Model) : Type 0 where
+  pub each : (i : ℕ) → runningCount (m .critical) (rowAt m i) ≤ shareIn (m .critical) (shareAt shares i)
+  pub together : totalOf (runningCount (m .critical)) (m .rows) ≤ ts .processors
+
+-- A job of a task whose lengths keep its nominal budgets, with true reports.
+pub record NominalJob (t : Task) (i : ℕ) (m : Model) (since : List Call) : Type 0 where
+  pub lengths : ℕ → ℕ
+  pub keeps : KeepsBudget t (t .figures .nominal) lengths
+  pub reports : TrueReports i lengths m since
+
+-- Whether the answer says that a tick switched.
+abbrev pub isSwitched : Answer → Bool
+isSwitched accepted = false
+isSwitched ran = false
+isSwitched (switched task) = true
+isSwitched (refused r) = false
+
+-- Whether none of the answers says so.
+abbrev pub noneSwitched : List Answer → Bool
+noneSwitched [] = true
+noneSwitched (a ∷ answers) = cond (isSwitched a) false (noneSwitched answers)
+
+-- The state is typical after the list and no answer says that a tick switched.
+pub record StaysTypical (start : Model) (calls : List Call) : Type 0 where
+  pub typical : after start calls .critical ≡ false
+  pub answered : noneSwitched (answers start calls) ≡ true
+
+-- Demand 3, nominal: if all high jobs keep their nominal budgets under true reports, the state never turns critical and no tick
+-- answers that it switched, whatever the low tasks do.
+unfoldable pub Nominal : TaskSet → List Share → List Call → Type 0
+Nominal ts shares calls =
+    ((i : ℕ) (job : ReleaseIn (fresh ts shares) i calls) →
+    taskIn ts i .level ≡ highLevel → NominalJob (taskIn ts i) i (begun job) (job .since)) →
+    StaysTypical (fresh ts shares) calls
+
+-- What soundness says of one task's job: age ≤ D; the ended set names only nodes below k; an alive job has a node not ended.
+pub record SoundRow (r : Row) : Type 0 where
+  pub age : r .job .age ≤ r .fixed .deadline
+  pub ended : r .job .ended < 2 ^ r .fixed .nodes
+  pub alive : r .job .alive ≡ true → allEnded (r .fixed .nodes) (r .job .ended) ≡ false
+
+-- What is fixed of a row.
+abbrev pub fixedOf : Row → Fixed
+fixedOf r = r .fixed
+
+-- What no call changes stays: levels, k, predecessors, deadlines, V and shares. And each row stays sound.
+pub record Lasting (ts : TaskSet) (shares : List Share) (m : Model) : Type 0 where
+  pub fixed : map fixedOf (m .rows) ≡ map fixedOf (fresh ts shares .rows)
+  pub sound : (i : ℕ) → SoundRow (rowAt m i)
+
+-- Demand 3 over one list of calls. Every prefix of the list is a list, so this speaks of every moment.
+pub record Demand3 (ts : TaskSet) (shares : List Share) (calls : List Call) : Type 0 where
+  pub deadline : Deadline ts shares calls
+  pub capacity : Capacity ts shares (after (fresh ts shares) calls)
+  pub nominal : Nominal ts shares calls

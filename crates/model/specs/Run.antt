@@ -1,0 +1,76 @@
+-- A list of calls: the model after it, its answers, its accepted ticks, on which of them a node runs, and true reports.
+use Prim.Native.Nat.{ℕ, _+_}
+use mathlib.Core.Path.{_≡_}
+use mathlib.Core.Bool.{Bool, true, false, cond, _&&_}
+use mathlib.Core.List.{List, [], _∷_, _++_}
+use mathlib.Core.Option.{Option, none, some}
+use lib.Dec.{eqb}
+use lib.ListN.{getD}
+use Rattle.nodes.specs.Sets.{has}
+use Rattle.model.specs.Row.{runningSet}
+use Rattle.model.specs.Step.{Model, Call, release, tick, Answer, Refusal, step, refusalOf, rowAt}
+
+-- 01, Dispatch: each call gets what the call before it returned, a refused one too: the model after a list of calls.
+abbrev pub after : Model → List Call → Model
+after m [] = m
+after m (c ∷ calls) = after (step m c .model) calls
+
+-- The answers of a list of calls.
+abbrev pub answers : Model → List Call → List Answer
+answers m [] = []
+answers m (c ∷ calls) = step m c .answer ∷ answers (step m c .model) calls
+
+-- Whether there is no refusal.
+abbrev pub isNone : Option Refusal → Bool
+isNone none = true
+isNone (some r) = false
+
+-- Whether the call is accepted: none of its rows holds.
+unfoldable pub isAccepted : Model → Call → Bool
+isAccepted m c = isNone (refusalOf m c)
+
+-- Whether the call is an accepted tick.
+abbrev pub isTick : Model → Call → Bool
+isTick m (release i) = false
+isTick m (tick reports) = isAccepted m (tick reports)
+
+-- Whether the call is an accepted Release of task i.
+abbrev pub isReleaseOf : ℕ → Model → Call → Bool
+isReleaseOf i m (release j) = eqb i j && isAccepted m (release j)
+isReleaseOf i m (tick reports) = false
+
+-- How many calls of a list pass a test that may look at the model just before the call.
+abbrev pub countCalls : (Model → Call → Bool) → Model → List Call → ℕ
+countCalls p m [] = 0
+countCalls p m (c ∷ calls) = cond (p m c) 1 0 + countCalls p (step m c .model) calls
+
+-- 01, Dispatch: only accepted ticks count: their number in a list of calls.
+abbrev pub ticksIn : Model → List Call → ℕ
+ticksIn m calls = countCalls isTick m calls
+
+-- The number of accepted Releases of task i in a list of calls.
+abbrev pub releasesIn : ℕ → Model → List Call → ℕ
+releasesIn i m calls = countCalls (isReleaseOf i) m calls
+
+-- Whether node v of task i is running.
+unfoldable pub isRunning : ℕ → ℕ → Model → Bool
+isRunning i v m = has (runningSet (m .critical) (rowAt m i)) v
+
+-- 01, Dispatch: a node runs on an accepted tick if it is running just before it, by the shares of the state that then stands.
+abbrev pub runsOn : ℕ → ℕ → Model → Call → Bool
+runsOn i v m c = isTick m c && isRunning i v m
+
+-- The number of accepted ticks of a list on which node v of task i runs.
+abbrev pub runsIn : ℕ → ℕ → Model → List Call → ℕ
+runsIn i v m calls = countCalls (runsOn i v) m calls
+
+-- 01, Dispatch: a node's length is run with the tick that brings the number of such ticks since the job's release up to that length.
+-- The reports of the job of task i whose release left the model m are true over the calls that follow, up to the next accepted
+-- Release of i: each accepted tick reports of i just the nodes that run on it and whose length is run with it.
+unfoldable pub TrueReports : ℕ → (ℕ → ℕ) → Model → List Call → Type 0
+TrueReports i lengths m calls =
+    (before : List Call) (reports : List ℕ) (rest : List Call) →
+    calls ≡ before ++ tick reports ∷ rest →
+    releasesIn i m before ≡ 0 →
+    isAccepted (after m before) (tick reports) ≡ true →
+    (v : ℕ) → has (getD reports i 0) v ≡ (isRunning i v (after m before) && eqb (runsIn i v m before + 1) (lengths v))
