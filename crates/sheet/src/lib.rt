@@ -4,5 +4,5 @@ mod directory;
 mod numbers;
 pub mod reader;
 mod record;
-mod rules;
+pub mod rules;
 pub mod task;

@@ -1,0 +1,82 @@
+-- Bytes laid over a buffer: what is laid behind what was laid is one piece, pair after pair.
+use Prim.Native.Nat.{ℕ, zero, suc, _+_, _*_, _≤_}
+use mathlib.Core.Path.{_≡_, refl, sym, ap, _∙_}
+use mathlib.Core.List.{List, [], _∷_, _++_, append-assoc, append-nil}
+use native.Mathlib.Nat.{add-zero}
+use native.Mathlib.Numerals.{add-one}
+use native.Mathlib.Omega.{arith}
+use lib.ListN.{length, take, drop, set, length-append, length-drop, take-append-drop}
+use lib.Seq.{sets-eq, take-at, drop-append-add, drop-drop, length-take-le}
+use Rattle.nodes.specs.Sets.{range}
+use Rattle.planner.specs.Enumeration.{each}
+use Rattle.planner.specs.Writing.{laid}
+
+pub laid-none : (at : ℕ) (old : List ℕ) → laid at [] old ≡ old
+unfolding laid
+laid-none at old = rw (add-zero at, append-nil (take at old)) (take-append-drop at old)
+
+pub laid-length : (at : ℕ) (bytes old : List ℕ) → at + length bytes ≤ length old → length (laid at bytes old) ≡ length old
+unfolding laid
+laid-length at bytes old fit =
+    simp (length-append, length-drop) (omega (arith, length-take-le at old (omega arith)))
+
+pub laid-pair : (at x y : ℕ) (old : List ℕ) → at + 2 ≤ length old → set (set old at x) (at + 1) y ≡ laid at (x ∷ y ∷ []) old
+unfolding laid
+laid-pair at x y old fit = rw (add-one at) (sets-eq (x ∷ y ∷ []) old at fit)
+
+pub laid-more : (at : ℕ) (bytes more old : List ℕ) → at + length bytes ≤ length old →
+    laid (at + length bytes) more (laid at bytes old) ≡ laid at (bytes ++ more) old
+unfolding laid
+laid-more at bytes more old fit =
+    let front : length (take at old ++ bytes) ≡ at + length bytes =
+    length-append (take at old) bytes ∙ ap (λ (x : ℕ). x + length bytes) (length-take-le at old (omega arith)) in
+    let end : length (take at old ++ bytes) + length more ≡ at + length bytes + length more = ap (λ (x : ℕ). x + length more) front in
+    let all : at + length (bytes ++ more) ≡ at + length bytes + length more = simp length-append (omega arith) in
+    ap (λ (l : List ℕ). l ++ more ++ drop (at + length bytes + length more) (take at old ++ bytes ++ drop (at + length bytes) old))
+    (take-at (take at old ++ bytes) (drop (at + length bytes) old) (at + length bytes) front)
+    ∙ ap (λ (l : List ℕ). take at old ++ bytes ++ more ++ l)
+    (ap (λ (x : ℕ). drop x (take at old ++ bytes ++ drop (at + length bytes) old)) (sym end)
+    ∙ drop-append-add (take at old ++ bytes) (drop (at + length bytes) old) (length more)
+    ∙ drop-drop (length more) (at + length bytes) old
+    ∙ ap (λ (x : ℕ). drop x old) (sym all))
+    ∙ ap (λ (l : List ℕ). l ++ drop (at + length (bytes ++ more)) old) (append-assoc (take at old) bytes more)
+
+-- The bytes of one number more.
+module _ (f : ℕ → List ℕ) where
+  each-snoc : (first count : ℕ) → each (range first (suc count)) f ≡ each (range first count) f ++ f (first + count)
+  unfolding range
+  each-snoc first zero = let e : first + 0 ≡ first = omega arith in rw e (append-nil (f first))
+  each-snoc first (suc count) =
+      let e : suc first + count ≡ first + suc count = omega arith in
+      ap (λ (l : List ℕ). f first ++ l) (each-snoc (suc first) count ∙ ap (λ (x : ℕ). each (range (suc first) count) f ++ f x) e)
+      ∙ sym (append-assoc (f first) (each (range (suc first) count) f) (f (first + suc count)))
+
+  pub each-next : (count : ℕ) → each (range 0 (count + 1)) f ≡ each (range 0 count) f ++ f count
+  each-next count =
+      let e : 0 + count ≡ count = omega arith in
+      rw (add-one count) (each-snoc 0 count ∙ ap (λ (x : ℕ). each (range 0 count) f ++ f x) e)
+
+  each-length : ((i : ℕ) → length (f i) ≡ 2) → (first count : ℕ) → length (each (range first count) f) ≡ 2 * count
+  unfolding range
+  each-length two first zero = refl
+  each-length two first (suc count) =
+      length-append (f first) (each (range (suc first) count) f)
+      ∙ omega (arith, two first, each-length two (suc first) count)
+
+  pub pairs-length : ((i : ℕ) → length (f i) ≡ 2) → (count : ℕ) → length (each (range 0 count) f) ≡ 2 * count
+  pairs-length two = each-length two 0
+
+  -- A pair laid behind i pairs.
+  module _ (two : (i : ℕ) → length (f i) ≡ 2) (at i : ℕ) (old buffer : List ℕ) (fit : at + 2 * i ≤ length old)
+      (done : buffer ≡ laid at (each (range 0 i) f) old) where
+    so-far : at + length (each (range 0 i) f) ≡ at + 2 * i
+    so-far = ap (λ (x : ℕ). at + x) (pairs-length two i)
+
+    pub pairs-more : laid (at + 2 * i) (f i) buffer ≡ laid at (each (range 0 (i + 1)) f) old
+    pairs-more =
+        rw (done, ← so-far)
+        (laid-more at (each (range 0 i) f) (f i) old (omega (arith, so-far))
+        ∙ ap (λ (l : List ℕ). laid at l old) (sym (each-next i)))
+
+    pub pairs-room : length buffer ≡ length old
+    pairs-room = ap length done ∙ laid-length at (each (range 0 i) f) old (omega (arith, so-far))

@@ -1,0 +1,86 @@
+-- The rules of a record, taken apart: the figures' ranges and order, and what a low and a heavy task have.
+use Prim.Native.Nat.{ℕ, _≤_, _<_}
+use mathlib.Core.Path.{_≡_, refl}
+use mathlib.Core.Bool.{Bool, true, false, _&&_, _||_, not, false≢true}
+use lib.Dec.{leb, eqb}
+use borrow.Author.Tests.{leb-true, ltb-true, eqb-true}
+use Rattle.sheet.specs.declared.task.Figures.{Figures}
+use Rattle.sheet.specs.Rules.{within, figureLimit, inRange, inOrder, lowLawful, figuresLawful, isHeavy}
+use Rattle.sheet.proofs.Logic.{left-true, right-true}
+
+-- A number in a range.
+pub within-from : (low high x : ℕ) → within low high x ≡ true → low ≤ x
+within-from low high x e = leb-true low x (left-true (leb low x) (leb x high) e)
+
+pub within-to : (low high x : ℕ) → within low high x ≡ true → x ≤ high
+within-to low high x e = leb-true x high (right-true (leb low x) (leb x high) e)
+
+-- The parts of four tests that hold together.
+pub all-four : (p q r s : Bool) → p && q && r && s ≡ true → (p ≡ true) × (q ≡ true) × (r ≡ true) × (s ≡ true)
+all-four true true true true e = (refl, refl, refl, refl)
+all-four true true true false e = absurd (false≢true e)
+all-four true true false s e = absurd (false≢true e)
+all-four true false r s e = absurd (false≢true e)
+all-four false q r s e = absurd (false≢true e)
+
+-- What the figures of a lawful task keep.
+pub record Kept (f : Figures) : Type 0 where
+  pub deadline-from : 1 ≤ f .deadline
+  pub deadline-to : f .deadline ≤ figureLimit
+  pub span-from : 1 ≤ f .nominal .span
+  pub span-work : f .nominal .span ≤ f .nominal .work
+  pub works : f .nominal .work ≤ f .overload .work
+  pub spans : f .nominal .span ≤ f .overload .span
+
+module _ (level : ℕ) (f : Figures) (lawful : figuresLawful level f ≡ true) where
+  in-range : inRange f ≡ true
+  unfolding figuresLawful
+  in-range = left-true _ _ (left-true (inRange f && inOrder f) _ lawful)
+
+  in-order : inOrder f ≡ true
+  unfolding figuresLawful
+  in-order = right-true (inRange f) _ (left-true (inRange f && inOrder f) _ lawful)
+
+  low-kept : lowLawful level f ≡ true
+  unfolding figuresLawful
+  low-kept = right-true (inRange f && inOrder f) _ lawful
+
+  pub figures-kept : Kept f
+  unfolding inRange inOrder
+  figures-kept =
+      let ranges = all-four
+      (within 1 figureLimit (f .deadline) && within 1 figureLimit (f .nominal .work))
+      (within 1 figureLimit (f .overload .work))
+      (within 1 figureLimit (f .nominal .span))
+      (within 1 figureLimit (f .overload .span)) in-range in
+      let deadline = left-true (within 1 figureLimit (f .deadline)) (within 1 figureLimit (f .nominal .work)) (ranges .0) in
+      let orders = all-four
+      (leb (f .nominal .span) (f .nominal .work) && leb (f .overload .span) (f .overload .work))
+      (leb (f .nominal .work) (f .overload .work))
+      (leb (f .nominal .span) (f .overload .span))
+      _ in-order in
+      record {
+        deadline-from = within-from 1 figureLimit _ deadline;
+        deadline-to = within-to 1 figureLimit _ deadline;
+        span-from = within-from 1 figureLimit _ (ranges .2);
+        span-work = leb-true _ _ (left-true (leb (f .nominal .span) (f .nominal .work)) _ (orders .0));
+        works = leb-true _ _ (orders .1);
+        spans = leb-true _ _ (orders .2);
+      }
+
+  -- A low task has CN = CO and LN = LO.
+  pub low-equal : eqb level 0 ≡ true → (f .nominal .work ≡ f .overload .work) × (f .nominal .span ≡ f .overload .span)
+  unfolding lowLawful
+  low-equal low =
+      let both = go (eqb level 0) low low-kept in (
+        eqb-true _ _ (left-true (eqb (f .nominal .work) (f .overload .work)) _ both),
+        eqb-true _ _ (right-true (eqb (f .nominal .work) (f .overload .work)) _ both),
+      )
+    where
+      go : {rest : Bool} (t : Bool) → t ≡ true → not t || rest ≡ true → rest ≡ true
+      go true e h = h
+      go false e h = absurd (false≢true e)
+
+pub heavy-work : (f : Figures) → isHeavy f ≡ true → f .deadline < f .overload .work
+unfolding isHeavy
+heavy-work f heavy = ltb-true _ _ heavy

@@ -1,0 +1,16 @@
+-- Laws that belong to no one function.
+pub mod Members
+pub mod Ranks
+pub mod Firsts
+pub mod Optimal
+pub mod Lawfulness
+pub mod Offers
+pub mod Cells
+pub mod Lines
+pub mod Walk
+pub mod Sets
+pub mod Bytes
+pub mod Parts
+pub mod Accepted
+pub mod Laws
+pub mod Plans

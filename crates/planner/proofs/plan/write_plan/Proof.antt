@@ -1,0 +1,47 @@
+-- `plan::write_plan` meets its contract: three parts, one behind the other.
+use native.Mathlib.Omega.{arith}
+use denote.Ref.{now}
+use Rattle.planner.proofs.Plans.{parts-laid}
+use borrow.Author.Needs.{needs}
+use Rattle.planner.proofs.plan.write_plan.Statement.{statement}
+use Rattle.planner.proofs.plan.write_plan.Tie as tie
+
+cast-count : tie.Need-cast-count
+cast-count c = search needs
+
+write-blocks-requires : tie.Need-write-blocks-requires
+write-blocks-requires c κs = search needs
+
+mul-write-blocks : tie.Need-mul-write-blocks
+mul-write-blocks c = search needs
+
+write-blocks-requires-2 : tie.Need-write-blocks-requires-2
+write-blocks-requires-2 c κs = search needs
+
+mul-write-virtuals : tie.Need-mul-write-virtuals
+mul-write-virtuals c = search needs
+
+write-virtuals-requires : tie.Need-write-virtuals-requires
+write-virtuals-requires c κs = search needs
+
+same-length : tie.Need-same-length
+same-length c = search needs
+
+returns : tie.Need-returns
+returns c =
+    let start = c .before .before .before .before .before .before .before .before .before .before .before .before .before in
+    parts-laid (start .args .set) (start .args .shares) (now (start .args .buffer)) (omega arith) _ _ _
+    (c .before .before .before .before .before .before .before .before .before .before .write-blocks .ensures) (c .before .before .before .before .before .before .write-blocks2 .ensures) (c .before .before .write-virtuals .ensures)
+
+pub write-plan-spec : {M : Type 1} → statement M
+write-plan-spec =
+    tie.close
+    (tie.spec
+    cast-count
+    write-blocks-requires
+    mul-write-blocks
+    write-blocks-requires-2
+    mul-write-virtuals
+    write-virtuals-requires
+    same-length
+    returns)

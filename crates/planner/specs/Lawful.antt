@@ -1,0 +1,26 @@
+-- What the tasks of an accepted sheet keep, as facts.
+use Prim.Native.Nat.{ℕ, _≤_, _<_}
+use mathlib.Core.Path.{_≡_}
+use mathlib.Core.Bool.{true}
+use lib.ListN.{length}
+use Rattle.sheet.specs.declared.task.Task.{Task}
+use Rattle.sheet.specs.declared.task.TaskSet.{TaskSet}
+use Rattle.sheet.specs.Format.{taskIn}
+use Rattle.sheet.specs.Rules.{levelLawful, within, figuresLawful, masksLawful, isHeavy}
+
+-- 01, "The sheet": the rules of one record.
+pub record LawfulTask (t : Task) : Type 0 where
+  pub level : levelLawful (t .level) ≡ true
+  pub nodes : within 1 32 (t .nodes) ≡ true
+  pub figures : figuresLawful (t .level) (t .figures) ≡ true
+  pub masks : masksLawful (t .predecessors) (t .nodes) ≡ true
+  pub heavy : isHeavy (t .figures) ≡ true
+
+-- 01, "The sheet": M is 1 to 64, n is 1 to 16, and each of the n tasks keeps the rules.
+pub record LawfulSet (set : TaskSet) : Type 0 where
+  pub some-processors : 1 ≤ set .processors
+  pub few-processors : set .processors ≤ 64
+  pub some-tasks : 1 ≤ set .count
+  pub few-tasks : set .count ≤ 16
+  pub all-there : length (set .tasks) ≡ 16
+  pub lawful : (i : ℕ) → i < set .count → LawfulTask (taskIn set i)

@@ -1,0 +1,9 @@
+-- In reading order: lists by enumeration, the choices and their order, the blocks, the plan and its answers; then what a
+-- task set from an accepted reading keeps, and the totals that the selection works with.
+pub mod Enumeration
+pub mod Choice
+pub mod Blocks
+pub mod Plan
+pub mod Writing
+pub mod Lawful
+pub mod Selection
