@@ -1,0 +1,19 @@
+-- `dispatcher::entry::ticked` meets its contract: each field is what its callee ensures. Assumes nothing.
+use borrow.Author.Needs.{needs}
+use Rattle.model.specs.Row.{joined, tickedRow}
+use Rattle.dispatcher.specs.Holds.{fixedOf, jobOf, rowOf, withJob}
+use Rattle.dispatcher.proofs.entry.ticked.Statement.{statement}
+use Rattle.dispatcher.proofs.entry.ticked.Tie as tie
+
+older-requires : tie.Need-older-requires
+older-requires c κs = search needs
+
+all-ended-requires : tie.Need-all-ended-requires
+all-ended-requires c κs = search needs
+
+returns : tie.Need-returns
+unfolding withJob tickedRow joined rowOf fixedOf jobOf
+returns c = cc
+
+pub ticked-spec : {M : Type 1} → statement M
+ticked-spec = tie.close (tie.spec older-requires all-ended-requires returns)

@@ -1,0 +1,66 @@
+-- What a state holds of the model: its entries as rows, and how a model's rows are written back.
+use mathlib.Core.List.{List, [], _∷_, map}
+use lib.ListN.{take}
+use Rattle.model.specs.Row.{Fixed, Job, Row}
+use Rattle.model.specs.Step.{Model}
+use Rattle.dispatcher.specs.declared.state.TaskState.{TaskState}
+use Rattle.dispatcher.specs.declared.state.State.{State}
+
+-- 01, Dispatch: an entry's level, k, masks, D, V and both shares.
+unfoldable pub fixedOf : TaskState → Fixed
+fixedOf e =
+    record {
+      level = e .level;
+      nodes = e .nodes;
+      predecessors = e .predecessors;
+      deadline = e .deadline;
+      virtual = e .threshold;
+      share = e .share;
+    }
+
+-- 01, Dispatch: an entry's age, the set of ended nodes and whether a job is alive.
+unfoldable pub jobOf : TaskState → Job
+jobOf e = record { age = e .age; ended = e .ended; alive = e .alive }
+
+-- An entry as a row of the model.
+unfoldable pub rowOf : TaskState → Row
+rowOf e = record { fixed = fixedOf e; job = jobOf e }
+
+-- The entry with another job, and all else as it was.
+unfoldable pub withJob : TaskState → Job → TaskState
+withJob e job =
+    record {
+      level = e .level;
+      nodes = e .nodes;
+      predecessors = e .predecessors;
+      deadline = e .deadline;
+      threshold = e .threshold;
+      share = e .share;
+      age = job .age;
+      ended = job .ended;
+      alive = job .alive;
+    }
+
+-- The entries that are read: 01, Dispatch: "Entries from n on .. are unread and handed back".
+unfoldable pub entriesOf : State → List TaskState
+entriesOf s = take (s .count) (s .entries)
+
+-- The model that a state holds: its mode, and its first n entries as rows.
+unfoldable pub modelOf : State → Model
+modelOf s = record { critical = s .critical; rows = map rowOf (entriesOf s) }
+
+-- The entries with the jobs of the rows; an entry that no row stands for is handed back.
+abbrev pub withRows : List TaskState → List Row → List TaskState
+withRows [] rows = []
+withRows (e ∷ entries) [] = e ∷ entries
+withRows (e ∷ entries) (r ∷ rows) = withJob e (r .job) ∷ withRows entries rows
+
+-- The state with a model's mode and jobs, and all else as it was.
+unfoldable pub withModel : State → Model → State
+withModel s m =
+    record {
+      processors = s .processors;
+      count = s .count;
+      critical = m .critical;
+      entries = withRows (s .entries) (m .rows);
+    }

@@ -1,0 +1,95 @@
+// Board.
+ghost use mathlib.Core.Path.{_≡_};
+ghost use mathlib.Core.Bool.{true};
+ghost use Prim.Native.Nat.{_+_, _*_, _≤_};
+ghost use lib.ListN.{length, replicate};
+ghost use lib.Seq.{sets};
+ghost use Rattle.nodes.specs.Sets.{members};
+ghost use Rattle.dispatcher.specs.Holds.{modelOf};
+ghost use Rattle.dispatcher.specs.Sound.{isSound};
+ghost use Rattle.dispatcher.specs.Board.{unused, idle, pairsOf, boardBytes, boardedOf, boardOf};
+use crate::entry::running;
+use crate::entry::share_in;
+use crate::sound::NOT_SOUND;
+use crate::sound::is_sound;
+use crate::state::State;
+use sheet::answer::Answer;
+use sheet::answer::NO_TASK;
+
+const WRONG_LENGTH: u8 = 16;
+
+const UNUSED: u8 = 255;
+
+// Board's answer beside the state.
+pub struct Boarded {
+    pub state: State,
+    pub answer: Answer,
+}
+
+// Sets every byte to 255.
+fn clear(buffer: &mut [u8])
+    ensures { λ _. ⌜ now (buffer .exit) ≡ replicate (length (now (buffer .entry))) unused ⌝ }
+{
+    let mut at: usize = 0;
+    while at < buffer.len() {
+        buffer[at] = UNUSED;
+        at += 1;
+    }
+}
+
+// Writes a pair for each of a task's nodes, lowest first, from a place on.
+fn put_nodes(buffer: &mut [u8], at: usize, task: u8, nodes: u32)
+    requires { ⌜ at + 2 * length (members 32 nodes) ≤ length (now buffer) ⌝ }
+    ensures { λ _. ⌜ now (buffer .exit) ≡ sets (now (buffer .entry)) at (pairsOf task (members 32 nodes)) ⌝ }
+{
+    let mut place = at;
+    let mut rest = nodes;
+    while rest != 0 {
+        let v = u32::trailing_zeros(rest);
+        buffer[place] = task;
+        buffer[place + 1] = v as u8;
+        rest -= 1 << v;
+        place += 2;
+    }
+}
+
+// Writes each task's running nodes to the front of its block, on a board that shows nothing.
+fn put_tasks(buffer: &mut [u8], state: State)
+    requires { ⌜ (isSound state ≡ true) × (now buffer ≡ idle (state .processors)) ⌝ }
+    ensures { λ _. ⌜ now (buffer .exit) ≡ boardBytes (state .processors) (modelOf state) ⌝ }
+{
+    let n = state.count;
+    let mut at: usize = 0;
+    let mut i: u8 = 0;
+    while i < n {
+        let e = state.entries[i as usize];
+        put_nodes(buffer, at, i, running(e, state.critical));
+        at += 2 * (share_in(e, state.critical) as usize);
+        i += 1;
+    }
+}
+
+// Board: writes the 2M bytes that show which node each processor runs; a refusal writes nothing. The state comes back as it is.
+pub fn board(state: State, buffer: &mut [u8]) -> Boarded
+    ensures answered { λ r. ⌜ r ≡ boardedOf state (length (now (buffer .entry))) ⌝ }
+    ensures written { λ _. ⌜ now (buffer .exit) ≡ boardOf state (now (buffer .entry)) ⌝ }
+{
+    if !is_sound(state) {
+        return Boarded {
+            state,
+            answer: Answer::Refused(NOT_SOUND, NO_TASK),
+        };
+    }
+    if buffer.len() != 2 * (state.processors as usize) {
+        return Boarded {
+            state,
+            answer: Answer::Refused(WRONG_LENGTH, NO_TASK),
+        };
+    }
+    clear(buffer);
+    put_tasks(buffer, state);
+    Boarded {
+        state,
+        answer: Answer::Accepted,
+    }
+}

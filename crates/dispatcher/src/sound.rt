@@ -1,0 +1,65 @@
+// Soundness of a state.
+ghost use mathlib.Core.Path.{_≡_};
+ghost use mathlib.Core.Bool.{true, false, _&&_};
+ghost use Prim.Native.Nat.{_≤_};
+ghost use lib.Dec.{leb};
+ghost use Rattle.dispatcher.specs.Holds.{entriesOf, modelOf};
+ghost use Rattle.dispatcher.specs.Sound.{entrySound, entriesSound, sharesIn, isSound};
+use crate::entry::all_ended;
+use crate::state::State;
+use crate::state::TaskState;
+use sheet::rules::is_within;
+use sheet::rules::masks_lawful;
+
+pub const NOT_SOUND: u8 = 10;
+
+const FIGURE_LIMIT: u32 = 10000;
+
+fn entry_sound(e: TaskState) -> bool
+    ensures { λ r. ⌜ r ≡ entrySound e ⌝ }
+{
+    let nodes = e.nodes;
+    if !is_within(1, 32, nodes as u32) {
+        return false;
+    }
+    let predecessors = e.predecessors;
+    (e.level <= 1)
+        & masks_lawful(predecessors, nodes)
+        & is_within(1, FIGURE_LIMIT, e.deadline)
+        & (e.threshold <= e.deadline)
+        & (e.age <= e.deadline)
+        & (e.ended <= nodes::full(nodes as u32))
+        & !(e.alive & all_ended(nodes, e.ended))
+}
+
+// Whether each of the first n entries is sound, and their shares total at most M in either mode.
+fn entries_sound(state: State) -> bool
+    requires { ⌜ state .count ≤ 16 ⌝ }
+    ensures { λ r. ⌜ r ≡ (entriesSound (entriesOf state) && leb (sharesIn false (modelOf state .rows)) (state .processors) && leb (sharesIn true (modelOf state .rows)) (state .processors)) ⌝ }
+{
+    let n = state.count as usize;
+    let processors = state.processors as u32;
+    let mut typical: u32 = 0;
+    let mut critical: u32 = 0;
+    let mut i: usize = 0;
+    while i < n {
+        let e = state.entries[i];
+        if !entry_sound(e) {
+            return false;
+        }
+        typical += e.share.typical as u32;
+        critical += e.share.critical as u32;
+        i += 1;
+    }
+    (typical <= processors) & (critical <= processors)
+}
+
+// Whether the state is sound.
+pub fn is_sound(state: State) -> bool
+    ensures { λ r. ⌜ r ≡ isSound state ⌝ }
+{
+    if !(is_within(1, 64, state.processors as u32) & is_within(1, 16, state.count as u32)) {
+        return false;
+    }
+    entries_sound(state)
+}
