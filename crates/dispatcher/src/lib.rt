@@ -3,5 +3,6 @@ pub mod board;
 mod entry;
 pub mod release;
 mod sound;
+pub mod start;
 pub mod state;
 pub mod tick;

@@ -1,0 +1,12 @@
+-- `dispatcher::start::zero_entry` meets its contract. Assumes nothing.
+use Rattle.dispatcher.specs.Start.{zeroEntry}
+use mathlib.Core.Path.{refl}
+use Rattle.dispatcher.proofs.start.zero_entry.Statement.{statement}
+use Rattle.dispatcher.proofs.start.zero_entry.Tie as tie
+
+returns : tie.Need-returns
+unfolding zeroEntry
+returns c = refl
+
+pub zero-entry-spec : {M : Type 1} → statement M
+zero-entry-spec = tie.close (tie.spec returns)

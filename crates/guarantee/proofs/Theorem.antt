@@ -1,0 +1,74 @@
+-- Demand 3: the run on Start's state goes together with the model, of which the model's theorem holds.
+use Prim.Native.Nat.{ℕ}
+use mathlib.Core.Bool.{true}
+use mathlib.Core.List.{List}
+use mathlib.Core.Option.{some}
+use mathlib.Core.Path.{_≡_, refl, sym, ap, _∙_}
+use Rattle.sheet.specs.declared.answer.Answer.{Answer}
+use Rattle.sheet.specs.declared.answer.Answer.the-variants.{Accepted, Refused}
+use Rattle.sheet.specs.Reading.{readOf}
+use Rattle.planner.specs.Lawful.{LawfulSet}
+use Rattle.planner.specs.Plan.{chosenFor, choiceAnswer}
+use Rattle.planner.proofs.Accepted.{both-accepted, accepted-lawful}
+use Rattle.planner.proofs.Plans.{accepted-choice}
+use Rattle.model.specs.Step.{Model, Call}
+use Rattle.model.specs.Run.{after}
+use Rattle.model.proofs.Theorem.{demand3}
+use Rattle.dispatcher.specs.declared.state.State.{State}
+use Rattle.dispatcher.specs.Holds.{modelOf}
+use Rattle.dispatcher.specs.Sound.{isSound}
+use Rattle.dispatcher.specs.Start.{freshState, startAnswer, startedWith, startOf}
+use Rattle.guarantee.specs.Runs.{allModelSaid}
+use Rattle.guarantee.specs.Guarantee.{tasksOf, sharesFor, modelFor, startState, Guaranteed, Guarantee}
+use Rattle.guarantee.proofs.Together.{run-said, run-model}
+use Rattle.guarantee.proofs.Planning.{planned}
+use Rattle.guarantee.proofs.Freshness.{fresh-model, fresh-sound}
+
+-- Start's answer is the one that it returns.
+answer-returned : (a : Answer) (fresh : State) → startedWith a fresh .answer ≡ a
+answer-returned Accepted fresh = refl
+answer-returned (Refused number task) fresh = refl
+
+module _ (sheet : List ℕ) (accepted : startOf sheet .answer ≡ Accepted) where
+  answered : startAnswer sheet ≡ Accepted
+  unfolding startOf
+  answered = sym (answer-returned (startAnswer sheet) _) ∙ accepted
+
+  rows-passed : (readOf sheet .answer ≡ Accepted) × (choiceAnswer (readOf sheet .set) ≡ Accepted)
+  unfolding startAnswer
+  rows-passed = both-accepted (readOf sheet .answer) (choiceAnswer (readOf sheet .set)) answered
+
+  lawful : LawfulSet (tasksOf sheet)
+  unfolding tasksOf
+  lawful = accepted-lawful sheet (rows-passed .0)
+
+  chosen-it : chosenFor (tasksOf sheet) ≡ some (sharesFor sheet)
+  unfolding tasksOf sharesFor
+  chosen-it = accepted-choice (readOf sheet .set) (rows-passed .1)
+
+  state-is : startState sheet ≡ freshState (tasksOf sheet) (sharesFor sheet)
+  unfolding startState startOf tasksOf sharesFor
+  state-is = ap (λ (a : Answer). startedWith a (freshState (readOf sheet .set) (sharesFor sheet)) .state) answered
+
+  state-sound : isSound (startState sheet) ≡ true
+  state-sound = rw state-is (fresh-sound (tasksOf sheet) lawful (sharesFor sheet) chosen-it)
+
+  state-model : modelOf (startState sheet) ≡ modelFor sheet
+  unfolding modelFor
+  state-model = rw state-is (fresh-model (tasksOf sheet) lawful (sharesFor sheet) chosen-it)
+
+  guaranteed : (calls : List Call) → Guaranteed sheet calls
+  unfolding modelFor
+  guaranteed calls =
+      let whole = demand3 (tasksOf sheet) (sharesFor sheet) (planned (tasksOf sheet) lawful (sharesFor sheet) chosen-it) calls in
+      record {
+        answers = run-said (startState sheet) state-sound calls ∙ ap (λ (m : Model). allModelSaid m calls) state-model;
+        states = run-model (startState sheet) state-sound calls ∙ ap (λ (m : Model). after m calls) state-model;
+        deadline = whole .deadline;
+        capacity = whole .capacity;
+        nominal = whole .nominal;
+      }
+
+pub guarantee : Guarantee
+unfolding Guarantee
+guarantee = guaranteed

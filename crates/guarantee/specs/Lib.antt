@@ -1,0 +1,3 @@
+-- In reading order: lists of calls on a state, then the claim.
+pub mod Runs
+pub mod Guarantee
