@@ -1,0 +1,469 @@
+#!/usr/bin/env python3
+"""Writes a sheet of tasks from a readable text, and prints a sheet back as such a text.
+
+    sheet.py write TEXT [-o SHEET]     text to bytes
+    sheet.py print SHEET [-o TEXT]     bytes to text
+    sheet.py check TEXT                only says what the reader would refuse
+
+A tool for the host. It is no part of the image, and nothing is proved of it: the planner reads the bytes itself and
+takes nothing on this tool's word.
+
+The text, where # begins a comment and the lines of a task stand in any order:
+
+    processors 8
+    task brake: high                 # a name is for people only; tasks are numbered from 0
+      deadline 45
+      nominal work 9 span 4
+      overload work 52 span 20
+      nodes 3
+      node 2 after 0 1               # a node without such a line has no predecessors
+    task lamp: low
+      deadline 18
+      work 66 span 6                 # the same figures in both cases
+      nodes 1
+
+An error is what can't be written, such as a number that does not fit its bytes; it names the line, nothing is written
+and the exit status is 1. What can be written but breaks a rule of the sheet (refusals 1 and 3 to 6) is written, with a
+warning that gives the refusal's number; so a refused sheet can be tried too. Refusals 7 and 8 are left to the planner.
+"""
+
+import argparse
+import re
+import sys
+from dataclasses import dataclass, field
+
+BYTE, WORD = 0xFF, 0xFFFF
+BITS = 32
+FIXED = 12  # bytes of a record before its masks
+MAX_PROCESSORS, MAX_TASKS, MAX_NODES, MAX_FIGURE = 64, 16, 32, 10_000
+LEVELS = {"low": 0, "high": 1}
+FIGURES = ("deadline", "work_nominal", "work_overload", "span_nominal", "span_overload")  # in the record's order
+
+
+@dataclass
+class Task:
+    name: str
+    level: int
+    predecessors: list = field(default_factory=list)  # one mask for each node
+    deadline: int = 0
+    work_nominal: int = 0
+    work_overload: int = 0
+    span_nominal: int = 0
+    span_overload: int = 0
+    places: dict = field(default_factory=dict)  # where each part was read: a line of a text, an offset of a sheet
+
+
+@dataclass
+class Sheet:
+    processors: int
+    tasks: list
+    places: dict = field(default_factory=dict)
+
+
+@dataclass
+class Fault:
+    """A rule of the sheet that is broken: the refusal's number and task, the place, and the cause."""
+
+    number: int
+    task: int
+    place: int
+    cause: str
+
+
+class SheetError(Exception):
+    """What can't be written or printed. `place` is a line of a text or an offset of a sheet."""
+
+    def __init__(self, place, message):
+        super().__init__(message)
+        self.place = place
+
+
+# Text to sheet.
+
+GRAMMAR = {
+    "processors": "processors N",
+    "task": "task NAME: high|low",
+    "deadline": "deadline N",
+    "nominal": "nominal work N span N",
+    "overload": "overload work N span N",
+    "work": "work N span N",
+    "nodes": "nodes N",
+    "node": "node N after N ...",
+}
+
+
+def quoted(text):
+    """A piece of the text for a message: short, and safe to show."""
+    shown = "".join(c if c.isprintable() else "?" for c in text[:60])
+    return f"'{shown}'" if len(text) <= 60 else f"'{shown}...'"
+
+
+def number_of(line, what, word, most):
+    if not re.fullmatch("[0-9]+", word):
+        raise SheetError(line, f"{what}: expected a number, got {quoted(word)}")
+    digits = word.lstrip("0") or "0"
+    if len(digits) > 9 or int(digits) > most:
+        raise SheetError(line, f"{what}: expected a number from 0 to {most}, got {quoted(word)}")
+    return int(digits)
+
+
+def shaped(line, words):
+    """The words that stand where the line's grammar has N; all others must be as in it."""
+    grammar = GRAMMAR[words[0]]
+    expected = grammar.split()
+    if len(words) != len(expected) or any(e not in ("N", w) for e, w in zip(expected, words)):
+        raise SheetError(line, f"expected '{grammar}', got {quoted(' '.join(words))}")
+    return [w for e, w in zip(expected, words) if e == "N"]
+
+
+def claim(places, line, key, what):
+    """Notes that this part stands on this line; a part is said once."""
+    if key in places:
+        raise SheetError(line, f"{what} is given twice, first on line {places[key]}")
+    places[key] = line
+
+
+def lines_of(data):
+    """The numbered lines of a text as words, without comments and empty lines."""
+    for line, raw in enumerate(data.split(b"\n"), 1):
+        try:
+            text = raw.decode("utf-8-sig" if line == 1 else "utf-8")
+        except UnicodeDecodeError:
+            raise SheetError(line, "expected text in UTF-8") from None
+        text = text.partition("#")[0].strip()
+        if text:
+            yield line, text
+
+
+def task_line(line, text):
+    found = re.fullmatch(r"task\b([^:]*):\s*(\S+)", text)
+    if not found:
+        raise SheetError(line, f"expected '{GRAMMAR['task']}', got {quoted(text)}")
+    name, level = found.group(1).strip(), found.group(2)
+    if level in LEVELS:
+        return Task(name, LEVELS[level])
+    if not level.isdigit():
+        raise SheetError(line, f"level: expected high or low, got {quoted(level)}")
+    return Task(name, number_of(line, "level", level, BYTE))
+
+
+def figures_line(task, line, words):
+    """`nominal work N span N`, `overload work N span N`, or `work N span N` for both."""
+    for what, word in zip(("work", "span"), shaped(line, words)):
+        value = number_of(line, what, word, WORD)
+        for case in ("nominal", "overload") if words[0] == "work" else (words[0],):
+            claim(task.places, line, f"{what}_{case}", f"the {case} {what}")
+            setattr(task, f"{what}_{case}", value)
+
+
+def node_line(task, nodes, line, words):
+    """`node N after N ...`: the predecessors are kept as a mask until the number of nodes is known."""
+    if len(words) < 4 or words[2] != "after":
+        raise SheetError(line, f"expected '{GRAMMAR['node']}', got {quoted(' '.join(words))}")
+    node = number_of(line, "node", words[1], BYTE)
+    claim(task.places, line, ("node", node), f"node {node}")
+    mask = 0
+    for word in words[3:]:
+        bit = 1 << number_of(line, "predecessor", word, BITS - 1)
+        if mask & bit:
+            raise SheetError(line, f"predecessor {word} is named twice")
+        mask |= bit
+    nodes[node] = mask
+
+
+def part_line(task, nodes, line, words):
+    key = words[0]
+    if key == "deadline":
+        claim(task.places, line, key, "the deadline")
+        task.deadline = number_of(line, key, *shaped(line, words), WORD)
+    elif key == "nodes":
+        claim(task.places, line, key, "the number of nodes")
+        task.predecessors = [0] * number_of(line, key, *shaped(line, words), BYTE)
+    elif key == "node":
+        node_line(task, nodes, line, words)
+    else:
+        figures_line(task, line, words)
+
+
+def finish(task, nodes):
+    """Every part is there, and every node line names a node of the task."""
+    for part, key in (
+        ("deadline", "deadline"),
+        ("work_nominal", "nominal"),
+        ("work_overload", "overload"),
+        ("nodes", "nodes"),
+    ):
+        if part not in task.places:
+            raise SheetError(task.places["task"], f"task {quoted(task.name)}: expected a line '{GRAMMAR[key]}'")
+    count = len(task.predecessors)
+    for node, mask in nodes.items():
+        if node >= count:
+            raise SheetError(task.places["node", node], f"node: expected a number below {count}, the nodes, got {node}")
+        task.predecessors[node] = mask
+
+
+def parse(data):
+    """The sheet that a text says."""
+    sheet, nodes, end = Sheet(0, []), [], 1
+    for line, text in lines_of(data):
+        end, words = line, text.split()
+        key = re.match(r"[^\s:]*", text).group()
+        if key not in GRAMMAR:
+            raise SheetError(line, f"expected one of {', '.join(GRAMMAR)} at the line's start, got {quoted(words[0])}")
+        if key == "processors":
+            claim(sheet.places, line, key, "the number of processors")
+            sheet.processors = number_of(line, key, *shaped(line, words), BYTE)
+        elif key == "task":
+            task = task_line(line, text)
+            task.places["task"] = line
+            sheet.tasks.append(task)
+            nodes.append({})
+            if len(sheet.tasks) > BYTE:
+                raise SheetError(line, f"expected at most {BYTE} tasks")
+        elif not sheet.tasks:
+            raise SheetError(line, f"expected '{GRAMMAR['task']}' before '{key}'")
+        else:
+            part_line(sheet.tasks[-1], nodes[-1], line, words)
+    if "processors" not in sheet.places:
+        raise SheetError(end, f"expected a line '{GRAMMAR['processors']}'")
+    sheet.places["tasks"] = end
+    for task, masks in zip(sheet.tasks, nodes):
+        finish(task, masks)
+    return sheet
+
+
+# Sheet to bytes.
+
+
+def encode_task(task):
+    record = bytes([task.level, len(task.predecessors)])
+    for figure in FIGURES:
+        record += getattr(task, figure).to_bytes(2, "little")
+    for mask in task.predecessors:
+        record += mask.to_bytes(4, "little")
+    return record
+
+
+def encode(sheet):
+    """The sheet's bytes: processors, number of tasks, a pair (offset, length) for each record, the records."""
+    directory, records, start = b"", b"", 2 + 4 * len(sheet.tasks)
+    for index, task in enumerate(sheet.tasks):
+        record = encode_task(task)
+        offset = start + len(records)
+        if offset > WORD:
+            raise SheetError(task.places["task"], f"task {index} begins at byte {offset}; expected at most {WORD}")
+        directory += offset.to_bytes(2, "little") + len(record).to_bytes(2, "little")
+        records += record
+    return bytes([sheet.processors, len(sheet.tasks)]) + directory + records
+
+
+# Bytes to sheet.
+
+
+def word_at(data, offset):
+    return int.from_bytes(data[offset : offset + 2], "little")
+
+
+def decode_task(data, index, offset, length):
+    if length < 2:
+        raise SheetError(offset, f"task {index}: expected a record of {FIXED} bytes and 4 for each node, got {length}")
+    count = data[offset + 1]
+    if length != FIXED + 4 * count:
+        raise SheetError(
+            offset, f"task {index}: expected a record of {FIXED + 4 * count} bytes for {count} nodes, got {length}"
+        )
+    task = Task(str(index), data[offset])
+    task.places = {"task": offset, "nodes": offset + 1}
+    for place, figure in enumerate(FIGURES):
+        task.places[figure] = offset + 2 + 2 * place
+        setattr(task, figure, word_at(data, task.places[figure]))
+    for node in range(count):
+        place = offset + FIXED + 4 * node
+        task.predecessors.append(int.from_bytes(data[place : place + 4], "little"))
+        task.places["node", node] = place
+    return task
+
+
+def decode(data):
+    """The sheet that bytes hold. Bytes of another format are an error, named by offset and task."""
+    if len(data) < 2:
+        raise SheetError(len(data), f"expected at least 2 bytes, got {len(data)}")
+    count = data[1]
+    place = 2 + 4 * count
+    if len(data) < place:
+        raise SheetError(len(data), f"expected {count} pairs up to offset {place}, got {len(data)} bytes")
+    pairs = []
+    for index in range(count):
+        at = 2 + 4 * index
+        offset, length = word_at(data, at), word_at(data, at + 2)
+        if offset != place:
+            raise SheetError(at, f"task {index}: expected a record at offset {place}, got {offset}")
+        pairs.append((offset, length))
+        place += length
+    if place != len(data):
+        where = f"task {count - 1}" if count else "no task"
+        raise SheetError(min(place, len(data)), f"{where}: expected the sheet's end at offset {place}, got {len(data)}")
+    sheet = Sheet(data[0], [], {"processors": 0, "tasks": 1})
+    for index, (offset, length) in enumerate(pairs):
+        sheet.tasks.append(decode_task(data, index, offset, length))
+    return sheet
+
+
+# Sheet to text.
+
+
+def render_task(index, task):
+    names = {number: name for name, number in LEVELS.items()}
+    lines = [f"task {index}: {names.get(task.level, task.level)}", f"  deadline {task.deadline}"]
+    nominal = f"work {task.work_nominal} span {task.span_nominal}"
+    overload = f"work {task.work_overload} span {task.span_overload}"
+    lines += [f"  {nominal}"] if nominal == overload else [f"  nominal {nominal}", f"  overload {overload}"]
+    lines.append(f"  nodes {len(task.predecessors)}")
+    for node, mask in enumerate(task.predecessors):
+        if mask:
+            before = " ".join(str(j) for j in range(BITS) if mask >> j & 1)
+            lines.append(f"  node {node} after {before}")
+    return "\n".join(lines) + "\n"
+
+
+def render(sheet):
+    parts = [f"processors {sheet.processors}\n"]
+    parts += [render_task(index, task) for index, task in enumerate(sheet.tasks)]
+    return "\n".join(parts)
+
+
+# What the reader would refuse.
+
+
+def figure_causes(task):
+    """The broken rules among the task's figures, each with a figure that it is about."""
+    for figure in FIGURES:
+        value = getattr(task, figure)
+        if not 1 <= value <= MAX_FIGURE:
+            what = " ".join(reversed(figure.split("_")))
+            yield figure, f"the {what} is {value}; expected 1 to {MAX_FIGURE}"
+    work, span = task.work_nominal, task.span_nominal
+    more_work, more_span = task.work_overload - work, task.span_overload - span
+    if span > work:
+        yield "span_nominal", f"the nominal span {span} exceeds the nominal work {work}"
+    if task.span_overload > task.work_overload:
+        yield "span_overload", f"the overload span {task.span_overload} exceeds the overload work {task.work_overload}"
+    if more_work < 0:
+        yield "work_overload", f"the nominal work {work} exceeds the overload work {task.work_overload}"
+    if more_span < 0:
+        yield "span_overload", f"the nominal span {span} exceeds the overload span {task.span_overload}"
+    if 0 <= more_work < more_span:
+        yield "work_overload", f"the overload adds {more_work} to the work and more, {more_span}, to the span"
+    if task.level == LEVELS["low"] and (more_work or more_span):
+        yield "work_overload", "a low task has the same work and span in both cases"
+
+
+def task_faults(index, task):
+    count = len(task.predecessors)
+    if task.level not in LEVELS.values():
+        yield Fault(3, index, task.places["task"], f"the level is {task.level}; expected 0 (low) or 1 (high)")
+    if not 1 <= count <= MAX_NODES:
+        yield Fault(3, index, task.places["nodes"], f"the task has {count} nodes; expected 1 to {MAX_NODES}")
+    for part, cause in figure_causes(task):
+        yield Fault(4, index, task.places[part], cause)
+    for node, mask in enumerate(task.predecessors):
+        if mask >> node:
+            cause = f"node {mask.bit_length() - 1} can't precede node {node}; expected lower numbers"
+            yield Fault(5, index, task.places["node", node], cause)
+    if task.work_overload <= task.deadline:
+        cause = f"the overload work {task.work_overload} does not exceed the deadline {task.deadline}"
+        yield Fault(6, index, task.places["work_overload"], cause)
+
+
+def faults(sheet):
+    """All that the reader would refuse, in its order: its answer is the first."""
+    found = []
+    if not 1 <= sheet.processors <= MAX_PROCESSORS:
+        cause = f"there are {sheet.processors} processors; expected 1 to {MAX_PROCESSORS}"
+        found.append(Fault(1, 255, sheet.places["processors"], cause))
+    if not 1 <= len(sheet.tasks) <= MAX_TASKS:
+        cause = f"there are {len(sheet.tasks)} tasks; expected 1 to {MAX_TASKS}"
+        found.append(Fault(1, 255, sheet.places["tasks"], cause))
+    for index, task in enumerate(sheet.tasks):
+        found += task_faults(index, task)
+    return found
+
+
+# The commands.
+
+
+def read_input(path):
+    if path == "-":
+        return sys.stdin.buffer.read()
+    with open(path, "rb") as source:
+        return source.read()
+
+
+def write_output(path, data):
+    if path is not None:
+        with open(path, "wb") as target:
+            target.write(data)
+        return
+    sys.stdout.buffer.write(data)
+    sys.stdout.buffer.flush()
+
+
+def located(path, place, of_text):
+    return f"{path}:{place}" if of_text else f"{path}: offset {place}"
+
+
+def warn(path, found, of_text):
+    for fault in found:
+        task = "" if fault.task == 255 else f"task {fault.task}, "
+        where = located(path, fault.place, of_text)
+        print(f"{where}: warning: {task}refusal {fault.number}: {fault.cause}", file=sys.stderr)
+
+
+def run(options):
+    of_text = options.command != "print"
+    path = options.file
+    try:
+        data = read_input(path)
+        sheet = parse(data) if of_text else decode(data)
+        output = encode(sheet) if of_text else render(sheet).encode()
+        found = faults(sheet)
+        warn(path, found, of_text)
+        if options.command == "check":
+            if not found:
+                count = "1 task" if len(sheet.tasks) == 1 else f"{len(sheet.tasks)} tasks"
+                print(f"{path}: the reader takes this sheet: {count}, {len(output)} bytes")
+            return 1 if found else 0
+        if options.command == "write" and options.output is None and sys.stdout.isatty():
+            print(f"{path}: a sheet is bytes, not text: give -o FILE, or a pipe", file=sys.stderr)
+            return 1
+        write_output(options.output, output)
+        return 0
+    except SheetError as error:
+        print(f"{located(path, error.place, of_text)}: error: {error}", file=sys.stderr)
+        return 1
+    except OSError as error:
+        print(f"{error.filename or path}: error: {error.strerror}", file=sys.stderr)
+        return 1
+
+
+def main(arguments=None):
+    parser = argparse.ArgumentParser(
+        description=__doc__,
+        formatter_class=argparse.RawDescriptionHelpFormatter,
+        usage="sheet.py COMMAND FILE [-o FILE]",
+    )
+    commands = parser.add_subparsers(dest="command", required=True, metavar="COMMAND")
+    for name, what in (
+        ("write", "write a sheet's bytes from a text"),
+        ("print", "print a sheet's bytes as a text"),
+        ("check", "only say what the reader would refuse"),
+    ):
+        command = commands.add_parser(name, help=what)
+        command.add_argument("file", help="the file to read; - for standard input")
+        if name != "check":
+            command.add_argument("-o", dest="output", metavar="FILE", help="where to write, if not to standard output")
+    return run(parser.parse_args(arguments))
+
+
+if __name__ == "__main__":
+    sys.exit(main())

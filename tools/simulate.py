@@ -1,0 +1,167 @@
+#!/usr/bin/env python3
+"""Shows, tick by tick, how one job of a task runs on the processors it was given.
+
+    simulate.py TEXT [--task I] --shares A [B] --lengths N ...
+
+TEXT is a sheet as text (see sheet.py), A and B are the task's typical and critical share as the plan gives them, and
+there is one length in ticks for each node. The job is released at tick 0. On every tick the lowest-numbered ready nodes
+run, as many as the share allows. A high job that is alive at its virtual deadline turns the state critical.
+
+    --virtual-deadline V   another virtual deadline than the plan's, nominal span + (work - span) / A rounded down
+    --switch-after T       another task turns the state critical with tick T of this job (0: before its first)
+    --switch-each          one line for every such T that this job leaves open
+
+An illustration for the host. It is no part of the image, and nothing is proved of it.
+"""
+
+import argparse
+import sys
+from dataclasses import dataclass
+
+import sheet as sheets
+
+
+@dataclass
+class Tick:
+    critical: bool  # the state that stood while the tick ran
+    running: list
+    ended: list
+    switched: bool
+
+
+@dataclass
+class Run:
+    ticks: list
+    dropped: bool
+
+    @property
+    def switch(self):
+        """The tick with which the state turned critical, or None."""
+        return next((number for number, tick in enumerate(self.ticks, 1) if tick.switched), None)
+
+
+def virtual_deadline(task, typical):
+    return task.span_nominal + (task.work_nominal - task.span_nominal) // typical if task.level else 0
+
+
+def longest_chain(task, lengths):
+    chains = []
+    for length, mask in zip(lengths, task.predecessors):
+        chains.append(length + max((c for j, c in enumerate(chains) if mask >> j & 1), default=0))
+    return max(chains)
+
+
+def running_nodes(task, ended, share):
+    ready = [v for v, mask in enumerate(task.predecessors) if v not in ended and not mask & ~mask_of(ended)]
+    return ready[:share]
+
+
+def mask_of(nodes):
+    return sum(1 << node for node in nodes)
+
+
+def simulate(task, shares, lengths, virtual, switch_after=None):
+    """Runs the job to its end; a low job without a critical share is dropped where the state turns critical."""
+    left, ended, ticks = list(lengths), set(), []
+    critical = switch_after == 0
+    while len(ended) < len(left):
+        if critical and not task.level:
+            return Run(ticks, True)
+        running = running_nodes(task, ended, shares[critical])
+        for node in running:
+            left[node] -= 1
+        now = [node for node in running if left[node] == 0]
+        ended.update(now)
+        age = len(ticks) + 1
+        overrun = task.level and len(ended) < len(left) and age >= virtual
+        switched = not critical and bool(overrun or age == switch_after)
+        ticks.append(Tick(critical, running, now, switched))
+        critical = critical or switched
+    return Run(ticks, False)
+
+
+def verdict(task, run):
+    if run.dropped:
+        return f"dropped after tick {len(run.ticks)}"
+    late = "" if len(run.ticks) <= task.deadline else ", too late"
+    return f"ended after tick {len(run.ticks)}, deadline {task.deadline}{late}"
+
+
+def budget(task, lengths):
+    work, span = sum(lengths), longest_chain(task, lengths)
+    kept = "no budget"
+    if work <= task.work_overload and span <= task.span_overload:
+        kept = "the overload budget"
+    if work <= task.work_nominal and span <= task.span_nominal:
+        kept = "the nominal budget"
+    return f"work {work}, longest chain {span}: keeps {kept}"
+
+
+def print_run(task, run):
+    rows = [("tick", "state", "running", "ended", "")]
+    for number, tick in enumerate(run.ticks, 1):
+        lists = [" ".join(map(str, nodes)) for nodes in (tick.running, tick.ended)]
+        state = "critical" if tick.critical else "typical"
+        rows.append((str(number), state, *lists, "switched" if tick.switched else ""))
+    widths = [max(len(row[column]) for row in rows) for column in range(5)]
+    for row in rows:
+        print("  ".join(cell.ljust(width) for cell, width in zip(row, widths)).rstrip())
+    switch = "no switch" if run.switch is None else f"switched after tick {run.switch}"
+    print(f"{verdict(task, run)}, {switch}")
+
+
+def print_each(task, shares, lengths, virtual):
+    own = simulate(task, shares, lengths, virtual)
+    last = own.switch if own.switch is not None else len(own.ticks)
+    for after in range(last):
+        run = simulate(task, shares, lengths, virtual, after)
+        print(f"switch after tick {after}: {verdict(task, run)}")
+    switch = "no switch" if own.switch is None else f"its own switch after tick {own.switch}"
+    print(f"{switch}: {verdict(task, own)}")
+
+
+def chosen_task(parser, options):
+    """The task, with shares and lengths that suit it; the parser's error ends the program."""
+    try:
+        sheet = sheets.parse(sheets.read_input(options.file))
+    except sheets.SheetError as error:
+        parser.error(f"{options.file}:{error.place}: {error}")
+    except OSError as error:
+        parser.error(f"{options.file}: {error.strerror}")
+    for fault in sheets.faults(sheet):
+        parser.error(f"{options.file}:{fault.place}: refusal {fault.number}: {fault.cause}")
+    if not 0 <= options.task < len(sheet.tasks):
+        parser.error(f"--task: expected a number below {len(sheet.tasks)}, the tasks, got {options.task}")
+    task = sheet.tasks[options.task]
+    expected = 1 + task.level
+    if len(options.shares) != expected or min(options.shares) < 1:
+        parser.error(f"--shares: expected {expected}, each at least 1, for a {'high' if task.level else 'low'} task")
+    if len(options.lengths) != len(task.predecessors) or min(options.lengths) < 1:
+        parser.error(f"--lengths: expected {len(task.predecessors)}, one for each node, each at least 1")
+    return task
+
+
+def main(arguments=None):
+    parser = argparse.ArgumentParser(description=__doc__, formatter_class=argparse.RawDescriptionHelpFormatter)
+    parser.add_argument("file", metavar="TEXT")
+    parser.add_argument("--task", type=int, default=0, metavar="I")
+    parser.add_argument("--shares", type=int, nargs="+", required=True, metavar="N")
+    parser.add_argument("--lengths", type=int, nargs="+", required=True, metavar="N")
+    parser.add_argument("--virtual-deadline", type=int, metavar="V")
+    parser.add_argument("--switch-after", type=int, metavar="T")
+    parser.add_argument("--switch-each", action="store_true")
+    options = parser.parse_args(arguments)
+    task = chosen_task(parser, options)
+    virtual = options.virtual_deadline
+    if virtual is None:
+        virtual = virtual_deadline(task, options.shares[0])
+    print(budget(task, options.lengths))
+    if options.switch_each:
+        print_each(task, options.shares, options.lengths, virtual)
+    else:
+        print_run(task, simulate(task, options.shares, options.lengths, virtual, options.switch_after))
+    return 0
+
+
+if __name__ == "__main__":
+    sys.exit(main())

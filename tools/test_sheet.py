@@ -1,0 +1,314 @@
+"""Tests of sheet.py: the bytes of the cases, both ways round, every error and every warning with its line."""
+
+import contextlib
+import io
+import pathlib
+import random
+import subprocess
+import sys
+import tempfile
+import unittest
+
+import sheet as sheets
+
+HERE = pathlib.Path(__file__).resolve().parent
+EXAMPLES = sorted((HERE.parent / "examples").glob("*.sheet"))
+
+LAWFUL = """\
+processors 8
+task brake: high
+  deadline 45
+  nominal work 9 span 4
+  overload work 52 span 20
+  nodes 3
+  node 2 after 0 1
+task lamp: low
+  deadline 18
+  work 66 span 6
+  nodes 1
+"""
+
+
+def record(level, figures, masks):
+    words = b"".join(figure.to_bytes(2, "little") for figure in figures)
+    return bytes([level, len(masks)]) + words + b"".join(mask.to_bytes(4, "little") for mask in masks)
+
+
+CASE_14 = (
+    bytes([8, 3, 14, 0, 16, 0, 30, 0, 16, 0, 46, 0, 16, 0])
+    + record(1, (45, 9, 52, 4, 20), [0])
+    + record(1, (54, 11, 80, 4, 42), [0])
+    + record(0, (18, 66, 66, 6, 6), [0])
+)
+
+
+def random_bytes(rng):
+    """The bytes of a sheet in which every field is anything that fits."""
+    records = []
+    for _ in range(rng.randrange(0, 20)):
+        figures = [rng.choice((0, 1, 9999, 10_001, 65_535, rng.randrange(65_536))) for _ in range(5)]
+        if rng.random() < 0.3:
+            figures[2], figures[4] = figures[1], figures[3]
+        masks = [rng.choice((0, rng.randrange(1 << 32))) for _ in range(rng.choice((0, 1, 2, 32, 33, 255)))]
+        records.append(record(rng.choice((0, 1, 7, 255)), figures, masks))
+    place, directory = 2 + 4 * len(records), b""
+    for part in records:
+        directory += place.to_bytes(2, "little") + len(part).to_bytes(2, "little")
+        place += len(part)
+    return bytes([rng.randrange(256), len(records)]) + directory + b"".join(records)
+
+
+def edited(old, new):
+    assert LAWFUL.count(old) == 1, old
+    return LAWFUL.replace(old, new)
+
+
+def tool(*arguments, data=b""):
+    """The tool as a program: exit status, standard output, standard error."""
+    done = subprocess.run([sys.executable, HERE / "sheet.py", *arguments], input=data, capture_output=True, check=False)
+    return done.returncode, done.stdout, done.stderr.decode()
+
+
+class Bytes(unittest.TestCase):
+    def test_case_14_byte_for_byte(self):
+        self.assertEqual(len(CASE_14), 62)
+        text = (HERE.parent / "examples" / "case-14.sheet").read_bytes()
+        self.assertEqual(sheets.encode(sheets.parse(text)), CASE_14)
+
+    def test_masks(self):
+        data = sheets.encode(sheets.parse(LAWFUL.encode()))
+        self.assertEqual(data[2:10], bytes([10, 0, 24, 0, 34, 0, 16, 0]))
+        self.assertEqual(data[10:34], record(1, (45, 9, 52, 4, 20), [0, 0, 3]))
+
+    def test_examples_round_trip_and_are_lawful(self):
+        self.assertGreaterEqual(len(EXAMPLES), 7)
+        for path in EXAMPLES:
+            with self.subTest(path.name):
+                sheet = sheets.parse(path.read_bytes())
+                self.assertEqual(sheets.faults(sheet), [])
+                data = sheets.encode(sheet)
+                self.assertEqual(sheets.encode(sheets.parse(sheets.render(sheets.decode(data)).encode())), data)
+
+    def test_random_sheets_round_trip(self):
+        rng = random.Random(1)
+        for _ in range(60):
+            data = random_bytes(rng)
+            sheet = sheets.decode(data)
+            self.assertEqual(sheets.encode(sheet), data)
+            text = sheets.render(sheet)
+            self.assertEqual(sheets.encode(sheets.parse(text.encode())), data)
+            self.assertEqual(sheets.render(sheets.parse(text.encode())), text)
+
+    def test_the_text_that_the_tool_describes(self):
+        text = sheets.__doc__[sheets.__doc__.index("    processors") : sheets.__doc__.index("An error is")]
+        sheet = sheets.parse(text.encode())
+        self.assertEqual([task.name for task in sheet.tasks], ["brake", "lamp"])
+        self.assertEqual(sheets.faults(sheet), [])
+
+    def test_leading_zeros_say_nothing(self):
+        text = edited("processors 8", "processors " + "0" * 5000 + "8")
+        self.assertEqual(sheets.parse(text.encode()).processors, 8)
+
+    def test_line_order_comments_and_line_ends_are_free(self):
+        head, *rest = LAWFUL.split("task lamp: low\n")[0].splitlines()
+        turned = "\r\n".join([*rest[:1], "# c", "", *reversed(rest[1:]), head + "  # eight"])
+        plain = "\n".join([head, *rest])
+        self.assertEqual(*(sheets.encode(sheets.parse(text.encode())) for text in (turned, plain)))
+
+
+class Errors(unittest.TestCase):
+    """Each text is the lawful one with one edit; the error names the line of the edit and what was expected."""
+
+    CASES = [
+        ("processors 8", "processors 256", 1, "processors: expected a number from 0 to 255, got '256'"),
+        ("processors 8", "processors " + "9" * 5000, 1, "expected a number from 0 to 255"),
+        ("processors 8", "processors -1", 1, "processors: expected a number, got '-1'"),
+        ("processors 8", "processors", 1, "expected 'processors N', got 'processors'"),
+        ("processors 8\n", "", 10, "expected a line 'processors N'"),
+        ("processors 8", "deadline 3\nprocessors 8", 1, "before 'deadline'"),
+        ("  deadline 45", "  processors 8", 3, "the number of processors is given twice, first on line 1"),
+        ("task brake: high", "task brake high", 2, "expected 'task NAME: high|low'"),
+        ("task brake: high", "task brake: medium", 2, "level: expected high or low, got 'medium'"),
+        ("task brake: high", "task brake: 256", 2, "level: expected a number from 0 to 255"),
+        ("task brake: high", "tusk brake: high", 2, "expected one of processors, task, deadline"),
+        ("deadline 45", "deadline 65536", 3, "deadline: expected a number from 0 to 65535, got '65536'"),
+        ("deadline 45", "deadline 4 5", 3, "expected 'deadline N', got 'deadline 4 5'"),
+        ("deadline 45", "deadline ４５", 3, "expected a number, got"),
+        ("  deadline 45\n", "", 2, "task 'brake': expected a line 'deadline N'"),
+        ("  nominal work 9 span 4\n", "", 2, "expected a line 'nominal work N span N'"),
+        ("  overload work 52 span 20\n", "", 2, "expected a line 'overload work N span N'"),
+        ("  nodes 1\n", "", 8, "task 'lamp': expected a line 'nodes N'"),
+        ("  deadline 18", "  deadline 18\n  deadline 19", 10, "the deadline is given twice, first on line 9"),
+        ("  nodes 3", "  nodes 3\n  work 9 span 4", 7, "the nominal work is given twice, first on line 4"),
+        ("nominal work 9 span 4", "nominal span 4 work 9", 4, "expected 'nominal work N span N'"),
+        ("overload work 52 span 20", "overload work 52 span x", 5, "span: expected a number, got 'x'"),
+        ("work 66 span 6", "work 70000 span 6", 10, "work: expected a number from 0 to 65535, got '70000'"),
+        ("nodes 3", "nodes 256", 6, "nodes: expected a number from 0 to 255"),
+        ("nodes 1", "nodes 1\n  nodes 1", 12, "the number of nodes is given twice, first on line 11"),
+        ("node 2 after 0 1", "node 3 after 0 1", 7, "node: expected a number below 3, the nodes, got 3"),
+        ("node 2 after 0 1", "node 2 after 32", 7, "predecessor: expected a number from 0 to 31, got '32'"),
+        ("node 2 after 0 1", "node 2 after 0 0", 7, "predecessor 0 is named twice"),
+        ("node 2 after 0 1", "node 2 after", 7, "expected 'node N after N ...'"),
+        ("node 2 after 0 1", "node 2 before 0", 7, "expected 'node N after N ...'"),
+        ("node 2 after 0 1", "node 2 after 0\n  node 2 after 1", 8, "node 2 is given twice, first on line 7"),
+    ]
+
+    def test_each_names_its_line(self):
+        for old, new, line, message in self.CASES:
+            with self.subTest(new=new[:40], line=line):
+                with self.assertRaises(sheets.SheetError) as caught:
+                    sheets.encode(sheets.parse(edited(old, new).encode()))
+                self.assertEqual(caught.exception.place, line)
+                self.assertIn(message, str(caught.exception))
+
+    def test_a_message_is_short_and_printable(self):
+        for text in ("processors " + "9" * 5000, "\x08\x03\x0e\x00" * 100):
+            with self.assertRaises(sheets.SheetError) as caught:
+                sheets.parse(text.encode())
+            self.assertTrue(str(caught.exception).isprintable())
+            self.assertLess(len(str(caught.exception)), 250)
+
+    def test_not_utf_8(self):
+        with self.assertRaises(sheets.SheetError) as caught:
+            sheets.parse(b"processors 8\n\xff\n")
+        self.assertEqual(caught.exception.place, 2)
+
+    def test_too_many_tasks_and_too_long(self):
+        task = "task: high\ndeadline 1\nwork 2 span 1\nnodes {}\n"
+        with self.assertRaises(sheets.SheetError) as caught:
+            sheets.parse(("processors 1\n" + 256 * task.format(1)).encode())
+        self.assertEqual((caught.exception.place, str(caught.exception)), (2 + 4 * 255, "expected at most 255 tasks"))
+        with self.assertRaises(sheets.SheetError) as caught:
+            sheets.encode(sheets.parse(("processors 1\n" + 70 * task.format(255)).encode()))
+        self.assertIn("expected at most 65535", str(caught.exception))
+
+
+class Foreign(unittest.TestCase):
+    """Bytes of another format: the error names the offset and, where there is one, the task."""
+
+    def refuse(self, data, offset, message):
+        with self.assertRaises(sheets.SheetError) as caught:
+            sheets.decode(data)
+        self.assertEqual(caught.exception.place, offset)
+        self.assertIn(message, str(caught.exception))
+
+    def changed(self, offset, value):
+        return CASE_14[:offset] + bytes([value]) + CASE_14[offset + 1 :]
+
+    def test_each_names_its_place(self):
+        self.refuse(b"", 0, "expected at least 2 bytes, got 0")
+        self.refuse(CASE_14[:13], 13, "expected 3 pairs up to offset 14, got 13 bytes")
+        self.refuse(self.changed(2, 15), 2, "task 0: expected a record at offset 14, got 15")
+        self.refuse(self.changed(6, 31), 6, "task 1: expected a record at offset 30, got 31")
+        self.refuse(CASE_14 + b"x", 62, "task 2: expected the sheet's end at offset 62, got 63")
+        self.refuse(CASE_14[:-1], 61, "task 2: expected the sheet's end at offset 62, got 61")
+        self.refuse(self.changed(31, 2), 30, "task 1: expected a record of 20 bytes for 2 nodes, got 16")
+        self.refuse(bytes([1, 1, 6, 0, 1, 0, 1]), 6, "task 0: expected a record of 12 bytes and 4 for each node, got 1")
+        self.refuse(bytes([1, 0, 0]), 2, "no task: expected the sheet's end at offset 2, got 3")
+
+    def test_any_bytes_print_or_are_refused(self):
+        rng = random.Random(2)
+        for _ in range(2000):
+            data = bytearray(CASE_14)
+            for _ in range(rng.randrange(1, 4)):
+                data[rng.randrange(len(data))] = rng.randrange(256)
+            data = bytes(data[: rng.choice((len(data), rng.randrange(len(data))))])
+            with contextlib.suppress(sheets.SheetError):
+                self.assertEqual(sheets.encode(sheets.parse(sheets.render(sheets.decode(data)).encode())), data)
+
+
+class Warnings(unittest.TestCase):
+    """What the reader refuses is written with a warning: refusal, task and line."""
+
+    CASES = [
+        ("processors 8", "processors 0", 1, 255, 1),
+        ("processors 8", "processors 65", 1, 255, 1),
+        ("task brake: high", "task brake: 2", 3, 0, 2),
+        ("nodes 3\n  node 2 after 0 1", "nodes 0", 3, 0, 6),
+        ("nodes 1", "nodes 33", 3, 1, 11),
+        ("deadline 45", "deadline 0", 4, 0, 3),
+        ("overload work 52 span 20", "overload work 10001 span 20", 4, 0, 5),
+        ("nominal work 9 span 4", "nominal work 3 span 4", 4, 0, 4),
+        ("overload work 52 span 20", "overload work 52 span 53", 4, 0, 5),
+        ("nominal work 9 span 4", "nominal work 53 span 4", 4, 0, 5),
+        ("nominal work 9 span 4", "nominal work 40 span 21", 4, 0, 5),
+        ("nominal work 9 span 4", "nominal work 37 span 4", 4, 0, 5),
+        ("work 66 span 6", "nominal work 66 span 6\n  overload work 67 span 6", 4, 1, 11),
+        ("node 2 after 0 1", "node 2 after 2", 5, 0, 7),
+        ("node 2 after 0 1", "node 0 after 31", 5, 0, 7),
+        ("deadline 45", "deadline 52", 6, 0, 5),
+        ("deadline 18", "deadline 66", 6, 1, 10),
+    ]
+
+    def test_each_names_refusal_task_and_line(self):
+        self.assertEqual(sheets.faults(sheets.parse(LAWFUL.encode())), [])
+        for old, new, number, task, line in self.CASES:
+            with self.subTest(new):
+                sheet = sheets.parse(edited(old, new).encode())
+                first = sheets.faults(sheet)[0]
+                self.assertEqual((first.number, first.task, first.place), (number, task, line))
+                sheets.encode(sheet)
+
+    def test_growth_at_its_bound_is_lawful(self):
+        sheet = sheets.parse(edited("nominal work 9 span 4", "nominal work 36 span 4").encode())
+        self.assertEqual(sheets.faults(sheet), [])
+
+    def test_number_of_tasks(self):
+        task = "task: high\ndeadline 1\nwork 2 span 1\nnodes 1\n"
+        for count, found in ((0, [1]), (1, []), (16, []), (17, [1])):
+            sheet = sheets.parse(("processors 1\n" + count * task).encode())
+            self.assertEqual([fault.number for fault in sheets.faults(sheet)], found)
+
+
+class Program(unittest.TestCase):
+    def setUp(self):
+        folder = tempfile.TemporaryDirectory()
+        self.addCleanup(folder.cleanup)
+        self.text = pathlib.Path(folder.name, "a.sheet")
+        self.out = pathlib.Path(folder.name, "a.bin")
+
+    def test_write_print_and_check(self):
+        self.text.write_text(LAWFUL)
+        status, data, errors = tool("write", self.text)
+        self.assertEqual((status, data, errors), (0, sheets.encode(sheets.parse(LAWFUL.encode())), ""))
+        self.assertEqual(tool("write", self.text, "-o", self.out), (0, b"", ""))
+        self.assertEqual(self.out.read_bytes(), data)
+        status, text, errors = tool("print", self.out)
+        self.assertEqual((status, errors), (0, ""))
+        self.assertEqual(tool("write", "-", data=text), (0, data, ""))
+        self.assertEqual(tool("check", self.text)[0], 0)
+
+    def test_an_error_writes_nothing(self):
+        self.text.write_text(edited("deadline 45", "deadline"))
+        status, data, errors = tool("write", self.text, "-o", self.out)
+        self.assertEqual((status, data, self.out.exists()), (1, b"", False))
+        self.assertEqual(errors, f"{self.text}:3: error: expected 'deadline N', got 'deadline'\n")
+        self.assertEqual(tool("write", self.text)[:2], (1, b""))
+
+    def test_a_warning_writes_all_the_same(self):
+        self.text.write_text(edited("deadline 45", "deadline 52"))
+        status, data, errors = tool("write", self.text)
+        self.assertEqual((status, len(data)), (0, 50))
+        self.assertIn(f"{self.text}:5: warning: task 0, refusal 6: ", errors)
+        self.assertEqual(tool("check", self.text)[:2], (1, b""))
+        status, text, errors = tool("print", "-", data=data)
+        self.assertEqual((status, text[:12]), (0, b"processors 8"))
+        self.assertIn("-: offset 16: warning: task 0, refusal 6: ", errors)
+
+    def test_foreign_bytes(self):
+        status, text, errors = tool("print", "-", data=CASE_14[:-1])
+        self.assertEqual((status, text), (1, b""))
+        self.assertEqual(errors, "-: offset 61: error: task 2: expected the sheet's end at offset 62, got 61\n")
+
+    def test_no_such_file(self):
+        status, data, errors = tool("write", self.text)
+        self.assertEqual((status, data), (1, b""))
+        self.assertIn(f"{self.text}: error: No such file", errors)
+
+    def test_no_argument(self):
+        with self.assertRaises(SystemExit), contextlib.redirect_stderr(io.StringIO()):
+            sheets.main([])
+
+
+if __name__ == "__main__":
+    unittest.main()

@@ -1,0 +1,105 @@
+"""Tests of simulate.py: the runs of case 13, the four runs of the examples, and two bounds over random jobs."""
+
+import pathlib
+import random
+import subprocess
+import sys
+import unittest
+
+import sheet as sheets
+import simulate
+
+HERE = pathlib.Path(__file__).resolve().parent
+
+
+def example(name, index=0):
+    return sheets.parse((HERE.parent / "examples" / f"{name}.sheet").read_bytes()).tasks[index]
+
+
+def run_of(task, shares, lengths, virtual=None, switch_after=None):
+    """The tick after which the job ended, and the tick of its switch."""
+    if virtual is None:
+        virtual = simulate.virtual_deadline(task, shares[0])
+    run = simulate.simulate(task, shares, lengths, virtual, switch_after)
+    return len(run.ticks), run.switch
+
+
+def random_job(rng):
+    """Masks, lengths, their work and their longest chain."""
+    count = rng.randrange(1, 9)
+    masks = [sum(1 << j for j in range(v) if rng.random() < 0.3) for v in range(count)]
+    lengths = [rng.randrange(1, 8) for _ in range(count)]
+    task = sheets.Task("", 1, masks)
+    return masks, lengths, sum(lengths), simulate.longest_chain(task, lengths)
+
+
+class Examples(unittest.TestCase):
+    def test_case_13(self):
+        task = example("case-13")
+        self.assertEqual(run_of(task, (1, 2), (4, 3, 2)), (9, None))
+        self.assertEqual(run_of(task, (1, 2), (4, 3, 3))[1], 9)
+
+    def test_a_node_that_ends_early(self):
+        task = example("early-end")
+        self.assertEqual(run_of(task, (3,), (2, 1, 2, 1, 3, 4)), (5, None))
+        self.assertEqual(run_of(task, (3,), (1, 1, 2, 1, 3, 4)), (6, None))
+
+    def test_rounding(self):
+        task = example("rounding")
+        self.assertEqual(simulate.virtual_deadline(task, 2), 6)
+        self.assertEqual(run_of(task, (2, 2), (1, 1, 1, 1, 1, 4)), (6, None))
+        self.assertEqual(run_of(task, (2, 2), (1, 1, 1, 1, 1, 5)), (7, 6))
+        self.assertEqual(run_of(task, (2, 2), (1, 1, 1, 1, 1, 5), 7), (7, None))
+
+    def test_a_neighbour_at_any_tick(self):
+        task, lengths = example("neighbour", 1), (11, 4, 9, 4, 5, 5, 42)
+        ends = [run_of(task, (3, 4), lengths, switch_after=after)[0] for after in range(7)]
+        self.assertEqual(ends, [51, 50, 49, 48, 47, 48, 49])
+
+    def test_a_low_job_is_dropped(self):
+        run = simulate.simulate(example("early-end"), (3,), (2, 1, 2, 1, 3, 4), 0, 2)
+        self.assertEqual((len(run.ticks), run.dropped), (2, True))
+
+
+class Bounds(unittest.TestCase):
+    def test_a_job_within_its_nominal_budget_ends_by_the_virtual_deadline(self):
+        rng = random.Random(3)
+        for _ in range(300):
+            masks, lengths, work, span = random_job(rng)
+            typical = rng.randrange(1, 5)
+            task = sheets.Task("", 1, masks, 10_000, work, work, span, span)
+            end, switch = run_of(task, (typical, typical), lengths)
+            self.assertLessEqual(end, simulate.virtual_deadline(task, typical))
+            self.assertIsNone(switch)
+
+    def test_a_job_within_its_overload_budget_ends_by_the_deadline_of_the_share_test(self):
+        rng = random.Random(4)
+        for _ in range(300):
+            masks, lengths, work, span = random_job(rng)
+            nominal_span = rng.randrange(1, span + 1)
+            nominal_work = rng.randrange(nominal_span, work - span + nominal_span + 1)
+            a = rng.randrange(1, 4)
+            b = rng.randrange(a, 6)
+            growth = (work - nominal_work) - (span - nominal_span)
+            demand = (nominal_work - nominal_span) * b + growth * a + span * a * b
+            demand += min(nominal_span * a, growth) * (b - a)
+            task = sheets.Task("", 1, masks, -(-demand // (a * b)), nominal_work, work, nominal_span, span)
+            for after in range(simulate.virtual_deadline(task, a) + 1):
+                self.assertLessEqual(run_of(task, (a, b), lengths, switch_after=after)[0], task.deadline)
+
+
+class Program(unittest.TestCase):
+    def refuse(self, message, *arguments):
+        command = [sys.executable, HERE / "simulate.py", HERE.parent / "examples" / "neighbour.sheet", *arguments]
+        done = subprocess.run(command, capture_output=True, text=True, check=False)
+        self.assertEqual((done.returncode, done.stdout), (2, ""))
+        self.assertIn(message, done.stderr)
+
+    def test_arguments_that_do_not_suit_the_task(self):
+        self.refuse("--task: expected a number below 2", "--task", "2", "--shares", "1", "--lengths", "1")
+        self.refuse("--shares: expected 2", "--shares", "1", "--lengths", "1")
+        self.refuse("--lengths: expected 7", "--task", "1", "--shares", "3", "4", "--lengths", "1")
+
+
+if __name__ == "__main__":
+    unittest.main()
