@@ -1,0 +1,85 @@
+-- How long lines are: a number below 10 ^ k has at most k digits, so that sixteen lines of a plan fit a text.
+use Prim.Native.Nat.{ℕ, zero, suc, _+_, _*_, _/_, _%_, _^_, _≤_, _<_}
+use mathlib.Core.List.{List, [], _∷_}
+use native.Mathlib.Decide.{decLt}
+use native.Mathlib.Nat.{div-lt-iff-lt-mul, pow-suc}
+use native.Mathlib.Omega.{arith}
+use lib.ListN.{length, getD, length-append}
+use Rattle.sheet.specs.Format.{byteAt, u16At}
+use Rattle.nodes.specs.Sets.{range}
+use Rattle.planner.specs.Enumeration.{each}
+use Rattle.plan_text.specs.Decimal.{digit, decimal}
+use Rattle.plan_text.specs.Lines.{mark, line}
+use Rattle.plan_text.specs.Printed.{refusalLine}
+use Rattle.plan_text.specs.Fields.{fieldsAt, linesAt}
+use Rattle.plan_text.specs.Growth.{room}
+use Rattle.plan_text.proofs.Digits.{one-digit, more-digits}
+
+-- A number below 10 ^ (k + 1) has at most k + 1 digits.
+decimal-length : (k n : ℕ) → n < 10 ^ suc k → length (decimal n) ≤ suc k
+decimal-length zero n h = rw (one-digit n h) (omega arith)
+decimal-length (suc k) n h = go (decLt n 10) (decimal-length k (n / 10))
+  where
+    go : Dec (n < 10) → (n / 10 < 10 ^ suc k → length (decimal (n / 10)) ≤ suc k) → length (decimal n) ≤ suc (suc k)
+    go (yes less) rest = rw (one-digit n less) (omega arith)
+    go (no more) rest =
+        let fewer = rest (div-lt-iff-lt-mul {k = 10} {x = n} {y = 10 ^ suc k} (omega arith) .1 (rw (pow-suc 10 (suc k)) at h)) in
+        rw (more-digits n (omega arith), length-append (decimal (n / 10)) (digit (n % 10) ∷ [])) (omega arith)
+
+-- A number of a line with its mark.
+field-length : (k n : ℕ) (rest : List ℕ) → n < 10 ^ suc k → length (line (n ∷ rest)) ≤ suc k + 1 + length (line rest)
+field-length k n rest h =
+    let digits = decimal-length k n h in
+    rw (length-append (decimal n) (mark (length rest) ∷ line rest)) (omega arith)
+
+-- The line of six numbers, five of at most three digits and the last of at most five.
+six-length : (a b c d e v : ℕ) → a < 10 ^ 3 → b < 10 ^ 3 → c < 10 ^ 3 → d < 10 ^ 3 → e < 10 ^ 3 → v < 10 ^ 5 → length (line (a ∷ b ∷ c ∷ d ∷ e ∷ v ∷ [])) ≤ 26
+six-length a b c d e v ha hb hc hd he hv = omega (
+  arith,
+  field-length 2 a (b ∷ c ∷ d ∷ e ∷ v ∷ []) ha,
+  field-length 2 b (c ∷ d ∷ e ∷ v ∷ []) hb,
+  field-length 2 c (d ∷ e ∷ v ∷ []) hc,
+  field-length 2 d (e ∷ v ∷ []) hd,
+  field-length 2 e (v ∷ []) he,
+  field-length 4 v [] hv,
+)
+
+-- What f gives for the numbers of a range, each of at most b bytes.
+each-length : (f : ℕ → List ℕ) (b first n : ℕ) → ((i : ℕ) → i < first + n → length (f i) ≤ b) → length (each (range first n) f) ≤ b * n
+unfolding range
+each-length f b first zero h = omega arith
+each-length f b first (suc n) h =
+    let one = h first (omega arith) in
+    let rest = each-length f b (suc first) n (λ i l. h i (omega arith)) in
+    rw (length-append (f first) (each (range (suc first) n) f)) (omega arith)
+
+-- The lines of a plan of bytes.
+module _ (plan : List ℕ) (bytes : (k : ℕ) → getD plan k 0 < 256) (n : ℕ) (few : n ≤ 16) where
+  small : (k : ℕ) → byteAt plan k < 10 ^ 3
+  unfolding byteAt
+  small k = let byte = bytes k in omega arith
+
+  larger : (k : ℕ) → u16At plan k < 10 ^ 5
+  unfolding u16At byteAt
+  larger k =
+      let low = bytes k in
+      let high = bytes (k + 1) in
+      omega arith
+
+  fields-length : (i : ℕ) → i < n → length (line (fieldsAt plan n i)) ≤ 26
+  unfolding fieldsAt
+  fields-length i h =
+      six-length i _ _ _ _ _ (omega arith) (small (2 * i)) (small (2 * i + 1)) (small (2 * n + 2 * i))
+      (small (2 * n + 2 * i + 1)) (larger (4 * n + 2 * i))
+
+  pub lines-length : length (linesAt plan n) ≤ room
+  unfolding linesAt
+  lines-length =
+      let all = each-length (λ i. line (fieldsAt plan n i)) 26 0 n (λ i h. fields-length i (omega arith)) in
+      omega arith
+
+-- The line of a refusal whose number and task are bytes.
+pub refusal-length : (number task : ℕ) → number < 256 → task < 256 → length (refusalLine number task) ≤ room
+unfolding refusalLine
+refusal-length number task h g =
+    omega (arith, field-length 2 number (task ∷ []) (omega arith), field-length 2 task [] (omega arith))

@@ -1,0 +1,6 @@
+-- Laws that belong to no one function.
+pub mod Digits
+pub mod Growths
+pub mod Lengths
+pub mod Places
+pub mod Answers

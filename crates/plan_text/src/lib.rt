@@ -1,0 +1,5 @@
+// The plan of a sheet as printed lines.
+mod fields;
+pub mod line;
+pub mod printed;
+pub mod text;

@@ -1,0 +1,30 @@
+// Lines of numbers.
+ghost use mathlib.Core.Path.{_≡_};
+ghost use Rattle.plan_text.specs.Growth.{withBytes};
+ghost use Rattle.plan_text.specs.Lines.{line, mark};
+use crate::text::Text;
+use crate::text::with_byte;
+use crate::text::with_number;
+
+const BLANK: u8 = 32;
+
+const NEWLINE: u8 = 10;
+
+fn mark_before(left: usize) -> u8
+    ensures { λ r. ⌜ r ≡ mark left ⌝ }
+{
+    if left == 0 { NEWLINE } else { BLANK }
+}
+
+pub fn with_line(t: Text, numbers: &[u16]) -> Text
+    ensures { λ r. ⌜ r ≡ withBytes t (line (now (numbers .entry))) ⌝ }
+{
+    let mut text = t;
+    let mut i: usize = 0;
+    while i < numbers.len() {
+        text = with_number(text, numbers[i]);
+        i += 1;
+        text = with_byte(text, mark_before(numbers.len() - i));
+    }
+    text
+}

@@ -1,0 +1,57 @@
+// A text that grows at its end.
+ghost use mathlib.Core.Path.{_≡_};
+ghost use mathlib.Core.List.{[]};
+ghost use Rattle.plan_text.specs.Decimal.{decimal};
+ghost use Rattle.plan_text.specs.Growth.{holding, withByte, withBytes};
+
+const ROOM: usize = 416;
+
+// The bytes of a text, and how many of them it has.
+pub struct Text {
+    pub bytes: [u8; 416],
+    pub len: usize,
+}
+
+pub fn empty() -> Text
+    ensures { λ r. ⌜ r ≡ holding [] ⌝ }
+{
+    Text {
+        bytes: [0u8; 416],
+        len: 0,
+    }
+}
+
+// A text that is full stays as it is.
+pub fn with_byte(t: Text, b: u8) -> Text
+    ensures { λ r. ⌜ r ≡ withByte t b ⌝ }
+{
+    let at = t.len;
+    if ROOM <= at {
+        return t;
+    }
+    let mut next = t;
+    next.bytes[at] = b;
+    next.len = at + 1;
+    next
+}
+
+pub fn with_bytes(t: Text, bytes: &[u8]) -> Text
+    ensures { λ r. ⌜ r ≡ withBytes t (now (bytes .entry)) ⌝ }
+{
+    let mut text = t;
+    let mut i: usize = 0;
+    while i < bytes.len() {
+        text = with_byte(text, bytes[i]);
+        i += 1;
+    }
+    text
+}
+
+pub fn with_number(t: Text, n: u16) -> Text
+    ensures { λ r. ⌜ r ≡ withBytes t (decimal n) ⌝ }
+{
+    if n < 10 {
+        return with_byte(t, 48 + (n as u8));
+    }
+    with_byte(with_number(t, n / 10), 48 + (n % 10) as u8)
+}
