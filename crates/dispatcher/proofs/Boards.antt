@@ -8,7 +8,7 @@ use native.Mathlib.Omega.{arith}
 use native.Mathlib.Numerals.{add-one}
 use borrow.Author.Tests.{eq-eqb, ne-eqb}
 use lib.Count.{trailingZeros}
-use lib.ListN.{length, getD, set, take, drop, replicate, length-append, length-replicate, length-set, length-take, replicate-append-replicate, drop-of-length-le}
+use lib.ListN.{length, getD, set, take, drop, replicate, length-append, length-replicate, length-set, replicate-append-replicate, drop-of-length-le}
 use lib.Seq.{sets, sets-eq, set-at, drop-at, take-append-seam, drop-append-add, drop-cons, append-snoc, take-all}
 use Rattle.nodes.specs.Sets.{members}
 use Rattle.nodes.proofs.Members.{members-zero}
@@ -16,14 +16,16 @@ use Rattle.nodes.proofs.Trailing.{members-trailing, trailing-lt, trailing-power
 use Rattle.sheet.specs.declared.answer.Answer.{Answer}
 use Rattle.sheet.specs.declared.answer.Answer.the-variants.{Accepted, Refused}
 use Rattle.shares.specs.Totals.{shareIn}
-use Rattle.model.specs.Row.{Row, ready, running, runningSet}
+use Rattle.model.specs.Row.{Row, running, runningSet}
 use Rattle.model.specs.Step.{noRow, rowAt}
+use Rattle.model.specs.Claim.{runningCount}
+use Rattle.model.proofs.Capacity.{running-count}
 use Rattle.dispatcher.specs.declared.state.State.{State}
 use Rattle.dispatcher.specs.Holds.{fixedOf, rowOf, modelOf}
-use Rattle.dispatcher.specs.Sound.{sharesIn, isSound}
+use Rattle.dispatcher.specs.Sound.{isSound}
 use Rattle.dispatcher.specs.Board.{unused, idle, pairsOf, block, blocks, boardBytes, boardAnswer, boardedOf, boardOf}
 use Rattle.dispatcher.proofs.NodeSets.{running-members}
-use Rattle.dispatcher.proofs.Soundness.{state-facts, few-nodes}
+use Rattle.dispatcher.proofs.Soundness.{sharesIn, state-facts, few-nodes}
 use Rattle.dispatcher.proofs.Entries.{entryAt, sound-at}
 use Rattle.dispatcher.proofs.Rows.{model-length, model-row}
 
@@ -91,29 +93,17 @@ pairs-length task [] = refl
 pairs-length task (v ∷ nodes) = omega (arith, pairs-length task nodes)
 
 pub running-few : (critical : Bool) (r : Row) → length (running critical r) ≤ shareIn critical (r .fixed .share)
-unfolding running
-running-few critical r = omega (arith, length-take (shareIn critical (r .fixed .share)) (ready r))
+unfolding runningCount
+running-few critical r = running-count critical r
 
 pub block-length : (critical : Bool) (task : ℕ) (r : Row) → length (block critical task r) ≡ 2 * shareIn critical (r .fixed .share)
 unfolding block idle
 block-length critical task r =
-    omega (
-      arith,
-      length-append (pairsOf task (running critical r)) (replicate (2 * (shareIn critical (r .fixed .share) - length (running critical r))) unused),
-      pairs-length task (running critical r),
-      length-replicate (2 * (shareIn critical (r .fixed .share) - length (running critical r))) unused,
-      running-few critical r,
-    )
+    simp (length-append, pairs-length, length-replicate) (omega (arith, running-few critical r))
 
 pub blocks-length : (critical : Bool) (i : ℕ) (rows : List Row) → length (blocks critical i rows) ≡ 2 * sharesIn critical rows
 blocks-length critical i [] = refl
-blocks-length critical i (r ∷ rows) =
-    omega (
-      arith,
-      length-append (block critical i r) (blocks critical (suc i) rows),
-      block-length critical i r,
-      blocks-length critical (suc i) rows,
-    )
+blocks-length critical i (r ∷ rows) = simp (length-append, block-length) (omega (arith, blocks-length critical (suc i) rows))
 
 drop-idle : (n m : ℕ) → n ≤ m → drop n (replicate m unused) ≡ replicate (m - n) unused
 drop-idle n m h =

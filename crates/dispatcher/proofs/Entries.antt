@@ -12,8 +12,8 @@ use lib.Seq.{length-take-le, drop-cons, getD-take}
 use Rattle.dispatcher.specs.declared.state.TaskState.{TaskState}
 use Rattle.dispatcher.specs.declared.state.State.{State}
 use Rattle.dispatcher.specs.Holds.{fixedOf, rowOf, entriesOf, modelOf}
-use Rattle.dispatcher.specs.Sound.{entrySound, entriesSound, sharesIn, isSound}
-use Rattle.dispatcher.proofs.Soundness.{state-facts}
+use Rattle.dispatcher.specs.Sound.{entrySound, entriesSound, isSound}
+use Rattle.dispatcher.proofs.Soundness.{sharesIn, state-facts}
 
 -- What a read past the line would give.
 abbrev pub noEntry : TaskState

@@ -1,5 +1,5 @@
--- What Release and Tick keep: a sound state stays sound, the state after a call holds the model after its step, and a refused call hands
--- back an equal state. From the model's laws, carried over entry by entry.
+-- What Release and Tick keep: a sound state stays sound and answers as the model does, the state after a call holds the model after its
+-- step, a refused call hands back an equal state, and entries from n on are handed back. From the model's laws, entry by entry.
 use Prim.Native.Nat.{ℕ, zero, suc, _+_, _≤_, _<_}
 use mathlib.Core.Path.{_≡_, refl, sym, ap, ap₂, subst, _∙_}
 use mathlib.Core.Bool.{Bool, true, false, cond, not, _&&_, true≢false, and-eq-true-iff}
@@ -7,7 +7,7 @@ use mathlib.Core.List.{List, [], _∷_, map}
 use mathlib.Core.Option.{Option, none, some}
 use native.Mathlib.Omega.{arith}
 use borrow.Author.Tests.{not-true}
-use lib.ListN.{length, getD, take, length-map, List·getD-map}
+use lib.ListN.{length, getD, take, drop, length-map, length-take, List·getD-map}
 use Rattle.sheet.specs.declared.answer.Answer.the-variants.{Refused}
 use Rattle.shares.specs.Totals.{shareIn}
 use Rattle.model.specs.Row.{Fixed, Job, Row, allEnded}
@@ -18,13 +18,13 @@ use Rattle.dispatcher.specs.declared.state.TaskState.{TaskState}
 use Rattle.dispatcher.specs.declared.state.State.{State}
 use Rattle.dispatcher.specs.declared.tick.TickAnswer.the-variants.{Refused as TickRefused}
 use Rattle.dispatcher.specs.Holds.{fixedOf, jobOf, rowOf, withJob, entriesOf, modelOf, withRows, withModel}
-use Rattle.dispatcher.specs.Sound.{entrySound, entriesSound, sharesIn, isSound}
+use Rattle.dispatcher.specs.Sound.{entrySound, entriesSound, isSound}
 use Rattle.sheet.specs.Answers.{noTask}
-use Rattle.dispatcher.specs.Answers.{notSound, tickAnswer}
+use Rattle.dispatcher.specs.Answers.{notSound, releaseAnswer, tickAnswer}
 use Rattle.dispatcher.specs.Calls.{releasedBy, releaseOf, tickedBy, tickOf}
-use Rattle.dispatcher.proofs.Soundness.{SoundEntry, SoundState, entry-facts, sound-entry, state-facts, sound-state, within-bounds}
+use Rattle.dispatcher.proofs.Soundness.{sharesIn, SoundEntry, SoundState, entry-facts, sound-entry, state-facts, sound-state, within-bounds}
 use Rattle.dispatcher.proofs.Entries.{noEntry, sound-in}
-use Rattle.dispatcher.proofs.Rows.{model-own, model-with, no-entry-row}
+use Rattle.dispatcher.proofs.Rows.{rows-rest, model-own, model-with, no-entry-row}
 
 -- One entry: what soundness says of its job is what the model says of its row.
 row-sound : (e : TaskState) → entrySound e ≡ true → KeptSound (rowOf e)
@@ -142,6 +142,15 @@ pub tick-sound : (s : State) (reports : List ℕ) → isSound s ≡ true → isS
 unfolding tickOf
 tick-sound s reports sound = rw sound (step-sound s sound (tick reports))
 
+-- A call on a sound state answers as the model does.
+pub release-answered : (s : State) (i : ℕ) → isSound s ≡ true → releaseOf s i .answer ≡ releaseAnswer (step (modelOf s) (release i) .answer)
+unfolding releaseOf
+release-answered s i sound = rw sound
+
+pub tick-answered : (s : State) (reports : List ℕ) → isSound s ≡ true → tickOf s reports .answer ≡ tickAnswer (step (modelOf s) (tick reports) .answer)
+unfolding tickOf
+tick-answered s reports sound = rw sound
+
 -- The state after a call holds the model after its step.
 pub release-model : (s : State) (i : ℕ) → isSound s ≡ true → modelOf (releaseOf s i .state) ≡ step (modelOf s) (release i) .model
 unfolding releaseOf
@@ -182,3 +191,31 @@ tick-back s reports {number} {task} refused = go (isSound s) (tickRefusal (model
     go true none e = absurd (not-refused (modelOf s .critical) (tickedRows (modelOf s .rows) reports) e)
     go true (some r) e = model-own s
     go false o e = refl
+
+-- Entries from n on are handed back, whatever the state.
+step-rest : (s : State) (c : Call) → drop (s .count) (withModel s (step (modelOf s) c .model) .entries) ≡ drop (s .count) (s .entries)
+unfolding withModel modelOf entriesOf
+step-rest s c =
+    let few : length (modelOf s .rows) ≤ s .count =
+    rw (length-map (take (s .count) (s .entries)) rowOf) (omega (arith, length-take (s .count) (s .entries))) in
+    rows-rest (s .count) (s .entries) (step (modelOf s) c .model .rows) (omega (arith, length-step (modelOf s) c))
+
+pub release-rest : (s : State) (i : ℕ) → drop (s .count) (releaseOf s i .state .entries) ≡ drop (s .count) (s .entries)
+unfolding releaseOf
+release-rest s i = go (isSound s)
+  where
+    go : (t : Bool)
+        → drop (s .count) (cond t (releasedBy s (step (modelOf s) (release i))) (record { state = s; answer = Refused notSound noTask }) .state .entries)
+        ≡ drop (s .count) (s .entries)
+    go true = step-rest s (release i)
+    go false = refl
+
+pub tick-rest : (s : State) (reports : List ℕ) → drop (s .count) (tickOf s reports .state .entries) ≡ drop (s .count) (s .entries)
+unfolding tickOf
+tick-rest s reports = go (isSound s)
+  where
+    go : (t : Bool)
+        → drop (s .count) (cond t (tickedBy s (step (modelOf s) (tick reports))) (record { state = s; answer = TickRefused notSound noTask }) .state .entries)
+        ≡ drop (s .count) (s .entries)
+    go true = step-rest s (tick reports)
+    go false = refl

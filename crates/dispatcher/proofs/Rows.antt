@@ -4,7 +4,7 @@ use mathlib.Core.Path.{_≡_, refl, sym, ap, ap₂, _∙_}
 use mathlib.Core.Bool.{Bool}
 use mathlib.Core.List.{List, [], _∷_, _++_, map}
 use native.Mathlib.Omega.{arith}
-use lib.ListN.{length, getD, set, take, length-map, List·getD-map}
+use lib.ListN.{length, getD, set, take, drop, length-map, List·getD-map}
 use Rattle.model.specs.Row.{Fixed, Job, Row}
 use Rattle.model.specs.Step.{Model, noRow, rowAt}
 use Rattle.model.specs.Claim.{fixedOf as rowFixed}
@@ -83,6 +83,13 @@ rows-more (e ∷ es) (o ∷ rows) r (suc i) same h =
 pub rows-none : (es : List TaskState) → withRows es [] ≡ es
 rows-none [] = refl
 rows-none (e ∷ es) = refl
+
+-- Entries that no row stands for are handed back.
+pub rows-rest : (n : ℕ) (es : List TaskState) (rows : List Row) → length rows ≤ n → drop n (withRows es rows) ≡ drop n es
+rows-rest n [] rows h = refl
+rows-rest n (e ∷ es) [] h = refl
+rows-rest zero (e ∷ es) (r ∷ rows) h = absurd (omega arith)
+rows-rest (suc n) (e ∷ es) (r ∷ rows) h = rows-rest n es rows (omega arith)
 
 -- One row set among those of the state.
 pub rows-set : (n : ℕ) (es : List TaskState) (r : Row) (i : ℕ) → i < n → n ≤ length es

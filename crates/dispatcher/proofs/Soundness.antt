@@ -2,6 +2,7 @@
 use Prim.Native.Nat.{ℕ, suc, _-_, _≤_, _<_, _^_, min}
 use mathlib.Core.Path.{_≡_}
 use mathlib.Core.Bool.{Bool, true, false, not, _&&_, and-eq-true-iff, and-true, and-false}
+use mathlib.Core.List.{List}
 use native.Mathlib.Nat.{min-eq-left}
 use native.Mathlib.Omega.{arith}
 use borrow.Author.Tests.{leb-true, ltb-true, le-leb, lt-ltb}
@@ -11,11 +12,12 @@ use Rattle.nodes.specs.Sets.{range, setOf}
 use Rattle.nodes.proofs.Members.{setOf-range}
 use Rattle.sheet.proofs.Logic.{leb-same}
 use Rattle.sheet.specs.Rules.{within, levelLawful, figureLimit, masksLawful}
-use Rattle.model.specs.Row.{allEnded}
+use Rattle.shares.specs.Totals.{shareTotal}
+use Rattle.model.specs.Row.{Row, allEnded}
 use Rattle.dispatcher.specs.declared.state.TaskState.{TaskState}
 use Rattle.dispatcher.specs.declared.state.State.{State}
-use Rattle.dispatcher.specs.Holds.{entriesOf, modelOf}
-use Rattle.dispatcher.specs.Sound.{entrySound, entriesSound, sharesIn, isSound}
+use Rattle.dispatcher.specs.Holds.{entriesOf, modelOf, sharesOf}
+use Rattle.dispatcher.specs.Sound.{entrySound, entriesSound, isSound}
 
 -- Tests in a row that all hold.
 pub record All (a b c d e f g h : Bool) : Type 0 where
@@ -114,6 +116,10 @@ entry-by-tests e masks figures gone full k m f all g =
 
 pub few-nodes : (e : TaskState) → entrySound e ≡ true → e .nodes ≤ 32
 few-nodes e t = within-bounds 1 32 (e .nodes) (entry-facts e t .nodes) .1
+
+-- The sum of the rows' shares in one mode.
+abbrev pub sharesIn : Bool → List Row → ℕ
+sharesIn critical rows = shareTotal critical (sharesOf rows)
 
 -- The state's tests: the ranges of M and n first, then what the entries say.
 pub ranges-broken : (s : State) → (within 1 64 (s .processors) && within 1 16 (s .count)) ≡ false → isSound s ≡ false

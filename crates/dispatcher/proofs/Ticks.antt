@@ -16,6 +16,7 @@ use Rattle.sheet.specs.Answers.{numberOf, taskOf}
 use Rattle.model.specs.Row.{Fixed, Row, isSubset, runningSet, tickedRow, isLate, switchedRow}
 use Rattle.model.specs.Step.{Model, Refusal, refusal, wrongCount, notRunning, step, stepBy, tick, ticked, noRow, rowAt, reportRefusal, tickRefusal, tickedRows, lowestLate, switchedTo, switching}
 use Rattle.model.specs.Claim.{fixedOf as rowFixed}
+use Rattle.model.proofs.Steps.{length-ticked}
 use Rattle.dispatcher.specs.declared.state.TaskState.{TaskState}
 use Rattle.dispatcher.specs.declared.state.State.{State}
 use Rattle.dispatcher.specs.declared.tick.Ticked.{Ticked}
@@ -82,11 +83,6 @@ module _ (s : State) (long : s .count ≤ length (s .entries)) where
   late-all = refl
 
 -- Rows ticked one after the other.
-ticked-length : (rows : List Row) (reports : List ℕ) → length (tickedRows rows reports) ≡ length rows
-ticked-length [] reports = refl
-ticked-length (r ∷ rows) [] = refl
-ticked-length (r ∷ rows) (x ∷ reports) = ap suc (ticked-length rows reports)
-
 ticked-more : (rows : List Row) (reports : List ℕ) (i : ℕ) → i < length rows → i < length reports
     → tickedRows (take (suc i) rows) reports ≡ tickedRows (take i rows) reports ++ tickedRow (getD rows i noRow) (getD reports i 0) ∷ []
 ticked-more [] reports i h k = absurd (omega arith)
@@ -130,7 +126,7 @@ module _ (s : State) (long : s .count ≤ length (s .entries)) where
       ap (λ (es : List TaskState). record { processors = s .processors; count = s .count; critical = s .critical; entries = es }) (rows-none (s .entries))
 
   pub ticked-below : (reports : List ℕ) (i : ℕ) → i ≤ s .count → length (tickedBelow s reports i) ≡ i
-  ticked-below reports i h = ticked-length (take i (modelOf s .rows)) reports ∙ rows-taken i h
+  ticked-below reports i h = length-ticked (take i (modelOf s .rows)) reports ∙ rows-taken i h
 
   pub ticked-next : (reports : List ℕ) (i : ℕ) → length reports ≡ s .count → i < s .count
       → tickedBelow s reports i ++ tickedRow (rowOf (entryAt s i)) (getD reports i 0) ∷ [] ≡ tickedBelow s reports (i + 1)

@@ -7,13 +7,13 @@ use lib.ListN.{length, replicate}
 use Rattle.sheet.specs.declared.answer.Answer.{Answer}
 use Rattle.sheet.specs.declared.answer.Answer.the-variants.{Accepted, Refused}
 use Rattle.sheet.specs.Answers.{noTask, refusedIf, _orElse_}
-use Rattle.shares.specs.Totals.{shareIn}
+use Rattle.shares.specs.Totals.{shareIn, shareTotal}
 use Rattle.model.specs.Row.{Row, running}
 use Rattle.model.specs.Step.{Model}
 use Rattle.dispatcher.specs.declared.state.State.{State}
 use Rattle.dispatcher.specs.declared.board.Boarded.{Boarded}
-use Rattle.dispatcher.specs.Holds.{modelOf}
-use Rattle.dispatcher.specs.Sound.{sharesIn, isSound}
+use Rattle.dispatcher.specs.Holds.{modelOf, sharesOf}
+use Rattle.dispatcher.specs.Sound.{isSound}
 use Rattle.dispatcher.specs.Answers.{notSound, wrongLength}
 
 -- 01, Board: a byte of "255, 255".
@@ -42,7 +42,7 @@ blocks critical i (r ∷ rows) = block critical i r ++ blocks critical (suc i) r
 -- 01, Board: the 2M bytes: the blocks, and 255, 255 for the processors behind them.
 unfoldable pub boardBytes : ℕ → Model → List ℕ
 boardBytes processors m =
-    blocks (m .critical) 0 (m .rows) ++ idle (processors - sharesIn (m .critical) (m .rows))
+    blocks (m .critical) 0 (m .rows) ++ idle (processors - shareTotal (m .critical) (sharesOf (m .rows)))
 
 -- 01, Board: rows 10 and 16, for a buffer of so many bytes.
 unfoldable pub boardAnswer : State → ℕ → Answer

@@ -1,6 +1,7 @@
 -- What a state holds of the model: its entries as rows, and how a model's rows are written back.
 use mathlib.Core.List.{List, [], _∷_, map}
 use lib.ListN.{take}
+use Rattle.shares.specs.declared.share.Share.{Share}
 use Rattle.model.specs.Row.{Fixed, Job, Row}
 use Rattle.model.specs.Step.{Model}
 use Rattle.dispatcher.specs.declared.state.TaskState.{TaskState}
@@ -48,6 +49,10 @@ entriesOf s = take (s .count) (s .entries)
 -- The model that a state holds: its mode, and its first n entries as rows.
 unfoldable pub modelOf : State → Model
 modelOf s = record { critical = s .critical; rows = map rowOf (entriesOf s) }
+
+-- The shares of the tasks, in their order.
+abbrev pub sharesOf : List Row → List Share
+sharesOf rows = map (λ r. r .fixed .share) rows
 
 -- The entries with the jobs of the rows; an entry that no row stands for is handed back.
 abbrev pub withRows : List TaskState → List Row → List TaskState

@@ -1,19 +1,19 @@
 // Soundness of a state.
 ghost use mathlib.Core.Path.{_≡_};
-ghost use mathlib.Core.Bool.{true, false, _&&_};
+ghost use mathlib.Core.Bool.{_&&_};
 ghost use Prim.Native.Nat.{_≤_};
 ghost use lib.Dec.{leb};
-ghost use Rattle.dispatcher.specs.Holds.{entriesOf, modelOf};
-ghost use Rattle.dispatcher.specs.Sound.{entrySound, entriesSound, sharesIn, isSound};
+ghost use Rattle.shares.specs.Totals.{typicalTotal, criticalTotal};
+ghost use Rattle.dispatcher.specs.Holds.{entriesOf, modelOf, sharesOf};
+ghost use Rattle.dispatcher.specs.Sound.{entrySound, entriesSound, isSound};
 use crate::entry::all_ended;
 use crate::state::State;
 use crate::state::TaskState;
+use sheet::rules::FIGURE_LIMIT;
 use sheet::rules::is_within;
 use sheet::rules::masks_lawful;
 
 pub const NOT_SOUND: u8 = 10;
-
-const FIGURE_LIMIT: u32 = 10000;
 
 fn entry_sound(e: TaskState) -> bool
     ensures { λ r. ⌜ r ≡ entrySound e ⌝ }
@@ -35,7 +35,7 @@ fn entry_sound(e: TaskState) -> bool
 // Whether each of the first n entries is sound, and their shares total at most M in either mode.
 fn entries_sound(state: State) -> bool
     requires { ⌜ state .count ≤ 16 ⌝ }
-    ensures { λ r. ⌜ r ≡ (entriesSound (entriesOf state) && leb (sharesIn false (modelOf state .rows)) (state .processors) && leb (sharesIn true (modelOf state .rows)) (state .processors)) ⌝ }
+    ensures { λ r. ⌜ r ≡ (entriesSound (entriesOf state) && leb (typicalTotal (sharesOf (modelOf state .rows))) (state .processors) && leb (criticalTotal (sharesOf (modelOf state .rows))) (state .processors)) ⌝ }
 {
     let n = state.count as usize;
     let processors = state.processors as u32;

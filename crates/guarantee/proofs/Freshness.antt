@@ -28,8 +28,8 @@ use Rattle.model.specs.Plan.{freshRow, freshRows, fresh}
 use Rattle.model.proofs.Fresh.{fresh-length, fresh-row}
 use Rattle.dispatcher.specs.declared.state.TaskState.{TaskState}
 use Rattle.dispatcher.specs.declared.state.State.{State}
-use Rattle.dispatcher.specs.Holds.{fixedOf, jobOf, rowOf, entriesOf, modelOf}
-use Rattle.dispatcher.specs.Sound.{entrySound, entriesSound, sharesIn, isSound}
+use Rattle.dispatcher.specs.Holds.{fixedOf, jobOf, rowOf, entriesOf, modelOf, sharesOf}
+use Rattle.dispatcher.specs.Sound.{entrySound, entriesSound, isSound}
 use Rattle.dispatcher.specs.Start.{freshEntry, zeroEntry, entriesBelow, freshState}
 use Rattle.dispatcher.proofs.Entries.{noEntry, entryAt, entries-length, entries-at}
 use Rattle.dispatcher.proofs.Rows.{model-length, model-row}
@@ -47,7 +47,7 @@ all-sound [] each = refl
 all-sound (e ∷ es) each = ap₂ _&&_ (each 0 (omega arith)) (all-sound es (λ i h. each (suc i) (omega arith)))
 
 -- The shares of fresh rows total what the shares do.
-shares-fresh : (critical : Bool) (tasks : List Task) (shares : List Share) → sharesIn critical (freshRows tasks shares) ≤ shareTotal critical shares
+shares-fresh : (critical : Bool) (tasks : List Task) (shares : List Share) → shareTotal critical (sharesOf (freshRows tasks shares)) ≤ shareTotal critical shares
 unfolding freshRow
 shares-fresh critical [] shares = omega arith
 shares-fresh critical (t ∷ tasks) [] = omega arith
@@ -117,7 +117,7 @@ module _ (tasks : TaskSet) (lawful : LawfulSet tasks) (shares : List Share) (cho
       let inside : i < tasks .count = omega (arith, entries-length state entries-long, count-is) in
       rw (entries-at state entries-long i (omega (arith, count-is)), entry-is i inside) (entry-sound i inside))
 
-  shares-fit : (critical : Bool) → sharesIn critical (modelOf state .rows) ≤ tasks .processors
+  shares-fit : (critical : Bool) → shareTotal critical (sharesOf (modelOf state .rows)) ≤ tasks .processors
   unfolding fresh
   shares-fit critical =
       rw rows-is

@@ -82,20 +82,18 @@ taskAt s at =
       predecessors = masksAt s at (nodesAt s at);
     }
 
+-- Figures of zeros.
+abbrev pub noFigures : Figures
+noFigures =
+    record {
+      deadline = 0;
+      nominal = record { work = 0; span = 0 };
+      overload = record { work = 0; span = 0 };
+    }
+
 -- A task of zeros: what stands in the place of one that is not there.
 unfoldable pub zeroTask : Task
-zeroTask =
-    record {
-      level = 0;
-      nodes = 0;
-      figures =
-          record {
-            deadline = 0;
-            nominal = record { work = 0; span = 0 };
-            overload = record { work = 0; span = 0 };
-          };
-      predecessors = replicate 32 0;
-    }
+zeroTask = record { level = 0; nodes = 0; figures = noFigures; predecessors = replicate 32 0 }
 
 -- 01: "Tasks are numbered from 0 in that order": the first count tasks, and zeros in the place of the others.
 unfoldable pub tasksBelow : List ℕ → ℕ → List Task
@@ -116,18 +114,7 @@ zeroTaskSet = record { processors = 0; count = 0; tasks = replicate 16 zeroTask 
 
 -- What stands for a task where a list has none.
 abbrev pub missingTask : Task
-missingTask =
-    record {
-      level = 0;
-      nodes = 0;
-      figures =
-          record {
-            deadline = 0;
-            nominal = record { work = 0; span = 0 };
-            overload = record { work = 0; span = 0 };
-          };
-      predecessors = [];
-    }
+missingTask = record { level = 0; nodes = 0; figures = noFigures; predecessors = [] }
 
 -- Task i of a task set.
 unfoldable pub taskIn : TaskSet → ℕ → Task

@@ -4,7 +4,7 @@ ghost use Prim.Native.Nat.{_+_, _≤_};
 ghost use Rattle.sheet.specs.Rules.{within, shapeLawful, inRange, inOrder, lowLawful, figuresLawful, masksLawful, isHeavy};
 use crate::task::Figures;
 
-const FIGURE_LIMIT: u32 = 10000;
+pub const FIGURE_LIMIT: u32 = 10000;
 
 pub fn is_within(low: u32, high: u32, x: u32) -> bool
     ensures { λ r. ⌜ r ≡ within low high x ⌝ }

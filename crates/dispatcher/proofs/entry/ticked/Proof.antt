@@ -13,7 +13,7 @@ all-ended-requires c κs = search needs
 
 returns : tie.Need-returns
 unfolding withJob tickedRow joined rowOf fixedOf jobOf
-returns c = cc
+returns c = rw (c .before .before .older .ensures, c .before .all-ended .ensures)
 
 pub ticked-spec : {M : Type 1} → statement M
 ticked-spec = tie.close (tie.spec older-requires all-ended-requires returns)
