@@ -1,19 +1,20 @@
--- A text that grows: bytes added in two steps are added in one, and bytes that fit are held as they are.
+-- A text that grows: bytes added in two steps are added in one, bytes that fit are held as they are, and no byte is added past the
+-- array's end.
 use Prim.Native.Nat.{ℕ, suc, _+_, _-_, _≤_, _<_}
 use mathlib.Core.List.{List, [], _∷_, _++_, append-nil, append-assoc}
 use mathlib.Core.Path.{_≡_, refl, ap, _∙_}
 use native.Mathlib.Decide.{decLt}
 use native.Mathlib.Numerals.{add-one}
 use native.Mathlib.Omega.{arith}
-use lib.ListN.{length, getD, set, take, drop, replicate, length-append, length-drop, length-set, drop-of-length-le}
-use lib.Seq.{drop-cons, take-suc, set-at, take-at, length-take-le}
-use borrow.Author.Tests.{lt-ltb, le-ltb, le-leb, lt-leb}
+use lib.ListN.{length, getD, take, drop, replicate, length-append, length-drop, length-set, drop-of-length-le}
+use lib.Seq.{drop-cons, set-at, take-at}
+use borrow.Author.Tests.{lt-ltb, le-ltb}
 use Rattle.plan_text.specs.declared.text.Text.{Text}
 use Rattle.plan_text.specs.Decimal.{decimal}
 use Rattle.plan_text.specs.Lines.{mark, line}
-use Rattle.plan_text.specs.Printed.{writtenTo}
 use Rattle.plan_text.specs.Growth.{room, holding, Holds, withByte, withBytes}
 
+-- Bytes added in two steps.
 pub with-both : (t : Text) (xs ys : List ℕ) → withBytes (withBytes t xs) ys ≡ withBytes t (xs ++ ys)
 with-both t [] ys = refl
 with-both t (x ∷ xs) ys = with-both (withByte t x) xs ys
@@ -51,18 +52,6 @@ holding-bytes xs (y ∷ ys) h =
     rw (holding-byte xs y (omega arith))
     (holding-bytes (xs ++ y ∷ []) ys (omega arith) ∙ ap holding (append-assoc xs (y ∷ []) ys))
 
--- One byte copied to the front of another list, after those before it.
-pub copy-step : (xs ys : List ℕ) (i : ℕ) → i < length xs → i < length ys →
-    set (take i xs ++ drop i ys) i (getD xs i 0) ≡ take (i + 1) xs ++ drop (i + 1) ys
-copy-step xs ys i h g =
-    rw (
-      add-one i,
-      take-suc xs i 0 h,
-      drop-cons ys i 0 g,
-      set-at (take i xs) (getD ys i 0) (drop (suc i) ys) (getD xs i 0) i (length-take-le i xs (omega arith)),
-      append-assoc (take i xs) (getD xs i 0 ∷ []) (drop (suc i) ys),
-    )
-
 -- Bytes that fit, added to an empty text.
 pub holds-all : (t : Text) (xs : List ℕ) → length xs ≤ room → t ≡ withBytes (holding []) xs → Holds t xs
 holds-all t xs h e = record { whole = e ∙ holding-bytes [] xs (omega arith); fits = h }
@@ -99,13 +88,3 @@ bytes-inside t (x ∷ xs) long h =
 pub added-inside : (t : Text) (xs : List ℕ) → t ≡ withBytes (holding []) xs → t .len ≤ length (t .bytes)
 unfolding holding
 added-inside t xs e = rw e (bytes-inside (holding []) xs refl (omega arith))
-
--- A buffer with the text at its front, and one that is too short.
-module _ (out xs : List ℕ) (n : ℕ) (long : n ≡ length xs) where
-  pub written-whole : n ≤ length out → xs ++ drop n out ≡ writtenTo out xs
-  unfolding writtenTo
-  written-whole h = rw (long, le-leb (length xs) (length out) (omega arith))
-
-  pub written-none : length out < n → out ≡ writtenTo out xs
-  unfolding writtenTo
-  written-none h = rw (lt-leb (length xs) (length out) (omega arith))

@@ -1,6 +1,7 @@
 -- Laws that belong to no one function.
 pub mod Digits
 pub mod Growths
+pub mod Copies
 pub mod Lengths
 pub mod Places
 pub mod Answers

@@ -15,7 +15,7 @@ room = 416
 unfoldable pub holding : List ℕ → Text
 holding bytes = record { bytes = bytes ++ replicate (room - length bytes) 0; len = length bytes }
 
--- Whether a text is that of these bytes, which fit.
+-- A text that is the text of these bytes, which fit.
 pub record Holds (t : Text) (bytes : List ℕ) : Type 0 where
   pub whole : t ≡ holding bytes
   pub fits : length bytes ≤ room

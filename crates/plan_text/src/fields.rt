@@ -9,6 +9,7 @@ use crate::line::with_line;
 use crate::text::Text;
 use crate::text::empty;
 
+// A byte of a plan.
 fn u8_at(plan: &[u8], at: usize) -> u16
     requires { ⌜ at < length (now plan) ⌝ }
     ensures value { λ r. ⌜ r ≡ byteAt (now (plan .entry)) at ⌝ }
@@ -17,6 +18,7 @@ fn u8_at(plan: &[u8], at: usize) -> u16
     plan[at] as u16
 }
 
+// Task i, its typical offset and length, its critical offset and length, and V.
 fn fields_at(plan: &[u8], n: usize, i: usize) -> [u16; 6]
     requires { ⌜ (i < n) × (n ≤ 16) × (6 * n ≤ length (now plan)) ⌝ }
     ensures { λ r. ⌜ r ≡ fieldsAt (now (plan .entry)) n i ⌝ }

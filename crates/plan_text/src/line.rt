@@ -10,12 +10,14 @@ const BLANK: u8 = 32;
 
 const NEWLINE: u8 = 10;
 
+// The byte that stands before the numbers that are left of a line: a blank, or the line's end where none is left.
 fn mark_before(left: usize) -> u8
     ensures { λ r. ⌜ r ≡ mark left ⌝ }
 {
     if left == 0 { NEWLINE } else { BLANK }
 }
 
+// The text with a line of these numbers.
 pub fn with_line(t: Text, numbers: &[u16]) -> Text
     ensures { λ r. ⌜ r ≡ withBytes t (line (now (numbers .entry))) ⌝ }
 {

@@ -13,6 +13,7 @@ use crate::text::with_bytes;
 use planner::plan::plan;
 use sheet::answer::Answer;
 
+// The text of a refusal.
 fn refusal_line(number: u8, task: u8) -> Text
     ensures { λ r. ⌜ Holds r (refusalLine number task) ⌝ }
 {
@@ -21,7 +22,7 @@ fn refusal_line(number: u8, task: u8) -> Text
     with_line(with_bytes(empty(), &word), &fields)
 }
 
-// The plan buffer has room for sixteen tasks.
+// The text of a sheet. The buffer has room for the plan of sixteen tasks.
 fn text_of(sheet: &[u8]) -> Text
     ensures { λ r. ⌜ Holds r (textOf (now (sheet .entry))) ⌝ }
 {
@@ -33,6 +34,7 @@ fn text_of(sheet: &[u8]) -> Text
     lines_at(&buffer, sheet[1] as usize)
 }
 
+// Copies the first len bytes to the front of out.
 fn copy(bytes: &[u8], len: usize, out: &mut [u8])
     requires { ⌜ (len ≤ length (now bytes)) × (len ≤ length (now out)) ⌝ }
     ensures { λ _. ⌜ now (out .exit) ≡ take len (now (bytes .entry)) ++ drop len (now (out .entry)) ⌝ }

@@ -12,6 +12,7 @@ pub struct Text {
     pub len: usize,
 }
 
+// A text of no bytes.
 pub fn empty() -> Text
     ensures { λ r. ⌜ r ≡ holding [] ⌝ }
 {
@@ -21,7 +22,7 @@ pub fn empty() -> Text
     }
 }
 
-// A text that is full stays as it is.
+// The text with one byte more. One that is full stays as it is.
 pub fn with_byte(t: Text, b: u8) -> Text
     ensures { λ r. ⌜ r ≡ withByte t b ⌝ }
 {
@@ -35,6 +36,7 @@ pub fn with_byte(t: Text, b: u8) -> Text
     next
 }
 
+// The text with these bytes after its own.
 pub fn with_bytes(t: Text, bytes: &[u8]) -> Text
     ensures { λ r. ⌜ r ≡ withBytes t (now (bytes .entry)) ⌝ }
 {
@@ -47,6 +49,7 @@ pub fn with_bytes(t: Text, bytes: &[u8]) -> Text
     text
 }
 
+// The text with the digits of n after its own bytes.
 pub fn with_number(t: Text, n: u16) -> Text
     ensures { λ r. ⌜ r ≡ withBytes t (decimal n) ⌝ }
 {

@@ -7,13 +7,6 @@ use lib.Seq.{length-take-le}
 use borrow.Author.Needs.{needs}
 use Rattle.plan_cases.proofs.print_case.Statement.{statement}
 use Rattle.plan_cases.proofs.print_case.Tie as tie
-use Rattle.plan_cases.proofs.print_case.Reads as reads
-use Rattle.plan_cases.proofs.print_case.Lts as lts
-use Rattle.plan_cases.proofs.accepted.Reads as accepted-reads
-use Rattle.plan_cases.proofs.print_line.Reads as print-line-reads
-use Rattle.plan_cases.proofs.sheet_of.Reads as sheet-of-reads
-use Rattle.plan_cases.proofs.wide.Reads as wide-reads
-use Rattle.planner.proofs.plan.plan.Reads as plan-reads
 
 sheet-of-requires : tie.Need-sheet-of-requires
 sheet-of-requires c κs = search needs

@@ -4,10 +4,6 @@ use native.Mathlib.Omega.{arith}
 use borrow.Author.Needs.{needs}
 use Rattle.plan_cases.proofs.sheet_of.Statement.{statement}
 use Rattle.plan_cases.proofs.sheet_of.Tie as tie
-use Rattle.plan_cases.proofs.sheet_of.Reads as reads
-use Rattle.plan_cases.proofs.sheet_of.Lts as lts
-use Rattle.plan_cases.proofs.task.Reads as task-reads
-use Rattle.plan_cases.proofs.with_record.Reads as with-record-reads
 
 abbrev Inv-loop : tie.InvT-loop
 Inv-loop m n s₀ i₀ s i = i ≤ n

@@ -6,7 +6,7 @@ use mathlib.Core.Path.{_≡_, refl, _∙_}
 use native.Mathlib.Omega.{arith}
 use lib.ListN.{length, getD, take, drop, length-set}
 use denote.Ref.{now}
-use Rattle.plan_text.proofs.Growths.{copy-step}
+use Rattle.plan_text.proofs.Copies.{copy-step}
 use Rattle.plan_text.proofs.printed.copy.Statement.{statement}
 use Rattle.plan_text.proofs.printed.copy.Tie as tie
 

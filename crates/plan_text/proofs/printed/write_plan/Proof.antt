@@ -5,7 +5,8 @@ use native.Mathlib.Omega.{arith}
 use lib.ListN.{drop}
 use denote.Ref.{now}
 use Rattle.plan_text.specs.Printed.{textOf}
-use Rattle.plan_text.proofs.Growths.{held-length, held-inside, held-front, written-whole, written-none}
+use Rattle.plan_text.proofs.Growths.{held-length, held-inside, held-front}
+use Rattle.plan_text.proofs.Copies.{written-whole, written-none}
 use borrow.Author.Needs.{needs}
 use Rattle.plan_text.proofs.printed.write_plan.Statement.{statement}
 use Rattle.plan_text.proofs.printed.write_plan.Tie as tie
