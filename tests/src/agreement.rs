@@ -1,7 +1,8 @@
 //! Holds the proved reader to the independent one, and counts the answers.
+use crate::answers::Refusal;
 use crate::proved::{self, Answer, TaskSet, FIRST_MASK};
 use crate::random;
-use crate::reader::{self, Level, Refusal, Sheet};
+use crate::reader::{self, Level, Sheet};
 
 /// The answer that a reading stands for.
 pub fn answer(reading: &Result<Sheet, Refusal>) -> Answer {

@@ -1,8 +1,20 @@
-//! The proved sheet reader, called through its static library, beside an independent reader that was written from
-//! document 01 alone, and makers of sheets to compare the two on.
+//! The proved functions, called through their static library, beside an independent reader, planner and dispatcher
+//! that were written from document 01 alone, and makers of sheets, states and call lists to compare the two on.
 pub mod agreement;
+pub mod answers;
+pub mod boundary;
+pub mod counts;
+pub mod crafts;
+pub mod dispatcher;
 pub mod faults;
+pub mod lengths;
+pub mod planner;
 pub mod proved;
 pub mod random;
 pub mod reader;
+pub mod replay;
 pub mod sheets;
+pub mod states;
+pub mod suites;
+pub mod tight;
+pub mod world;

@@ -1,4 +1,12 @@
 //! Safe wrappers of the exported functions. None of them has a `requires`, so every slice and number may be passed.
+//! A feature of the package says of each group beyond the reader's that the static library has it.
+
+#[cfg(feature = "dispatching")]
+pub mod dispatching;
+#[cfg(feature = "planning")]
+pub mod planning;
+#[cfg(feature = "starting")]
+pub mod starting;
 
 /// Number and task of an answer, as in document 01's table; accepted is (0, 255).
 pub type Answer = (u8, u8);

@@ -1,5 +1,6 @@
 //! A reader of sheets, written from document 01 alone ("The sheet" and rows 1 to 6 of "Refusals by cause").
 //! It shares nothing with the proved one: neither code nor definitions.
+use crate::answers::{Cause, Refusal};
 
 /// What a sheet says: M, and the tasks in their order.
 #[derive(Clone, Debug, PartialEq, Eq)]
@@ -32,30 +33,6 @@ pub struct Figures {
     pub lo: u16,
 }
 
-/// The cause of a refusal; its value is the row's number.
-#[derive(Clone, Copy, Debug, PartialEq, Eq)]
-pub enum Cause {
-    Header = 1,
-    Directory = 2,
-    Record = 3,
-    Figures = 4,
-    Mask = 5,
-    NotHeavy = 6,
-}
-
-/// A refusal, with the task that its row names.
-#[derive(Clone, Copy, Debug, PartialEq, Eq)]
-pub struct Refusal {
-    pub cause: Cause,
-    pub task: Option<usize>,
-}
-
-impl Refusal {
-    fn of(cause: Cause, task: usize) -> Refusal {
-        Refusal { cause, task: Some(task) }
-    }
-}
-
 /// An entry of the directory.
 struct Pair {
     offset: usize,
@@ -64,7 +41,7 @@ struct Pair {
 
 /// Reads a sheet: row 1; row 2 over all pairs; then per task rows 3, 4, 5, 6.
 pub fn read(sheet: &[u8]) -> Result<Sheet, Refusal> {
-    let (processors, pairs) = header(sheet).ok_or(Refusal { cause: Cause::Header, task: None })?;
+    let (processors, pairs) = header(sheet).ok_or(Refusal::whole(Cause::Header))?;
     let tasks = records(sheet, &pairs)?
         .into_iter()
         .enumerate()
@@ -162,7 +139,7 @@ mod tests {
 
     #[test]
     fn row_1_is_the_header_and_its_directory() {
-        let header = Err(Refusal { cause: Cause::Header, task: None });
+        let header = Err(Refusal::whole(Cause::Header));
         for length in 0..14 {
             assert_eq!(read(&CASE_14[..length]), header, "cut to {length}");
         }

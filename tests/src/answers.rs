@@ -1,0 +1,77 @@
+//! The answers of document 01's table "Refusals by cause".
+
+/// The cause of a refusal; its value is the row's number.
+#[derive(Clone, Copy, Debug, PartialEq, Eq)]
+pub enum Cause {
+    Header = 1,
+    Directory = 2,
+    Record = 3,
+    Figures = 4,
+    Mask = 5,
+    NotHeavy = 6,
+    NoShare = 7,
+    NoFit = 8,
+    PlanBuffer = 9,
+    NotSound = 10,
+    NoSuchTask = 11,
+    LowWhenCritical = 12,
+    NotDue = 13,
+    ReportCount = 14,
+    NotRunning = 15,
+    BoardBuffer = 16,
+}
+
+/// A refusal, with the task that its row names.
+#[derive(Clone, Copy, Debug, PartialEq, Eq)]
+pub struct Refusal {
+    pub cause: Cause,
+    pub task: Option<usize>,
+}
+
+impl Refusal {
+    pub fn of(cause: Cause, task: usize) -> Refusal {
+        Refusal { cause, task: Some(task) }
+    }
+
+    /// A refusal by a row that names no task.
+    pub fn whole(cause: Cause) -> Refusal {
+        Refusal { cause, task: None }
+    }
+}
+
+/// What a call answers.
+#[derive(Clone, Copy, Debug, PartialEq, Eq, PartialOrd, Ord)]
+pub enum Reply {
+    /// Accepted: (0, 255); a tick ran.
+    Done,
+    /// A tick turned the state critical, because of this task.
+    Switched(u8),
+    /// Refused, with the number of the row and its task, 255 where it names none.
+    Refused(u8, u8),
+}
+
+impl Reply {
+    /// The reply that an exported function's number stands for: number + 256 * task; switched is 65,536 + 256 * task.
+    pub fn of_word(word: u32) -> Reply {
+        match word.to_le_bytes() {
+            [0, 255, 0, 0] => Reply::Done,
+            [number @ 1..=16, task, 0, 0] => Reply::Refused(number, task),
+            [0, task @ 0..=15, 1, 0] => Reply::Switched(task),
+            _ => panic!("{word} is not the number of an answer"),
+        }
+    }
+
+    /// The row of a refusal; 0 where there is none.
+    pub fn row(self) -> usize {
+        match self {
+            Reply::Refused(number, _) => number.into(),
+            _ => 0,
+        }
+    }
+}
+
+impl From<Refusal> for Reply {
+    fn from(Refusal { cause, task }: Refusal) -> Reply {
+        Reply::Refused(cause as u8, task.map_or(255, |task| task as u8))
+    }
+}

@@ -1,0 +1,260 @@
+//! Makers of sheets for whole lists of calls: the lengths of a task's nodes come first, and its figures are what they
+//! need, so that some jobs use the budgets up exactly.
+use crate::dispatcher::NODES;
+use crate::lengths::{filled, Budget, Filling};
+use crate::planner::{self, least_deadline, Pair};
+use crate::random::Random;
+use crate::reader::{Figures, Level, Sheet, Task};
+use crate::sheets::{LIMIT, PROCESSORS};
+use crate::tight::low_figures;
+
+/// A task, and lengths that came first: its figures are their work and span.
+#[derive(Clone, Debug)]
+pub struct Crafted {
+    pub task: Task,
+    nominal: Vec<u32>,
+    pub overload: Vec<u32>,
+    /// Shares that just do.
+    shares: Pair,
+}
+
+/// How long a job's nodes are.
+#[derive(Clone, Debug)]
+pub enum Kind {
+    Nominal,
+    Overload,
+    /// More than the overload budgets allow.
+    Beyond,
+    /// No node ever ends.
+    Endless,
+    Given(Vec<u32>),
+}
+
+impl Crafted {
+    fn budget(&self, kind: &Kind) -> Budget {
+        let Figures { cn, co, ln, lo, .. } = self.task.figures;
+        match kind {
+            Kind::Nominal => Budget { work: cn.into(), span: ln.into() },
+            _ => Budget { work: co.into(), span: lo.into() },
+        }
+    }
+
+    /// Lengths of a kind; none where the budgets are too small for the graph.
+    pub fn lengths(&self, random: &mut Random, kind: &Kind) -> Option<Vec<u32>> {
+        let exact = match kind {
+            Kind::Given(lengths) => return Some(lengths.clone()),
+            Kind::Endless => return Some(vec![u32::MAX; self.task.masks.len()]),
+            Kind::Nominal => &self.nominal,
+            Kind::Overload | Kind::Beyond => &self.overload,
+        };
+        let budget = self.budget(kind);
+        let mut lengths = if budget.allows(&self.task.masks, exact) && random.once_in(3) {
+            exact.clone()
+        } else {
+            let filling = *random.pick(&[Filling::Random, Filling::Even, Filling::LastFirst]);
+            filled(random, &self.task.masks, budget, filling)?
+        };
+        if let Kind::Beyond = kind {
+            let v = random.within(0..=lengths.len() - 1);
+            lengths[v] += random.within(1..=usize::from(self.task.figures.d)) as u32;
+        }
+        Some(lengths)
+    }
+}
+
+/// Random tasks, and M with which they are accepted: the least that their shares need, or a little more.
+pub fn crafted(random: &mut Random, count: usize, scale: usize) -> (Sheet, Vec<Crafted>) {
+    loop {
+        let widest = random.within(2..=(PROCESSORS / count).clamp(2, 8));
+        let tasks: Vec<Crafted> = (0..count)
+            .map(|_| {
+                let level = *random.pick(&[Level::High, Level::High, Level::High, Level::Low]);
+                crafted_task(random, level, widest, scale)
+            })
+            .collect();
+        if let Some(made) = sheet_of(random, tasks) {
+            return made;
+        }
+    }
+}
+
+/// The sheet of some tasks, where there are processors enough. Often some deadlines in turn are made the least with
+/// which the sheet is accepted.
+pub fn sheet_of(random: &mut Random, mut tasks: Vec<Crafted>) -> Option<(Sheet, Vec<Crafted>)> {
+    let typical: usize = tasks.iter().map(|task| task.shares.typical).sum();
+    let critical: usize = tasks.iter().map(|task| task.shares.critical).sum();
+    let processors = typical.max(critical) + *random.pick(&[0, 0, 1, 2]);
+    if processors > PROCESSORS {
+        return None;
+    }
+    let of_tasks = tasks.iter().map(|crafted| crafted.task.clone()).collect();
+    let mut sheet = Sheet { processors: processors as u8, tasks: of_tasks };
+    let count = tasks.len();
+    let tightened = if random.once_in(4) { 0 } else { count.min(5) };
+    let first = random.within(0..=count - 1);
+    for i in (first..first + tightened).map(|i| i % count) {
+        tighten(&mut sheet, i);
+        tasks[i].task.figures.d = sheet.tasks[i].figures.d;
+    }
+    Some((sheet, tasks))
+}
+
+/// Makes a task's deadline the least with which the sheet is accepted; more never harms.
+fn tighten(sheet: &mut Sheet, task: usize) {
+    let (mut fails, mut fits) = (0, sheet.tasks[task].figures.d);
+    while fails + 1 < fits {
+        let middle = (fails + fits) / 2;
+        sheet.tasks[task].figures.d = middle;
+        *(if planner::plan(sheet).is_ok() { &mut fits } else { &mut fails }) = middle;
+    }
+    sheet.tasks[task].figures.d = fits;
+}
+
+/// A random task that gets along with so many processors.
+pub fn crafted_task(random: &mut Random, level: Level, widest: usize, scale: usize) -> Crafted {
+    loop {
+        let critical = random.within(2..=widest);
+        let shares = match level {
+            Level::Low => Pair { typical: critical, critical: 0 },
+            Level::High => Pair { typical: random.within(1..=critical), critical },
+        };
+        if let Some(crafted) = try_task(random, level, shares, scale) {
+            return crafted;
+        }
+    }
+}
+
+fn try_task(random: &mut Random, level: Level, shares: Pair, scale: usize) -> Option<Crafted> {
+    let (mut masks, fan) = graph(random, shares.typical.max(shares.critical));
+    let nominal = nominal_lengths(random, masks.len(), fan, scale);
+    let overload = match level {
+        Level::Low => nominal.clone(),
+        Level::High => overload_lengths(random, &nominal, fan, scale),
+    };
+    let [n, o] = [&nominal, &overload].map(|lengths| Budget::of(&masks, lengths));
+    let [cn, co, ln, lo] = [n.work, o.work, n.span, o.span].map(|figure| figure.min(u16::MAX.into()) as u16);
+    let mut figures = Figures { d: 1, cn, co, ln, lo };
+    let d = match level {
+        Level::Low => usize::from(ln + (cn - ln).div_ceil(shares.typical as u16)),
+        Level::High => least_deadline(figures, shares),
+    };
+    let d = d + *random.pick(&[0, 0, 0, 0, 1, 3]);
+    if d >= usize::from(co) || usize::from(co) > LIMIT {
+        return None;
+    }
+    figures.d = d as u16;
+    match random.within(0..=7) {
+        // Fewer chains than the figures allow for.
+        0 => masks.iter_mut().for_each(|mask| *mask &= random.word() as u32),
+        // Another graph under the same figures.
+        1 => masks = any_graph(random, masks.len()),
+        _ => {}
+    }
+    Some(Crafted { task: Task { level, figures, masks }, nominal, overload, shares })
+}
+
+/// A random graph: its masks, and how many of its first nodes stand beside each other with nothing before them.
+fn graph(random: &mut Random, processors: usize) -> (Vec<u32>, usize) {
+    match random.within(0..=4) {
+        // Nodes side by side, then a chain that has the higher numbers.
+        0 | 1 => {
+            let fan = random.within(1..=3) * processors;
+            let chain = random.within(1..=6);
+            let of_chain = (0..chain).map(|step| if step == 0 { 0 } else { 1 << (fan + step - 1) });
+            (vec![0; fan].into_iter().chain(of_chain).collect(), fan)
+        }
+        2 => (vec![0; random.within(2..=NODES)], 0),
+        3 => (layers(random), 0),
+        _ => {
+            let k = random.within(2..=NODES);
+            (any_graph(random, k), 0)
+        }
+    }
+}
+
+/// Layers of nodes; each node but the first ones' is preceded by some of the layer before.
+fn layers(random: &mut Random) -> Vec<u32> {
+    let mut masks: Vec<u32> = Vec::new();
+    let mut before = 0;
+    for _ in 0..random.within(2..=5) {
+        let start = masks.len();
+        let width = random.within(1..=6);
+        for _ in 0..width {
+            let some = before & random.word() as u32;
+            masks.push(if some == 0 { before } else { some });
+        }
+        before = ((1 << width) - 1) << start;
+    }
+    masks
+}
+
+fn any_graph(random: &mut Random, k: usize) -> Vec<u32> {
+    let sparse = random.once_in(2);
+    let mask = |v: usize| {
+        let below = ((1u64 << v) - 1) as u32;
+        let some = random.word() as u32 & below;
+        some & if sparse { (random.word() & random.word()) as u32 } else { random.word() as u32 }
+    };
+    (0..k).map(mask).collect()
+}
+
+fn nominal_lengths(random: &mut Random, k: usize, fan: usize, scale: usize) -> Vec<u32> {
+    let alike = random.within(1..=scale) as u32;
+    let even = random.once_in(2);
+    let length = |v: usize| if v < fan || even { alike } else { random.within(1..=scale) as u32 };
+    (0..k).map(length).collect()
+}
+
+/// Lengths of at least the nominal ones.
+fn overload_lengths(random: &mut Random, nominal: &[u32], fan: usize, scale: usize) -> Vec<u32> {
+    let style = random.within(0..=4);
+    let times = random.within(1..=3) as u32;
+    let by = random.within(1..=2 * scale) as u32;
+    let longer = |(v, &length): (usize, &u32)| match style {
+        0 => length + times * length,
+        1 => length + by,
+        2 if v < fan => length + by,
+        3 if v >= fan => length + by,
+        2 | 3 => length,
+        _ => length + random.within(0..=2 * scale) as u32,
+    };
+    nominal.iter().enumerate().map(longer).collect()
+}
+
+/// A sheet of a high task, whose number is given, and a low one. The high task's overload lengths keep its typical
+/// processors busy for V ticks, then its critical ones for some more, and only then let a chain of length LO begin: with
+/// shares (a, b) its job ends in tick D and not before. None where the plan has other shares.
+pub fn exact(random: &mut Random) -> Option<(Sheet, Vec<Crafted>, usize)> {
+    let a = random.within(1..=4);
+    let b = random.within(a + 1..=8);
+    let (ln, each, then) = (random.within(1..=8), random.within(0..=8), random.within(1..=8));
+    let v = ln + each;
+    let lo = v.max(then) + random.within(0..=5);
+    let steps = random.within(1..=4.min(lo));
+    let of_chain = (0..steps).map(|step| lo / steps + usize::from(step < lo % steps));
+    let overload: Vec<usize> = [vec![v; a], vec![then; b], of_chain.collect()].concat();
+    let in_chain = |v: usize| if v > a + b { 1 << (v - 1) } else { 0 };
+    let masks: Vec<u32> = (0..overload.len()).map(in_chain).collect();
+    let [d, cn, co, ln, lo] = [v + then + lo, ln + a * each, a * v + b * then + lo, ln, lo].map(|figure| figure as u16);
+    let figures = Figures { d, cn, co, ln, lo };
+    let high = given(Level::High, figures, masks, Pair { typical: a, critical: b }, overload);
+
+    let processors = b.max(a + 2);
+    let share = processors - a;
+    let figures = low_figures(random, share);
+    let (l, d) = (figures.ln.into(), usize::from(figures.d));
+    let lengths = [vec![d - l; share], vec![l]].concat();
+    let low = given(Level::Low, figures, vec![0; share + 1], Pair { typical: share, critical: 0 }, lengths);
+
+    let place = random.within(0..=1);
+    let tasks = if place == 0 { vec![high, low] } else { vec![low, high] };
+    let of_tasks = tasks.iter().map(|crafted| crafted.task.clone()).collect();
+    let sheet = Sheet { processors: processors as u8, tasks: of_tasks };
+    let plan = planner::plan(&sheet).ok()?;
+    (plan.tasks[place].shares == tasks[place].shares).then_some((sheet, tasks, place))
+}
+
+fn given(level: Level, figures: Figures, masks: Vec<u32>, shares: Pair, lengths: Vec<usize>) -> Crafted {
+    let lengths: Vec<u32> = lengths.into_iter().map(|length| length as u32).collect();
+    Crafted { task: Task { level, figures, masks }, nominal: lengths.clone(), overload: lengths, shares }
+}

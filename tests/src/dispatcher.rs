@@ -1,0 +1,346 @@
+//! A dispatcher, written from document 01 alone ("Dispatch" and rows 10 to 16). Sets of nodes are rows of marks, and a
+//! step makes a whole state out of the one before. It shares nothing with the proved one: neither code nor definitions.
+use crate::answers::{Cause, Refusal};
+use crate::planner::{self, Plan};
+use crate::reader::{Level, Sheet};
+
+/// The entries of a state.
+pub const ENTRIES: usize = 16;
+/// The nodes that an entry has room for.
+pub const NODES: usize = 32;
+/// A high task's level; a low one's is 0.
+pub const HIGH: u8 = 1;
+
+/// A mark for each node.
+pub type Nodes = [bool; NODES];
+
+/// The nodes of a set in a u32.
+pub fn nodes(set: u32) -> Nodes {
+    let mut nodes = [false; NODES];
+    for (node, marked) in nodes.iter_mut().enumerate().take_while(|(node, _)| set >> node != 0) {
+        *marked = set >> node & 1 == 1;
+    }
+    nodes
+}
+
+/// The set in a u32 of some nodes.
+pub fn set_of(nodes: &Nodes) -> u32 {
+    nodes.iter().enumerate().fold(0, |set, (node, &marked)| set | u32::from(marked) << node)
+}
+
+/// The standing state.
+#[derive(Clone, Copy, Debug, PartialEq, Eq)]
+pub enum Mode {
+    Typical,
+    Critical,
+}
+
+#[derive(Clone, Debug, PartialEq, Eq)]
+pub struct Entry {
+    pub level: u8,
+    /// k.
+    pub nodes: u8,
+    pub typical: u8,
+    pub critical: u8,
+    pub alive: bool,
+    /// D.
+    pub deadline: u32,
+    /// V.
+    pub virtual_deadline: u32,
+    pub age: u32,
+    pub ended: Nodes,
+    /// For each node the nodes that precede it.
+    pub preceding: [Nodes; NODES],
+}
+
+#[derive(Clone, Debug, PartialEq, Eq)]
+pub struct State {
+    /// M.
+    pub processors: u8,
+    /// n.
+    pub count: u8,
+    pub mode: Mode,
+    /// There are sixteen.
+    pub entries: Vec<Entry>,
+}
+
+/// A way in which a state is not sound.
+#[derive(Clone, Copy, Debug, PartialEq, Eq, PartialOrd, Ord)]
+pub enum Fault {
+    Processors,
+    Count,
+    Level,
+    NodeCount,
+    Mask,
+    Deadline,
+    VirtualDeadline,
+    TypicalTotal,
+    CriticalTotal,
+    Age,
+    EndedNode,
+    AliveButEnded,
+}
+
+/// An accepted tick: the state after it, and the lowest task that turned it critical.
+#[derive(Clone, Debug, PartialEq, Eq)]
+pub struct Ticked {
+    pub state: State,
+    pub switched: Option<usize>,
+}
+
+/// Start: rows 1 to 8, else the fresh state.
+pub fn start(sheet: &[u8]) -> Result<State, Refusal> {
+    planner::read_and_plan(sheet).map(|(sheet, plan)| State::fresh(&sheet, &plan))
+}
+
+impl Entry {
+    pub const ZERO: Entry = Entry {
+        level: 0,
+        nodes: 0,
+        typical: 0,
+        critical: 0,
+        alive: false,
+        deadline: 0,
+        virtual_deadline: 0,
+        age: 0,
+        ended: [false; NODES],
+        preceding: [[false; NODES]; NODES],
+    };
+
+    /// The nodes below k; there are no more than 32.
+    fn own(&self) -> std::ops::Range<usize> {
+        0..NODES.min(self.nodes.into())
+    }
+
+    pub fn all_ended(&self) -> bool {
+        self.own().all(|v| self.ended[v])
+    }
+
+    fn is_ready(&self, v: usize) -> bool {
+        let waits = (0..NODES).any(|j| self.preceding[v][j] && !self.ended[j]);
+        self.alive && !self.ended[v] && !waits
+    }
+
+    fn share(&self, mode: Mode) -> usize {
+        match mode {
+            Mode::Typical => self.typical.into(),
+            Mode::Critical => self.critical.into(),
+        }
+    }
+
+    fn faults(&self) -> Vec<Fault> {
+        let k = usize::from(self.nodes);
+        let forward = self.own().any(|v| self.preceding[v][v..].contains(&true));
+        let all_ended = k <= NODES && self.all_ended();
+        let tests = [
+            (Fault::Level, self.level > HIGH),
+            (Fault::NodeCount, !(1..=NODES).contains(&k)),
+            (Fault::Mask, forward),
+            (Fault::Deadline, !(1..=10_000).contains(&self.deadline)),
+            (Fault::VirtualDeadline, self.virtual_deadline > self.deadline),
+            (Fault::Age, self.age > self.deadline),
+            (Fault::EndedNode, self.ended.iter().skip(k).any(|&ended| ended)),
+            (Fault::AliveButEnded, self.alive && all_ended),
+        ];
+        tests.into_iter().filter(|&(_, broken)| broken).map(|(fault, _)| fault).collect()
+    }
+}
+
+impl State {
+    /// The state that a refused Start returns.
+    pub fn zero() -> State {
+        State { processors: 0, count: 0, mode: Mode::Typical, entries: vec![Entry::ZERO; ENTRIES] }
+    }
+
+    /// The state of a planned sheet: typical, nothing alive, no node ended, each age = D.
+    pub fn fresh(sheet: &Sheet, plan: &Plan) -> State {
+        let mut state = State { processors: sheet.processors, count: sheet.tasks.len() as u8, ..State::zero() };
+        for ((entry, task), planned) in state.entries.iter_mut().zip(&sheet.tasks).zip(&plan.tasks) {
+            *entry = Entry {
+                level: if task.level == Level::High { HIGH } else { 0 },
+                nodes: task.masks.len() as u8,
+                typical: planned.shares.typical as u8,
+                critical: planned.shares.critical as u8,
+                deadline: task.figures.d.into(),
+                virtual_deadline: planned.virtual_deadline.into(),
+                age: task.figures.d.into(),
+                ..Entry::ZERO
+            };
+            for (preceding, &mask) in entry.preceding.iter_mut().zip(&task.masks) {
+                *preceding = nodes(mask);
+            }
+        }
+        state
+    }
+
+    /// The entries below n; there are no more than sixteen.
+    fn own(&self) -> &[Entry] {
+        &self.entries[..ENTRIES.min(self.count.into())]
+    }
+
+    /// All ways in which the state is not sound.
+    pub fn faults(&self) -> Vec<Fault> {
+        let total = |mode| self.own().iter().map(|entry| entry.share(mode)).sum::<usize>();
+        let most = usize::from(self.processors);
+        let tests = [
+            (Fault::Processors, !(1..=64).contains(&most)),
+            (Fault::Count, !(1..=ENTRIES).contains(&usize::from(self.count))),
+            (Fault::TypicalTotal, total(Mode::Typical) > most),
+            (Fault::CriticalTotal, total(Mode::Critical) > most),
+        ];
+        let of_state = tests.into_iter().filter(|&(_, broken)| broken).map(|(fault, _)| fault);
+        let mut all: Vec<Fault> = of_state.chain(self.own().iter().flat_map(Entry::faults)).collect();
+        all.sort();
+        all
+    }
+
+    fn sound(&self) -> Result<(), Refusal> {
+        if self.faults().is_empty() {
+            Ok(())
+        } else {
+            Err(Refusal::whole(Cause::NotSound))
+        }
+    }
+
+    /// A task's running nodes: its lowest ready ones, as many as its share in the standing state allows.
+    pub fn running(&self, task: usize) -> Vec<usize> {
+        let entry = &self.entries[task];
+        entry.own().filter(|&v| entry.is_ready(v)).take(entry.share(self.mode)).collect()
+    }
+
+    /// Release: rows 10 to 13, else the state with the job alive.
+    pub fn release(&self, task: usize) -> Result<State, Refusal> {
+        self.sound()?;
+        let entry = self.own().get(task).ok_or(Refusal::whole(Cause::NoSuchTask))?;
+        if entry.level != HIGH && self.mode == Mode::Critical {
+            return Err(Refusal::of(Cause::LowWhenCritical, task));
+        }
+        if entry.alive || entry.age < entry.deadline {
+            return Err(Refusal::of(Cause::NotDue, task));
+        }
+        let mut state = self.clone();
+        let entry = &mut state.entries[task];
+        (entry.alive, entry.ended, entry.age) = (true, [false; NODES], 0);
+        Ok(state)
+    }
+
+    /// Tick: rows 10, 14 and 15, else the state after it.
+    pub fn tick(&self, reports: &[u32]) -> Result<Ticked, Refusal> {
+        self.sound()?;
+        if reports.len() != self.own().len() {
+            return Err(Refusal::whole(Cause::ReportCount));
+        }
+        let reports: Vec<Nodes> = reports.iter().map(|&report| nodes(report)).collect();
+        for (task, report) in reports.iter().enumerate() {
+            let running = self.running(task);
+            if (0..NODES).any(|v| report[v] && !running.contains(&v)) {
+                return Err(Refusal::of(Cause::NotRunning, task));
+            }
+        }
+        let mut state = self.clone();
+        for (entry, report) in state.entries.iter_mut().zip(&reports) {
+            entry.ended = std::array::from_fn(|v| entry.ended[v] || report[v]);
+            entry.alive = entry.alive && !entry.all_ended();
+            entry.age = entry.deadline.min(entry.age + 1);
+        }
+        let late = |entry: &Entry| entry.alive && entry.level == HIGH && entry.age >= entry.virtual_deadline;
+        let switched = match self.mode {
+            Mode::Typical => state.own().iter().position(late),
+            Mode::Critical => None,
+        };
+        if switched.is_some() {
+            state.mode = Mode::Critical;
+            for entry in state.entries.iter_mut().take(reports.len()).filter(|entry| entry.level != HIGH) {
+                entry.alive = false;
+            }
+        }
+        Ok(Ticked { state, switched })
+    }
+
+    /// Board: rows 10 and 16 for a buffer of so many bytes, else what is written to it.
+    pub fn board(&self, length: usize) -> Result<Vec<u8>, Refusal> {
+        self.sound()?;
+        if length != 2 * usize::from(self.processors) {
+            return Err(Refusal::whole(Cause::BoardBuffer));
+        }
+        let mut board = vec![255; length];
+        let mut first = 0;
+        for (task, entry) in self.own().iter().enumerate() {
+            for (place, v) in self.running(task).into_iter().enumerate() {
+                board[2 * (first + place)..][..2].copy_from_slice(&[task as u8, v as u8]);
+            }
+            first += entry.share(self.mode);
+        }
+        Ok(board)
+    }
+}
+
+#[cfg(test)]
+mod tests {
+    use super::*;
+    use crate::sheets::{Draft, CASE_14};
+
+    /// Task A of document 01 alone on two processors, with three nodes that nothing precedes.
+    fn three_nodes() -> State {
+        let mut a = CASE_14[14..26].to_vec();
+        a[1] = 3;
+        a.extend([0; 12]);
+        start(&Draft { processors: 2, records: vec![a] }.bytes()).unwrap()
+    }
+
+    #[test]
+    fn a_fresh_state_is_sound_and_idle() {
+        let state = start(&CASE_14).unwrap();
+        assert_eq!(state.faults(), []);
+        assert_eq!(state.board(16).unwrap(), [255; 16]);
+        assert_eq!(state.entries[3..], vec![Entry::ZERO; 13]);
+        let of_entry =
+            |entry: &Entry| (entry.level, entry.nodes, entry.typical, entry.critical, entry.virtual_deadline);
+        let entries: Vec<_> = state.entries[..3].iter().map(of_entry).collect();
+        assert_eq!(entries, [(1, 1, 1, 2, 9), (1, 1, 2, 6, 7), (0, 1, 5, 0, 0)]);
+        assert!(state.entries[..3].iter().all(|entry| entry.age == entry.deadline && !entry.alive));
+    }
+
+    #[test]
+    fn a_job_of_each_task_fills_the_front_of_its_block() {
+        let mut state = start(&CASE_14).unwrap();
+        for task in [2, 0, 1] {
+            state = state.release(task).unwrap();
+        }
+        let pairs = |state: &State| -> Vec<(usize, u8, u8)> {
+            let board = state.board(16).unwrap();
+            let pairs = board.chunks_exact(2).enumerate().map(|(place, pair)| (place, pair[0], pair[1]));
+            pairs.filter(|&(_, task, node)| (task, node) != (255, 255)).collect()
+        };
+        assert_eq!(pairs(&state), [(0, 0, 0), (1, 1, 0), (3, 2, 0)]);
+        for tick in 1..=7 {
+            let ticked = state.tick(&[0; 3]).unwrap();
+            assert_eq!(ticked.switched, (tick == 7).then_some(1), "B's V is 7");
+            state = ticked.state;
+        }
+        assert_eq!(pairs(&state), [(0, 0, 0), (2, 1, 0)]);
+        assert!(!state.entries[2].alive);
+        assert_eq!(state.release(2), Err(Refusal::of(Cause::LowWhenCritical, 2)));
+        assert_eq!(state.release(1), Err(Refusal::of(Cause::NotDue, 1)));
+        assert_eq!(state.release(3), Err(Refusal::whole(Cause::NoSuchTask)));
+        assert_eq!(state.tick(&[0; 2]), Err(Refusal::whole(Cause::ReportCount)));
+        assert_eq!(state.tick(&[0, 2, 1]), Err(Refusal::of(Cause::NotRunning, 1)));
+        assert_eq!(state.tick(&[1, 1, 1]), Err(Refusal::of(Cause::NotRunning, 2)));
+        assert_eq!(state.board(15), Err(Refusal::whole(Cause::BoardBuffer)));
+        assert_eq!(state.tick(&[1, 1, 0]).unwrap().state.entries[0].age, 8);
+    }
+
+    #[test]
+    fn a_job_may_come_again_when_its_age_is_d() {
+        let mut state = three_nodes().release(0).unwrap();
+        state = state.tick(&[1]).unwrap().state.tick(&[2]).unwrap().state.tick(&[4]).unwrap().state;
+        assert!(!state.entries[0].alive && set_of(&state.entries[0].ended) == 7);
+        for _ in 3..45 {
+            assert_eq!(state.release(0), Err(Refusal::of(Cause::NotDue, 0)));
+            state = state.tick(&[0]).unwrap().state;
+        }
+        assert_eq!(state.tick(&[0]).unwrap().state.entries[0].age, 45);
+        state = state.release(0).unwrap();
+        assert!(state.entries[0].alive && set_of(&state.entries[0].ended) == 0 && state.entries[0].age == 0);
+    }
+}

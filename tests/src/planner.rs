@@ -1,0 +1,377 @@
+//! A planner, written from document 01 alone ("Shares", rows 7 to 9, and the printed lines of case 14).
+//! It keeps whole choices, one for each pair of totals that the tasks so far can reach, and shares nothing with the
+//! proved planner: neither code nor method.
+use crate::answers::{Cause, Refusal, Reply};
+use crate::reader::{self, Figures, Level, Sheet, Task};
+
+/// A task's share in each state.
+#[derive(Clone, Copy, Debug, PartialEq, Eq, PartialOrd, Ord)]
+pub struct Pair {
+    pub typical: usize,
+    pub critical: usize,
+}
+
+/// What the plan gives a task.
+#[derive(Clone, Copy, Debug, PartialEq, Eq)]
+pub struct Planned {
+    pub shares: Pair,
+    /// V.
+    pub virtual_deadline: u16,
+}
+
+/// A plan, a task after the other.
+#[derive(Clone, Debug, PartialEq, Eq)]
+pub struct Plan {
+    pub tasks: Vec<Planned>,
+    /// The fitting choices whose totals are those of the chosen one, it counted.
+    pub ties: u64,
+}
+
+/// The bytes that the printer takes as the sheet.
+pub const PRINTER_INPUT: usize = 4_096;
+
+/// Plans what was read: row 7 over the tasks, then row 8.
+pub fn plan(sheet: &Sheet) -> Result<Plan, Refusal> {
+    let most = usize::from(sheet.processors);
+    let options: Vec<Vec<Pair>> = sheet.tasks.iter().map(|task| options(task, most)).collect();
+    if let Some(task) = options.iter().position(Vec::is_empty) {
+        return Err(Refusal::of(Cause::NoShare, task));
+    }
+    // The choices stand in the order of their pairs: of two with the same totals the first would be taken.
+    let chosen = fitting(&options, most).into_iter().min_by_key(|choice| (choice.critical, choice.typical));
+    let Some(chosen) = chosen else { return Err(Refusal::whole(Cause::NoFit)) };
+    let planned =
+        |(task, &shares): (&Task, &Pair)| Planned { shares, virtual_deadline: virtual_deadline(task, shares.typical) };
+    Ok(Plan { tasks: sheet.tasks.iter().zip(&chosen.pairs).map(planned).collect(), ties: chosen.ways })
+}
+
+/// Reads and plans a sheet.
+pub fn read_and_plan(sheet: &[u8]) -> Result<(Sheet, Plan), Refusal> {
+    let sheet = reader::read(sheet)?;
+    let plan = plan(&sheet)?;
+    Ok((sheet, plan))
+}
+
+/// The call Plan: its answer, and the buffer after it.
+pub fn plan_into(sheet: &[u8], buffer: &[u8]) -> (Reply, Vec<u8>) {
+    let bytes = read_and_plan(sheet).map(|(_, plan)| plan.bytes()).and_then(|bytes| {
+        let fits = bytes.len() <= buffer.len();
+        fits.then_some(bytes).ok_or(Refusal::whole(Cause::PlanBuffer))
+    });
+    match bytes {
+        Ok(bytes) => (Reply::Done, [&bytes, &buffer[bytes.len()..]].concat()),
+        Err(refusal) => (refusal.into(), buffer.to_vec()),
+    }
+}
+
+/// What the printer writes when it is given these bytes.
+pub fn printed(input: &[u8]) -> String {
+    let sheet = &input[..input.len().min(PRINTER_INPUT)];
+    match read_and_plan(sheet) {
+        Ok((_, plan)) => plan.lines(),
+        Err(refusal) => {
+            let task = refusal.task.unwrap_or(255);
+            format!("refused {} {task}\n", refusal.cause as u8)
+        }
+    }
+}
+
+impl Plan {
+    /// The 6n bytes: n typical pairs (offset, length), n critical pairs, n V.
+    pub fn bytes(&self) -> Vec<u8> {
+        let block = |(offset, length): (usize, usize)| [offset as u8, length as u8];
+        let typical = self.typical_blocks().into_iter().flat_map(block);
+        let critical = self.critical_blocks().into_iter().flat_map(block);
+        let deadlines = self.tasks.iter().flat_map(|task| task.virtual_deadline.to_le_bytes());
+        typical.chain(critical).chain(deadlines).collect()
+    }
+
+    fn lines(&self) -> String {
+        let blocks = self.typical_blocks().into_iter().zip(self.critical_blocks());
+        let line = |(i, (task, (typical, critical))): (usize, (&Planned, _))| {
+            let ((t, typical), (c, critical)): ((usize, usize), (usize, usize)) = (typical, critical);
+            format!("{i} {t} {typical} {c} {critical} {}\n", task.virtual_deadline)
+        };
+        self.tasks.iter().zip(blocks).enumerate().map(line).collect()
+    }
+
+    pub fn typical_blocks(&self) -> Vec<(usize, usize)> {
+        blocks(self.tasks.iter().map(|task| task.shares.typical))
+    }
+
+    pub fn critical_blocks(&self) -> Vec<(usize, usize)> {
+        blocks(self.tasks.iter().map(|task| task.shares.critical))
+    }
+}
+
+/// Offset and length of each block: a block starts at the sum of the shares before it.
+fn blocks(shares: impl Iterator<Item = usize>) -> Vec<(usize, usize)> {
+    let mut sum = 0;
+    let place = |share| {
+        sum += share;
+        (sum - share, share)
+    };
+    shares.map(place).collect()
+}
+
+/// All pairs that a task may get, smaller a first, then smaller b.
+pub fn options(task: &Task, most: usize) -> Vec<Pair> {
+    match task.level {
+        Level::Low => low_share(task.figures)
+            .filter(|&share| share <= most)
+            .map(|typical| Pair { typical, critical: 0 })
+            .into_iter()
+            .collect(),
+        Level::High => (1..=most)
+            .flat_map(|typical| (typical..=most).map(move |critical| Pair { typical, critical }))
+            .filter(|&pair| passes(task.figures, pair))
+            .collect(),
+    }
+}
+
+/// A low task's share: (CN − LN) / (D − LN) rounded up, none where LN ≥ D.
+fn low_share(figures: Figures) -> Option<usize> {
+    let [d, cn, ln] = [figures.d, figures.cn, figures.ln].map(usize::from);
+    (ln < d).then(|| (cn - ln).div_ceil(d - ln))
+}
+
+/// D·a·b ≥ (CN − LN)·b + w·a + LO·a·b + min(LN·a, w)·(b − a), with w = (CO − CN) − (LO − LN).
+pub fn passes(figures: Figures, Pair { typical, critical }: Pair) -> bool {
+    let (a, b) = (typical as i64, critical as i64);
+    i64::from(figures.d) * a * b >= needed(figures, a, b)
+}
+
+fn needed(figures: Figures, a: i64, b: i64) -> i64 {
+    let [cn, co, ln, lo] = [figures.cn, figures.co, figures.ln, figures.lo].map(i64::from);
+    let w = (co - cn) - (lo - ln);
+    (cn - ln) * b + w * a + lo * a * b + (ln * a).min(w) * (b - a)
+}
+
+/// The least D with which a pair passes, the other figures as they stand.
+pub fn least_deadline(figures: Figures, Pair { typical, critical }: Pair) -> usize {
+    let (a, b) = (typical as i64, critical as i64);
+    let needed = needed(figures, a, b);
+    ((needed + a * b - 1) / (a * b)) as usize
+}
+
+/// V: LN + (CN − LN) / a rounded down; 0 for a low task.
+fn virtual_deadline(task: &Task, typical: usize) -> u16 {
+    let Figures { cn, ln, .. } = task.figures;
+    match task.level {
+        Level::Low => 0,
+        Level::High => ln + (cn - ln) / typical as u16,
+    }
+}
+
+/// A choice for the first tasks: of all with these totals, the one whose list of pairs comes first.
+struct Choice {
+    typical: usize,
+    critical: usize,
+    pairs: Vec<Pair>,
+    ways: u64,
+}
+
+/// One choice for each pair of totals of at most M, in the order of their lists of pairs. The choices of the tasks so
+/// far are tried in their order and each with the next pairs in theirs, so the first to reach two totals comes first.
+/// Totals that leave too little for the least shares of the later tasks are left out.
+fn fitting(options: &[Vec<Pair>], most: usize) -> Vec<Choice> {
+    let least = |options: &[Vec<Pair>], share: fn(&Pair) -> usize| -> usize {
+        options.iter().map(|options| options.iter().map(share).min().unwrap_or(0)).sum()
+    };
+    let mut choices = vec![Choice { typical: 0, critical: 0, pairs: Vec::new(), ways: 1 }];
+    for (task, pairs) in options.iter().enumerate() {
+        let later = &options[task + 1..];
+        let room_typical = most.saturating_sub(least(later, |pair| pair.typical));
+        let room_critical = most.saturating_sub(least(later, |pair| pair.critical));
+        let mut reached = vec![None; (most + 1) * (most + 1)];
+        let mut longer: Vec<Choice> = Vec::new();
+        for choice in &choices {
+            let rows = pairs.chunk_by(|one, next| one.typical == next.typical);
+            let rows = rows.take_while(|row| choice.typical + row[0].typical <= room_typical);
+            let fits = |pair: &&Pair| choice.critical + pair.critical <= room_critical;
+            for &pair in rows.flat_map(|row| row.iter().take_while(fits)) {
+                let (typical, critical) = (choice.typical + pair.typical, choice.critical + pair.critical);
+                match &mut reached[typical * (most + 1) + critical] {
+                    Some(place) => {
+                        let other: &mut Choice = &mut longer[*place];
+                        other.ways = other.ways.saturating_add(choice.ways);
+                    }
+                    none => {
+                        *none = Some(longer.len());
+                        let pairs = choice.pairs.iter().copied().chain([pair]).collect();
+                        longer.push(Choice { typical, critical, pairs, ways: choice.ways });
+                    }
+                }
+            }
+        }
+        choices = longer;
+    }
+    choices
+}
+
+#[cfg(test)]
+mod tests {
+    use super::*;
+    use crate::random::Random;
+    use crate::sheets::{Draft, CASE_14};
+    use crate::tight;
+
+    const A: Figures = Figures { d: 45, cn: 9, co: 52, ln: 4, lo: 20 };
+    const B: Figures = Figures { d: 54, cn: 11, co: 80, ln: 4, lo: 42 };
+    const E: Figures = Figures { d: 18, cn: 66, co: 66, ln: 6, lo: 6 };
+
+    fn high(figures: Figures) -> Task {
+        Task { level: Level::High, figures, masks: vec![0] }
+    }
+
+    fn low(figures: Figures) -> Task {
+        Task { level: Level::Low, figures, masks: vec![0] }
+    }
+
+    fn planned(processors: u8, tasks: &[Task]) -> Result<Vec<u8>, Refusal> {
+        plan(&Sheet { processors, tasks: tasks.to_vec() }).map(|plan| plan.bytes())
+    }
+
+    /// The least fitting choice among all there are, one by one.
+    fn naive(sheet: &Sheet) -> Option<(Vec<Pair>, u64)> {
+        let most = usize::from(sheet.processors);
+        let mut all: Vec<Vec<Pair>> = vec![vec![]];
+        for task in &sheet.tasks {
+            let options = options(task, most);
+            all = all.iter().flat_map(|list| options.iter().map(|&pair| [&list[..], &[pair]].concat())).collect();
+        }
+        let totals = |list: &[Pair]| {
+            let typical: usize = list.iter().map(|pair| pair.typical).sum();
+            let critical: usize = list.iter().map(|pair| pair.critical).sum();
+            (critical, typical)
+        };
+        all.retain(|list| totals(list).0 <= most && totals(list).1 <= most);
+        let least = all.iter().min_by_key(|list| (totals(list), list.to_vec()))?.clone();
+        let ties = all.iter().filter(|list| totals(list) == totals(&least)).count();
+        Some((least, ties as u64))
+    }
+
+    #[test]
+    fn cases_1_to_10() {
+        let case = |figures: Figures, typical, critical| {
+            let ab = (typical * critical) as i64;
+            let pair = Pair { typical, critical };
+            (i64::from(figures.d) * ab, needed(figures, typical as i64, critical as i64), passes(figures, pair))
+        };
+        assert_eq!(case(A, 1, 1), (45, 52, false));
+        assert_eq!(case(A, 1, 2), (90, 81, true));
+        assert_eq!([1, 2].map(|a| virtual_deadline(&high(A), a)), [9, 6]);
+        assert_eq!(case(B, 2, 5), (540, 541, false));
+        assert_eq!(case(B, 2, 6), (648, 640, true));
+        assert_eq!(case(B, 3, 3), (486, 492, false));
+        assert_eq!(case(B, 3, 4), (648, 637, true));
+        assert_eq!(virtual_deadline(&high(B), 3), 6);
+        assert_eq!(case(B, 1, 26), (1404, 1405, false));
+        assert_eq!(case(B, 1, 27), (1458, 1458, true));
+        let low = |c| low_share(Figures { d: 18, cn: c, co: c, ln: 6, lo: 6 });
+        assert_eq!([30, 31, 66].map(low), [Some(2), Some(3), Some(5)]);
+    }
+
+    #[test]
+    fn case_11() {
+        let tasks = [high(A), high(B)];
+        let bytes = vec![0, 1, 1, 3, 0, 2, 2, 4, 9, 0, 6, 0];
+        assert_eq!(planned(8, &tasks), Ok(bytes.clone()));
+        assert_eq!(planned(6, &tasks), Ok(bytes));
+        assert_eq!(planned(5, &tasks), Err(Refusal::whole(Cause::NoFit)));
+        assert_eq!(planned(3, &tasks), Err(Refusal::of(Cause::NoShare, 1)));
+    }
+
+    #[test]
+    fn case_12() {
+        assert_eq!(planned(7, &[high(A), high(B), low(E)]), Err(Refusal::whole(Cause::NoFit)));
+    }
+
+    #[test]
+    fn case_14() {
+        assert_eq!(printed(&CASE_14), "0 0 1 0 2 9\n1 1 2 2 6 7\n2 3 5 8 0 0\n");
+        assert_eq!(printed(&CASE_14[..61]), "refused 2 2\n");
+        assert_eq!(printed(&[]), "refused 1 255\n");
+    }
+
+    #[test]
+    fn the_buffer_keeps_its_later_bytes_and_all_where_refused() {
+        let plan = [0, 1, 1, 2, 3, 5, 0, 2, 2, 6, 8, 0, 9, 0, 7, 0, 0, 0];
+        assert_eq!(plan_into(&CASE_14, &[7; 20]), (Reply::Done, [&plan[..], &[7, 7]].concat()));
+        assert_eq!(plan_into(&CASE_14, &[7; 18]), (Reply::Done, plan.to_vec()));
+        assert_eq!(plan_into(&CASE_14, &[7; 17]), (Reply::Refused(9, 255), vec![7; 17]));
+        assert_eq!(plan_into(&CASE_14[..61], &[7; 17]), (Reply::Refused(2, 2), vec![7; 17]));
+    }
+
+    #[test]
+    fn a_low_task_needs_room_for_its_span() {
+        let with = |d, l| low(Figures { d, cn: 66, co: 66, ln: l, lo: l });
+        assert_eq!(planned(64, &[with(18, 17)]), Ok(vec![0, 49, 0, 0, 0, 0]));
+        for task in [with(18, 18), with(18, 19)] {
+            assert_eq!(planned(64, &[high(A), task]), Err(Refusal::of(Cause::NoShare, 1)));
+        }
+        assert_eq!(planned(49, &[with(18, 17)]), Ok(vec![0, 49, 0, 0, 0, 0]));
+        assert_eq!(planned(48, &[with(18, 17)]), Err(Refusal::of(Cause::NoShare, 0)));
+    }
+
+    #[test]
+    fn the_choice_is_the_least_of_all() {
+        let mut random = Random::of_test("naive planner");
+        let (mut chosen, mut tied, mut unfit) = (0, 0, 0);
+        for round in 0..6_000 {
+            let sheet = if round % 3 == 0 {
+                tight::tied(&mut random)
+            } else {
+                let count = random.within(1..=4);
+                let most = [0, 24, 12, 7, 5][count];
+                let tasks = tight::sheet(&mut random, count).tasks;
+                Sheet { processors: random.within(1..=most) as u8, tasks }
+            };
+            let most = usize::from(sheet.processors);
+            if sheet.tasks.iter().map(|task| options(task, most).len()).product::<usize>() > 20_000 {
+                continue;
+            }
+            let naive = naive(&sheet);
+            match plan(&sheet) {
+                Ok(plan) => {
+                    let pairs: Vec<Pair> = plan.tasks.iter().map(|task| task.shares).collect();
+                    assert_eq!(naive, Some((pairs, plan.ties)), "{sheet:?}");
+                    chosen += 1;
+                    tied += (plan.ties > 1) as usize;
+                }
+                Err(refusal) => {
+                    assert_eq!(naive, None, "{sheet:?}");
+                    unfit += (refusal.cause == Cause::NoFit) as usize;
+                }
+            }
+        }
+        println!("naive planner: {chosen} chosen, {tied} of them among ties, {unfit} without a fitting choice");
+        assert!(chosen >= 1_000 && tied >= 200 && unfit >= 500);
+    }
+
+    #[test]
+    fn the_least_deadline_is_the_least() {
+        let mut random = Random::of_test("least deadline");
+        for _ in 0..5_000 {
+            let task = tight::task(&mut random, 12);
+            let pair = Pair { typical: random.within(1..=8), critical: random.within(8..=12) };
+            let least = least_deadline(task.figures, pair);
+            let with = |d| passes(Figures { d, ..task.figures }, pair);
+            if (1..=65_535).contains(&least) {
+                assert!(with(least as u16) && !with(least as u16 - 1));
+            }
+        }
+    }
+
+    #[test]
+    fn a_drafted_sheet_is_planned_as_its_tasks_are() {
+        let mut random = Random::of_test("drafted plans");
+        for _ in 0..100 {
+            let count = random.within(1..=16);
+            let mut sheet = tight::sheet(&mut random, count);
+            sheet.processors = random.within(1..=64) as u8;
+            let bytes = Draft::of(&sheet).bytes();
+            assert_eq!(read_and_plan(&bytes), plan(&sheet).map(|plan| (sheet, plan)));
+        }
+    }
+}

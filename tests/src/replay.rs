@@ -1,0 +1,187 @@
+//! Runs a list of calls from Start on a dispatcher, and holds what it answers, returns and shows on its boards to
+//! document 01's model and to what is promised of whole lists: high jobs within their overload budgets end in time,
+//! nothing switches while high jobs keep their nominal ones, and no task runs on more than its share.
+use crate::answers::Reply;
+use crate::boundary::{of_bytes, to_bytes, Dispatcher};
+use crate::counts::{hold, Counts};
+use crate::dispatcher::{Mode, State, Ticked, NODES};
+use crate::lengths::Budget;
+use crate::planner::{self, Plan};
+use crate::reader::{Level, Sheet, Task};
+use crate::world::{Call, Story};
+
+/// What is known of a task's last job. Running nodes are those of the dispatcher's boards.
+struct Watch<'a> {
+    lengths: &'a [u32],
+    /// The ticks on which each node has run.
+    runs: [u32; NODES],
+    /// Whether every report so far was true.
+    truthful: bool,
+    ticks: u32,
+    /// The tick with which the last node ended.
+    ended: Option<u32>,
+    keeps_nominal: bool,
+    keeps_overload: bool,
+}
+
+impl Watch<'_> {
+    fn new<'a>(task: &Task, lengths: &'a [u32]) -> Watch<'a> {
+        let figures = task.figures;
+        let allows =
+            |work: u16, span: u16| Budget { work: work.into(), span: span.into() }.allows(&task.masks, lengths);
+        Watch {
+            lengths,
+            runs: [0; NODES],
+            truthful: true,
+            ticks: 0,
+            ended: None,
+            keeps_nominal: allows(figures.cn, figures.ln),
+            keeps_overload: allows(figures.co, figures.lo),
+        }
+    }
+
+    /// An accepted tick: true reports name the running nodes whose length is run with it, and no others.
+    fn tick(&mut self, running: &[usize], report: u32) {
+        self.ticks += 1;
+        let mut ended = 0;
+        for &v in running {
+            self.runs[v] += 1;
+            ended |= u32::from(self.runs[v] == self.lengths[v]) << v;
+        }
+        self.truthful &= report == ended;
+    }
+}
+
+struct Replay<'a> {
+    sheet: Sheet,
+    plan: Plan,
+    watches: Vec<Option<Watch<'a>>>,
+    /// Whether all high jobs so far kept their nominal budgets under true reports.
+    nominal: bool,
+    counts: &'a mut Counts,
+}
+
+/// Runs a story on a dispatcher from the fresh state that Start returned for its sheet.
+pub fn run(dispatcher: &dyn Dispatcher, fresh: Vec<u8>, story: &Story, counts: &mut Counts) {
+    let (sheet, plan) = planner::read_and_plan(&story.sheet).expect("a story's sheet is accepted");
+    let mut model = State::fresh(&sheet, &plan);
+    let on = |place: usize| format!("call {place} of {story:?}");
+    hold(&fresh, &to_bytes(&model), || on(0));
+    let watches = sheet.tasks.iter().map(|_| None).collect();
+    let mut replay = Replay { sheet, plan, watches, nominal: true, counts };
+    let mut state = fresh;
+    for (place, call) in story.calls.iter().enumerate() {
+        let (reply, next) = match call {
+            Call::Release(task) => {
+                let (reply, next) = dispatcher.release(&state, *task);
+                let expected = model.release(*task).map(|next| model = next);
+                hold(&reply, &expected.map_or_else(Reply::from, |()| Reply::Done), || on(place));
+                if reply == Reply::Done {
+                    replay.release(*task, &story.lengths[&place]);
+                }
+                (reply, next)
+            }
+            Call::Tick(reports) => {
+                let mut board = vec![0; 2 * usize::from(replay.sheet.processors)];
+                hold(&dispatcher.board(&state, &mut board), &Reply::Done, || on(place));
+                let running = replay.running(&board, model.mode, || on(place));
+                let (reply, next) = dispatcher.tick(&state, reports);
+                let expected = match model.tick(reports) {
+                    Ok(Ticked { state, switched }) => {
+                        model = state;
+                        switched.map_or(Reply::Done, |task| Reply::Switched(task as u8))
+                    }
+                    Err(refusal) => refusal.into(),
+                };
+                hold(&reply, &expected, || on(place));
+                if reply.row() == 0 {
+                    replay.tick(reports, &running, reply, &of_bytes(&next), || on(place));
+                }
+                (reply, next)
+            }
+        };
+        assert!(reply.row() == 0 || next == state, "a refused call changed the state: {}", on(place));
+        hold(&next, &to_bytes(&model), || on(place));
+        replay.counts.add(match (reply, call) {
+            (Reply::Refused(row, _), _) => row.to_string(),
+            (Reply::Switched(_), _) => "switched".to_string(),
+            (Reply::Done, Call::Release(_)) => "released".to_string(),
+            (Reply::Done, Call::Tick(_)) => "ran".to_string(),
+        });
+        state = next;
+    }
+    replay.counts.add(if replay.nominal { "lists within nominal budgets" } else { "other lists" });
+}
+
+impl<'a> Replay<'a> {
+    fn release(&mut self, task: usize, lengths: &'a [u32]) {
+        let watch = Watch::new(&self.sheet.tasks[task], lengths);
+        if self.sheet.tasks[task].level == Level::High {
+            self.nominal &= watch.keeps_nominal;
+        }
+        self.watches[task] = Some(watch);
+    }
+
+    /// Each task's running nodes as a board shows them: lowest first, from the front of the task's block in the standing
+    /// state, and 255 in every other place. So no task has more than its share, and all have at most M.
+    fn running(&self, board: &[u8], mode: Mode, on: impl Fn() -> String) -> Vec<Vec<usize>> {
+        let blocks = match mode {
+            Mode::Typical => self.plan.typical_blocks(),
+            Mode::Critical => self.plan.critical_blocks(),
+        };
+        let mut expected = vec![255; board.len()];
+        let mut running = Vec::new();
+        for (task, (offset, share)) in blocks.into_iter().enumerate() {
+            let places = 2 * offset..2 * (offset + share);
+            let pairs = board[places.clone()].chunks_exact(2).take_while(|pair| **pair != [255, 255]);
+            let nodes: Vec<usize> = pairs.map(|pair| pair[1].into()).collect();
+            assert!(nodes.windows(2).all(|pair| pair[0] < pair[1]) && nodes.iter().all(|&v| v < NODES), "{}", on());
+            let written = nodes.iter().flat_map(|&v| [task as u8, v as u8]);
+            expected[places].iter_mut().zip(written).for_each(|(place, byte)| *place = byte);
+            running.push(nodes);
+        }
+        hold(&board, &&expected[..], on);
+        running
+    }
+
+    fn tick(&mut self, reports: &[u32], running: &[Vec<usize>], reply: Reply, after: &State, on: impl Fn() -> String) {
+        for (i, watch) in self.watches.iter_mut().enumerate() {
+            let Some(watch) = watch else { continue };
+            let task = &self.sheet.tasks[i];
+            let entry = &after.entries[i];
+            watch.tick(&running[i], reports[i]);
+            if watch.ended.is_none() && entry.all_ended() {
+                watch.ended = Some(watch.ticks);
+            }
+            if task.level == Level::Low {
+                continue;
+            }
+            self.nominal &= watch.truthful;
+            let v = u32::from(self.plan.tasks[i].virtual_deadline);
+            if watch.ticks == v && watch.truthful && watch.keeps_nominal && watch.ended == Some(v) {
+                self.counts.add("nominal jobs that ended in tick V");
+            }
+            let deadline = u32::from(task.figures.d);
+            if watch.ticks == deadline && watch.truthful && watch.keeps_overload {
+                assert!(
+                    entry.all_ended() && !entry.alive,
+                    "seed {}: a high job is late: {}",
+                    crate::random::seed(),
+                    on()
+                );
+                self.counts.add("high jobs that were due");
+                let ended = watch.ended.unwrap_or(deadline);
+                if ended + 1 >= deadline {
+                    self.counts.add("of these ended within one tick of D");
+                }
+                if ended == deadline {
+                    self.counts.add("of these ended in tick D");
+                }
+            }
+        }
+        if self.nominal {
+            let switched = matches!(reply, Reply::Switched(_)) || after.mode == Mode::Critical;
+            assert!(!switched, "seed {}: switched within nominal budgets: {}", crate::random::seed(), on());
+        }
+    }
+}

@@ -1,0 +1,216 @@
+//! Families of call lists, to be run on any dispatcher.
+use crate::answers::Reply;
+use crate::boundary::{of_bytes, Dispatcher};
+use crate::counts::Counts;
+use crate::crafts::{crafted, crafted_task, exact, sheet_of, Crafted, Kind};
+use crate::dispatcher::Mode;
+use crate::planner;
+use crate::random::Random;
+use crate::reader::{Level, Sheet};
+use crate::replay::run;
+use crate::sheets::{Draft, CASE_14};
+use crate::world::{longest_lasting, story, Manner, Story};
+
+/// What lists are run on: a dispatcher, and the Start that gives it its fresh states.
+#[derive(Clone, Copy)]
+pub struct Subject<'a> {
+    pub dispatcher: &'a dyn Dispatcher,
+    pub start: fn(&[u8]) -> (Reply, Vec<u8>),
+}
+
+impl Subject<'_> {
+    fn run(&self, story: &Story, counts: &mut Counts) {
+        let (reply, fresh) = (self.start)(&story.sheet);
+        assert_eq!(reply, Reply::Done, "Start of {:?}", story.sheet);
+        run(self.dispatcher, fresh, story, counts);
+    }
+}
+
+/// A random list over a random sheet: kinds of high jobs, and whether they may lie. Low jobs do as they please.
+fn any_story(random: &mut Random, high: &[Kind], liars: bool, scale: usize) -> Story {
+    let count = *random.pick(&[1, 1, 2, 2, 3, 4, 5, 8, 16]);
+    let (sheet, tasks) = crafted(random, count, scale);
+    let longest = sheet.tasks.iter().map(|task| usize::from(task.figures.d)).max().unwrap_or(0);
+    let is_high = |task: &Crafted| task.task.level == Level::High;
+    let low = [Kind::Nominal, Kind::Nominal, Kind::Beyond, Kind::Endless];
+    let kinds = |task: &Crafted| if is_high(task) { high.to_vec() } else { low.to_vec() };
+    let manner = Manner {
+        ticks: random.within(1..=3) * longest + random.within(1..=3),
+        eager: !random.once_in(3),
+        kinds: tasks.iter().map(kinds).collect(),
+        first: tasks.iter().map(|_| if random.once_in(2) { 0 } else { random.within(0..=longest) }).collect(),
+        liars: tasks.iter().map(|task| liars || !is_high(task)).collect(),
+        refused: !random.once_in(3),
+    };
+    story(random, &sheet, &tasks, &manner)
+}
+
+/// High jobs keep their nominal budgets, so nothing may switch, whatever the low jobs do.
+pub fn nominal_lists(subject: Subject, rounds: usize) {
+    let mut random = Random::of_test("nominal lists");
+    let mut counts = Counts::new("nominal lists");
+    for round in 0..rounds {
+        let scale = if round % 50 == 49 { 100 } else { 6 };
+        let story = any_story(&mut random, &[Kind::Nominal], false, scale);
+        subject.run(&story, &mut counts);
+    }
+    assert_eq!(counts.of("lists within nominal budgets"), rounds);
+    assert_eq!(counts.of("switched"), 0);
+    let names =
+        ["released", "ran", "high jobs that were due", "nominal jobs that ended in tick V", "11", "13", "14", "15"];
+    counts.close(names, rounds / 5);
+}
+
+/// High jobs keep their overload budgets, and use them up.
+pub fn overload_lists(subject: Subject, rounds: usize) {
+    let mut random = Random::of_test("overload lists");
+    let mut counts = Counts::new("overload lists");
+    for round in 0..rounds {
+        let scale = if round % 50 == 49 { 100 } else { 6 };
+        let story = any_story(&mut random, &[Kind::Nominal, Kind::Overload, Kind::Overload], false, scale);
+        subject.run(&story, &mut counts);
+    }
+    counts.close(["released", "ran", "switched", "high jobs that were due", "11", "13", "14", "15"], rounds / 5);
+}
+
+/// Some high jobs never end or report what is not so; the others must be served as before.
+pub fn wild_lists(subject: Subject, rounds: usize) {
+    let mut random = Random::of_test("wild lists");
+    let mut counts = Counts::new("wild lists");
+    let kinds = [Kind::Nominal, Kind::Overload, Kind::Overload, Kind::Beyond, Kind::Endless];
+    for _ in 0..rounds {
+        let story = any_story(&mut random, &kinds, true, 6);
+        subject.run(&story, &mut counts);
+    }
+    let names = ["released", "ran", "switched", "high jobs that were due", "11", "12", "13", "14", "15"];
+    counts.close(names, rounds / 10);
+}
+
+/// Document 01's case 13: A alone on two processors, three nodes that nothing precedes, which run one after the other.
+pub fn case_13(subject: Subject) {
+    let record = [&[1, 3], &CASE_14[16..26], &[0; 12]].concat();
+    let (reply, fresh) = (subject.start)(&Draft { processors: 2, records: vec![record] }.bytes());
+    assert_eq!(reply, Reply::Done);
+    let run = |mut left: [u32; 3]| {
+        let (reply, mut state) = subject.dispatcher.release(&fresh, 0);
+        assert_eq!(reply, Reply::Done);
+        let mut replies = Vec::new();
+        for _ in 0..9 {
+            let mut board = [0; 4];
+            assert_eq!(subject.dispatcher.board(&state, &mut board), Reply::Done);
+            let [0, node @ 0..=2, 255, 255] = board else { panic!("{board:?} does not show one node") };
+            let node = usize::from(node);
+            left[node] -= 1;
+            let (reply, next) = subject.dispatcher.tick(&state, &[u32::from(left[node] == 0) << node]);
+            replies.push(reply);
+            state = next;
+        }
+        (replies, of_bytes(&state))
+    };
+    let (replies, state) = run([4, 3, 2]);
+    assert_eq!(replies, [Reply::Done; 9]);
+    assert!(!state.entries[0].alive && state.entries[0].all_ended() && state.mode == Mode::Typical);
+    let (replies, state) = run([4, 3, 3]);
+    assert_eq!(replies, [&[Reply::Done; 8][..], &[Reply::Switched(0)]].concat());
+    assert!(state.entries[0].alive && state.mode == Mode::Critical);
+}
+
+/// High jobs that last as long as the share test allows, to the tick.
+pub fn exact_lists(subject: Subject, rounds: usize) {
+    let mut random = Random::of_test("exact lists");
+    let mut counts = Counts::new("exact lists");
+    for _ in 0..rounds {
+        let (sheet, tasks, high) = std::iter::repeat_with(|| exact(&mut random)).flatten().next().expect("one is made");
+        let kinds = |task: &Crafted| vec![Kind::Given(task.overload.clone())];
+        let deadline = usize::from(tasks[high].task.figures.d);
+        let manner = Manner {
+            ticks: 2 * deadline,
+            eager: true,
+            kinds: tasks.iter().map(kinds).collect(),
+            first: vec![0; 2],
+            liars: vec![false; 2],
+            refused: random.once_in(2),
+        };
+        let before = counts.of("of these ended in tick D");
+        subject.run(&story(&mut random, &sheet, &tasks, &manner), &mut counts);
+        assert!(counts.of("of these ended in tick D") > before, "a job ended early: {sheet:?}");
+    }
+    counts.close(["switched", "of these ended in tick D"], rounds);
+}
+
+/// A high job that uses its overload budgets up, and a neighbour that turns the state critical at each tick of the
+/// job's life in turn, from just before its release on.
+pub fn forced_switches(subject: Subject, rounds: usize) {
+    let mut random = Random::of_test("forced switches");
+    let mut counts = Counts::new("forced switches");
+    for _ in 0..rounds {
+        let (sheet, tasks) = job_and_neighbour(&mut random);
+        let plan = planner::plan(&sheet).expect("crafted tasks are planned");
+        let to_switch = usize::from(plan.tasks[1].virtual_deadline);
+        let deadline = usize::from(tasks[0].task.figures.d);
+        let lengths = longest_lasting(&mut random, &sheet, &tasks[0], 0, &Kind::Overload);
+        let Some(lengths) = lengths else { continue };
+        let own_switch = usize::from(plan.tasks[0].virtual_deadline);
+        for switch in 0..=own_switch {
+            let manner = Manner {
+                ticks: to_switch + deadline + random.within(0..=2),
+                eager: true,
+                kinds: vec![vec![Kind::Given(lengths.clone())], vec![Kind::Endless]],
+                first: vec![to_switch, switch],
+                liars: vec![false, false],
+                refused: random.once_in(8),
+            };
+            let story = story(&mut random, &sheet, &tasks, &manner);
+            subject.run(&story, &mut counts);
+        }
+    }
+    counts.close(["switched", "high jobs that were due", "of these ended within one tick of D"], rounds / 2);
+}
+
+fn job_and_neighbour(random: &mut Random) -> (Sheet, Vec<Crafted>) {
+    loop {
+        let scale = random.within(2..=6);
+        let tasks: Vec<Crafted> = (0..2).map(|_| crafted_task(random, Level::High, 6, scale)).collect();
+        if let Some(made) = sheet_of(random, tasks) {
+            return made;
+        }
+    }
+}
+
+#[cfg(test)]
+mod tests {
+    use super::*;
+    use crate::boundary::{start, Independent};
+
+    const SUBJECT: Subject = Subject { dispatcher: &Independent, start };
+
+    #[test]
+    fn case_13_of_the_independent_dispatcher() {
+        case_13(SUBJECT);
+    }
+
+    #[test]
+    fn nominal_lists_of_the_independent_dispatcher() {
+        nominal_lists(SUBJECT, 100);
+    }
+
+    #[test]
+    fn overload_lists_of_the_independent_dispatcher() {
+        overload_lists(SUBJECT, 100);
+    }
+
+    #[test]
+    fn wild_lists_of_the_independent_dispatcher() {
+        wild_lists(SUBJECT, 100);
+    }
+
+    #[test]
+    fn exact_lists_of_the_independent_dispatcher() {
+        exact_lists(SUBJECT, 100);
+    }
+
+    #[test]
+    fn forced_switches_of_the_independent_dispatcher() {
+        forced_switches(SUBJECT, 20);
+    }
+}

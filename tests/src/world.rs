@@ -1,0 +1,148 @@
+//! The world around a dispatcher: lists of calls in which jobs run for lengths of the world's choice, made on the
+//! independent dispatcher.
+use crate::answers::Cause;
+use crate::crafts::{Crafted, Kind};
+use crate::dispatcher::{State, HIGH};
+use crate::planner;
+use crate::random::Random;
+use crate::reader::Sheet;
+use crate::sheets::Draft;
+use crate::states;
+use std::collections::BTreeMap;
+
+/// A call on a state.
+#[derive(Clone, Debug, PartialEq, Eq)]
+pub enum Call {
+    Release(usize),
+    Tick(Vec<u32>),
+}
+
+/// A list of calls from Start, and the lengths of the nodes of each job that it begins.
+#[derive(Clone, Debug)]
+pub struct Story {
+    pub sheet: Vec<u8>,
+    pub calls: Vec<Call>,
+    /// By the place of the job's release among the calls.
+    pub lengths: BTreeMap<usize, Vec<u32>>,
+}
+
+/// How a list of calls is made.
+pub struct Manner {
+    /// The accepted ticks.
+    pub ticks: usize,
+    /// Whether a job comes as soon as it may, else sometime later.
+    pub eager: bool,
+    /// The kinds of each task's jobs.
+    pub kinds: Vec<Vec<Kind>>,
+    /// The ticks before each task's first job.
+    pub first: Vec<usize>,
+    /// Whether a task's reports may be false in some of its jobs.
+    pub liars: Vec<bool>,
+    /// Whether calls that must be refused come in between.
+    pub refused: bool,
+}
+
+/// A job of the world: what is left of its lengths, and whether its reports are true.
+struct Job {
+    left: Vec<u32>,
+    liar: bool,
+}
+
+/// Makes a list of calls.
+pub fn story(random: &mut Random, sheet: &Sheet, tasks: &[Crafted], manner: &Manner) -> Story {
+    let plan = planner::plan(sheet).expect("crafted tasks are planned");
+    let mut state = State::fresh(sheet, &plan);
+    let mut story = Story { sheet: Draft::of(sheet).bytes(), calls: Vec::new(), lengths: BTreeMap::new() };
+    let mut jobs: Vec<Option<Job>> = tasks.iter().map(|_| None).collect();
+    for tick in 0..manner.ticks {
+        for task in 0..tasks.len() {
+            let comes = tick >= manner.first[task] && (manner.eager || random.once_in(10));
+            if !comes || state.entries[task].alive {
+                continue;
+            }
+            let Ok(next) = state.release(task) else { continue };
+            let kind = random.pick(&manner.kinds[task]).clone();
+            let Some(lengths) = tasks[task].lengths(random, &kind) else { continue };
+            state = next;
+            jobs[task] = Some(Job { left: lengths.clone(), liar: manner.liars[task] && random.once_in(2) });
+            story.lengths.insert(story.calls.len(), lengths);
+            story.calls.push(Call::Release(task));
+        }
+        if manner.refused && random.once_in(4) {
+            story.calls.extend(refused_call(random, &state));
+        }
+        let report = |(task, job): (usize, &mut Option<Job>)| {
+            job.as_mut().map_or(0, |job| reported(random, job, &state.running(task)))
+        };
+        let reports: Vec<u32> = jobs.iter_mut().enumerate().map(report).collect();
+        state = state.tick(&reports).expect("only running nodes are reported").state;
+        story.calls.push(Call::Tick(reports));
+    }
+    story
+}
+
+/// Of some lengths of a kind, those with which a task's job lasts longest, alone under true reports.
+pub fn longest_lasting(
+    random: &mut Random,
+    sheet: &Sheet,
+    crafted: &Crafted,
+    task: usize,
+    kind: &Kind,
+) -> Option<Vec<u32>> {
+    let plan = planner::plan(sheet).expect("crafted tasks are planned");
+    let fresh = State::fresh(sheet, &plan);
+    let lasts = |random: &mut Random, lengths: &[u32]| {
+        let mut state = fresh.release(task).expect("a fresh state takes every job");
+        let mut job = Job { left: lengths.to_vec(), liar: false };
+        let mut ticks = 0;
+        while state.entries[task].alive {
+            let mut reports = vec![0; sheet.tasks.len()];
+            reports[task] = reported(random, &mut job, &state.running(task));
+            state = state.tick(&reports).expect("only running nodes are reported").state;
+            ticks += 1;
+        }
+        ticks
+    };
+    let tries: Vec<Vec<u32>> = (0..12).filter_map(|_| crafted.lengths(random, kind)).collect();
+    tries.into_iter().max_by_key(|lengths| lasts(random, lengths))
+}
+
+/// Runs the nodes for a tick, and gives the report: true, or any of the running nodes.
+fn reported(random: &mut Random, job: &mut Job, running: &[usize]) -> u32 {
+    let mut report = 0;
+    for &v in running {
+        job.left[v] = job.left[v].saturating_sub(1);
+        let ends = if job.liar { random.once_in(6) } else { job.left[v] == 0 };
+        report |= u32::from(ends) << v;
+    }
+    report
+}
+
+/// A call that the state refuses, of any of the rows 11 to 15 that there is cause for.
+fn refused_call(random: &mut Random, state: &State) -> Option<Call> {
+    let count = usize::from(state.count);
+    let task = random.within(0..=count - 1);
+    let mut reports: Vec<u32> = (0..count).map(|task| states::report(random, state, task)).collect();
+    let (cause, call) = match random.within(0..=4) {
+        0 => (Cause::NoSuchTask, Call::Release(*random.pick(&[count, count + 1, 16, 255, usize::MAX]))),
+        1 => {
+            let low = (0..count).find(|&task| state.entries[task].level != HIGH)?;
+            (Cause::LowWhenCritical, Call::Release(low))
+        }
+        2 => (Cause::NotDue, Call::Release(task)),
+        3 => {
+            let length = *random.pick(&[0, count - 1, count + 1, 17]);
+            reports.resize(length, 0);
+            (Cause::ReportCount, Call::Tick(reports))
+        }
+        _ => {
+            reports[task] |= states::not_running(random, state, task)?;
+            (Cause::NotRunning, Call::Tick(reports))
+        }
+    };
+    let refusal = match &call {
+        Call::Release(task) => state.release(*task).err(),
+        Call::Tick(reports) => state.tick(reports).err(),
+    };
+    refusal.filter(|refusal| refusal.cause == cause).map(|_| call)
+}

@@ -1,0 +1,157 @@
+//! The proved planner beside the independent one: the answer and every byte of the buffer agree.
+use dibwunek_tests::answers::Reply;
+use dibwunek_tests::counts::{hold, Counts};
+use dibwunek_tests::planner::{self, plan_into};
+use dibwunek_tests::proved::planning;
+use dibwunek_tests::random::Random;
+use dibwunek_tests::reader::{Sheet, Task};
+use dibwunek_tests::sheets::{plausible, valid, Draft, CASE_14};
+use dibwunek_tests::tight;
+
+/// Compares the two planners on a sheet and a buffer of random bytes, and gives their answer.
+fn check(sheet: &[u8], length: usize, random: &mut Random, counts: &mut Counts) -> Reply {
+    let before = random.bytes(length);
+    let (reply, after) = plan_into(sheet, &before);
+    let mut buffer = before;
+    let proved = planning::plan(sheet, &mut buffer);
+    hold(&(proved, buffer), &(reply, after), || format!("the sheet {sheet:?} and {length} bytes of buffer"));
+    counts.add(format!("{:2}", reply.row()));
+    reply
+}
+
+/// A buffer's length near the 6n bytes of a plan.
+fn near(random: &mut Random, count: usize) -> usize {
+    let needed = 6 * count;
+    match random.within(0..=9) {
+        0 => needed - 1,
+        1 => random.within(0..=needed),
+        2 | 3 => needed + random.within(1..=40),
+        4 => needed + 1,
+        _ => needed,
+    }
+}
+
+fn bytes(processors: usize, tasks: &[Task]) -> Vec<u8> {
+    Draft::of(&Sheet { processors: processors as u8, tasks: tasks.to_vec() }).bytes()
+}
+
+const OF_PLANNER: [&str; 4] = [" 0", " 7", " 8", " 9"];
+
+#[test]
+fn just_enough_processors() {
+    let mut random = Random::of_test("just enough processors");
+    let mut counts = Counts::new("just enough processors");
+    for _ in 0..1_500 {
+        let count = *random.pick(&[1, 2, 2, 3, 3, 4, 5, 6, 8, 12, 16]);
+        let tasks = tight::sheet(&mut random, count).tasks;
+        let Some(least) = tight::least_processors(&Sheet { processors: 64, tasks: tasks.clone() }) else {
+            counts.add("lists that no M plans");
+            continue;
+        };
+        for processors in least.saturating_sub(2).max(1)..=64.min(least + 2) {
+            let length = near(&mut random, count);
+            let reply = check(&bytes(processors, &tasks), length, &mut random, &mut counts);
+            assert_eq!(matches!(reply.row(), 7 | 8), processors < least);
+        }
+    }
+    counts.close(OF_PLANNER, 80);
+}
+
+#[test]
+fn all_sizes() {
+    let mut random = Random::of_test("all sizes");
+    let mut counts = Counts::new("all sizes");
+    for count in (1..=16).cycle().take(480) {
+        let tasks = tight::sheet(&mut random, count).tasks;
+        for processors in [random.within(1..=64), random.skewed(1..=64)] {
+            let length = near(&mut random, count);
+            check(&bytes(processors, &tasks), length, &mut random, &mut counts);
+        }
+    }
+    counts.close(OF_PLANNER, 40);
+}
+
+#[test]
+fn choices_with_equal_totals() {
+    let mut random = Random::of_test("equal totals");
+    let mut counts = Counts::new("choices with equal totals");
+    for _ in 0..2_000 {
+        let sheet = tight::tied(&mut random);
+        let tied = planner::plan(&sheet).is_ok_and(|plan| plan.ties > 1);
+        counts.add(if tied { "several with the chosen totals" } else { "one or none" });
+        let length = near(&mut random, sheet.tasks.len());
+        check(&Draft::of(&sheet).bytes(), length, &mut random, &mut counts);
+    }
+    counts.close(["several with the chosen totals", " 0", " 8", " 9"], 100);
+}
+
+#[test]
+fn every_length_of_buffer() {
+    let mut random = Random::of_test("every buffer");
+    let mut counts = Counts::new("every length of buffer");
+    for count in (1..=16).chain(1..=16) {
+        let tasks = tight::sheet(&mut random, count).tasks;
+        let sheet = Sheet { processors: 64, tasks };
+        let processors = tight::least_processors(&sheet).unwrap_or(32);
+        let sheet = bytes(processors, &sheet.tasks);
+        for length in (0..=6 * count + 14).chain([255, 256, 257, 4_096]) {
+            check(&sheet, length, &mut random, &mut counts);
+        }
+    }
+    counts.close([" 0", " 9"], 200);
+}
+
+#[test]
+fn damaged_sheets() {
+    let mut random = Random::of_test("damaged sheets");
+    let mut counts = Counts::new("damaged sheets");
+    for _ in 0..3_000 {
+        let count = random.within(1..=5);
+        let tasks = tight::sheet(&mut random, count).tasks;
+        let mut sheet = bytes(random.within(2..=24), &tasks);
+        for _ in 0..random.within(1..=2) {
+            let at = random.within(0..=sheet.len() - 1);
+            sheet[at] = if random.once_in(2) { sheet[at] ^ 1 << random.within(0..=7) } else { random.word() as u8 };
+        }
+        if random.once_in(10) {
+            sheet.truncate(random.within(0..=sheet.len()));
+        }
+        let length = near(&mut random, count);
+        check(&sheet, length, &mut random, &mut counts);
+    }
+    counts.close((0..=8).map(|row| format!("{row:2}")), 10);
+}
+
+#[test]
+fn sheets_of_the_reader() {
+    let mut random = Random::of_test("sheets of the reader");
+    let mut counts = Counts::new("sheets of the reader");
+    for _ in 0..2_000 {
+        let sheet = valid(&mut random);
+        let length = near(&mut random, sheet.tasks.len());
+        check(&Draft::of(&sheet).bytes(), length, &mut random, &mut counts);
+        let length = random.within(0..=100);
+        check(&plausible(&mut random), length, &mut random, &mut counts);
+    }
+    counts.close([" 7"], 500);
+}
+
+#[test]
+fn cases_11_12_and_14() {
+    let [a, b, e] = [14, 30, 46].map(|at| CASE_14[at..at + 16].to_vec());
+    let plan = |processors, records: &[&Vec<u8>]| {
+        let draft = Draft { processors, records: records.iter().map(|&record| record.clone()).collect() };
+        let mut buffer = vec![77; 20];
+        (planning::plan(&draft.bytes(), &mut buffer), buffer)
+    };
+    let refused = |number, task| (Reply::Refused(number, task), vec![77; 20]);
+    let of_11 = [&[0, 1, 1, 3, 0, 2, 2, 4, 9, 0, 6, 0][..], &[77; 8]].concat();
+    for processors in [6, 8] {
+        assert_eq!(plan(processors, &[&a, &b]), (Reply::Done, of_11.clone()));
+    }
+    assert_eq!(plan(5, &[&a, &b]), refused(8, 255));
+    assert_eq!(plan(3, &[&a, &b]), refused(7, 1));
+    assert_eq!(plan(7, &[&a, &b, &e]), refused(8, 255));
+    let of_14 = vec![0, 1, 1, 2, 3, 5, 0, 2, 2, 6, 8, 0, 9, 0, 7, 0, 0, 0, 77, 77];
+    assert_eq!(plan(8, &[&a, &b, &e]), (Reply::Done, of_14));
+}
