@@ -30,10 +30,10 @@ fn sum(x: u8, y: u8) -> u16
 }
 
 // The first share of a task from 1 to t at which its critical share and the rest's total come to the least.
-fn best_share(row: [u8; 64], rest: [u8; 65], t: u8) -> Best
+fn best_share(row: &[u8; 64], rest: &[u8; 65], t: u8) -> Best
     requires { ⌜ (1 ≤ t) × (t ≤ 64) ⌝ }
-    ensures share { λ r. ⌜ r .share ≡ bestShare (cellAt row) (entryAt rest) t ⌝ }
-    ensures total { λ r. ⌜ r .sum ≡ sumAt (cellAt row) (entryAt rest) t (r .share) ⌝ }
+    ensures share { λ r. ⌜ r .share ≡ bestShare (cellAt (now (row .entry))) (entryAt (now (rest .entry))) t ⌝ }
+    ensures total { λ r. ⌜ r .sum ≡ sumAt (cellAt (now (row .entry))) (entryAt (now (rest .entry))) t (r .share) ⌝ }
 {
     let end = t as usize;
     let mut best: usize = 1;
@@ -69,7 +69,7 @@ fn totals_with(row: [u8; 64], rest: [u8; 65], m: u8) -> [u8; 65]
     let mut totals = [m + 1; 65];
     let mut t: u8 = 1;
     while t < 65 {
-        let best = best_share(row, rest, t);
+        let best = best_share(&row, &rest, t);
         totals[t as usize] = capped(best.sum, m);
         t += 1;
     }
@@ -150,7 +150,7 @@ pub fn select(rows: [Row; 16], n: u8, m: u8) -> Chosen
         let rest = all[count - 1 - i];
         let row_cells = row.cells;
         let rest_cells = rest.cells;
-        let best = best_share(row_cells, rest_cells, left);
+        let best = best_share(&row_cells, &rest_cells, left);
         let a = best.share;
         shares[i] = Share {
             typical: a,

@@ -4,29 +4,30 @@ use borrow.Author.Needs.{needs}
 use Prim.Native.Nat.{_+_, _-_, _≤_}
 use mathlib.Core.Path.{_≡_}
 use native.Mathlib.Omega.{arith}
+use denote.Ref.{now}
 use Rattle.planner.specs.Selection.{cellAt, entryAt, sumAt, bestShare, leastFrom}
 use Rattle.planner.proofs.Firsts.{least-start, least-taken, least-kept, least-to}
 use Rattle.planner.proofs.selection.best_share.Statement.{statement}
 use Rattle.planner.proofs.selection.best_share.Tie as tie
 
 abbrev Inv-loop : tie.InvT-loop
-Inv-loop t row rest end best₀ least₀ a₀ best least a =
+Inv-loop row rest t end best₀ least₀ a₀ best least a =
     (1 ≤ a)
     × (a ≤ t)
     × (best ≡ leastFrom (sumAt (cellAt row) (entryAt rest) t) 1 (a - 1))
     × (least ≡ sumAt (cellAt row) (entryAt rest) t best)
 
 abbrev μ-loop : tie.MeasureT-loop
-μ-loop t row rest end best₀ least₀ a₀ best least a = t - a
+μ-loop row rest t end best₀ least₀ a₀ best least a = t - a
 
-array-read-sum : tie.Need-array-read-sum Inv-loop μ-loop
-array-read-sum c = omega arith
+element-copy-out-sum : tie.Need-element-copy-out-sum Inv-loop μ-loop
+element-copy-out-sum c = omega arith
 
 sub-sum : tie.Need-sub-sum Inv-loop μ-loop
 sub-sum c = omega arith
 
-array-read-sum-2 : tie.Need-array-read-sum-2 Inv-loop μ-loop
-array-read-sum-2 c = omega arith
+element-copy-out-sum-2 : tie.Need-element-copy-out-sum-2 Inv-loop μ-loop
+element-copy-out-sum-2 c = omega arith
 
 sum-requires : tie.Need-sum-requires Inv-loop μ-loop
 sum-requires c κs = search needs
@@ -34,7 +35,7 @@ sum-requires c κs = search needs
 loop-holds : tie.Need-loop-holds Inv-loop μ-loop
 unfolding cellAt entryAt sumAt
 loop-holds c =
-    let f = sumAt (cellAt (c .before .args .t1)) (entryAt (c .before .args .t2)) (c .before .args .t) in
+    let f = sumAt (cellAt (now (c .before .before .before .args .row))) (entryAt (now (c .before .before .before .args .rest))) (c .before .before .before .args .t) in
     (omega arith, omega arith, least-start f 1, c .sum .ensures)
 
 add-a : tie.Need-add-a Inv-loop μ-loop
@@ -43,14 +44,14 @@ add-a c = omega arith
 sub-sum-2 : tie.Need-sub-sum-2 Inv-loop μ-loop
 sub-sum-2 c = omega arith
 
-array-read-sum-3 : tie.Need-array-read-sum-3 Inv-loop μ-loop
-array-read-sum-3 c = omega arith
+element-copy-out-sum-3 : tie.Need-element-copy-out-sum-3 Inv-loop μ-loop
+element-copy-out-sum-3 c = omega arith
 
 sub-sum-3 : tie.Need-sub-sum-3 Inv-loop μ-loop
 sub-sum-3 c = omega arith
 
-array-read-sum-4 : tie.Need-array-read-sum-4 Inv-loop μ-loop
-array-read-sum-4 c = omega arith
+element-copy-out-sum-4 : tie.Need-element-copy-out-sum-4 Inv-loop μ-loop
+element-copy-out-sum-4 c = omega arith
 
 sum-requires-2 : tie.Need-sum-requires-2 Inv-loop μ-loop
 sum-requires-2 c κs = search needs
@@ -61,9 +62,9 @@ loop-less c = omega arith
 loop-again : tie.Need-loop-again Inv-loop μ-loop
 unfolding cellAt entryAt sumAt
 loop-again c =
-    let loop = c .before .before .before .loop in
-    let args = c .before .before .before .before .before .args in
-    let f = sumAt (cellAt (args .t1)) (entryAt (args .t2)) (args .t) in
+    let loop = c .before .before .before .before .before .loop in
+    let args = c .before .before .before .before .before .before .before .before .before .args in
+    let f = sumAt (cellAt (now (args .row))) (entryAt (now (args .rest))) (args .t) in
     let next : c .before .sum2 .result ≡ f (loop .a + 1) = c .before .sum2 .ensures in (
       omega arith,
       omega arith,
@@ -77,9 +78,9 @@ loop-less-2 c = omega arith
 loop-again-2 : tie.Need-loop-again-2 Inv-loop μ-loop
 unfolding cellAt entryAt sumAt
 loop-again-2 c =
-    let loop = c .before .before .before .loop in
-    let args = c .before .before .before .before .before .args in
-    let f = sumAt (cellAt (args .t1)) (entryAt (args .t2)) (args .t) in
+    let loop = c .before .before .before .before .before .loop in
+    let args = c .before .before .before .before .before .before .before .before .before .args in
+    let f = sumAt (cellAt (now (args .row))) (entryAt (now (args .rest))) (args .t) in
     let next : c .before .sum2 .result ≡ f (loop .a + 1) = c .before .sum2 .ensures in (
       omega arith,
       omega arith,
@@ -87,18 +88,18 @@ loop-again-2 c =
       loop .inv .3,
     )
 
-cast-t13 : tie.Need-cast-t13 Inv-loop μ-loop
-cast-t13 c =
+cast-t11 : tie.Need-cast-t11 Inv-loop μ-loop
+cast-t11 c =
     let loop = c .before .loop in
-    let args = c .before .before .before .args in
-    let f = sumAt (cellAt (args .t1)) (entryAt (args .t2)) (args .t) in
+    let args = c .before .before .before .before .before .args in
+    let f = sumAt (cellAt (now (args .row))) (entryAt (now (args .rest))) (args .t) in
     omega (arith, least-to f 1 (loop .a - 1), loop .inv .2)
 
 returns : tie.Need-returns Inv-loop μ-loop
 unfolding bestShare
 returns c =
     let loop = c .before .loop in
-    let all : loop .a ≡ c .before .before .before .args .t = omega arith in
+    let all : loop .a ≡ c .before .before .before .before .before .args .t = omega arith in
     (rw all at (loop .inv .2), loop .inv .3)
 
 pub best-share-spec : {M : Type 1} → statement M
@@ -107,20 +108,20 @@ best-share-spec =
     (tie.spec
     Inv-loop
     μ-loop
-    array-read-sum
+    element-copy-out-sum
     sub-sum
-    array-read-sum-2
+    element-copy-out-sum-2
     sum-requires
     loop-holds
     add-a
     sub-sum-2
-    array-read-sum-3
+    element-copy-out-sum-3
     sub-sum-3
-    array-read-sum-4
+    element-copy-out-sum-4
     sum-requires-2
     loop-less
     loop-again
     loop-less-2
     loop-again-2
-    cast-t13
+    cast-t11
     returns)

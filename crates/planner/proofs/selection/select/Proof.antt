@@ -113,8 +113,8 @@ array-copy-out-rest c = omega arith
 
 best-share-requires : tie.Need-best-share-requires Inv-loop μ-loop
 best-share-requires c κs =
-    let args = c .before .before .before .before .before .before .before .before .before .before .before .args in
-    let loop = c .before .before .before .before .before .loop in (
+    let args = c .before .before .before .before .before .before .before .before .before .before .before .before .before .args in
+    let loop = c .before .before .before .before .before .before .before .loop in (
       walk-some (args .m) (args .n) (args .t1) (omega arith) (omega arith) (omega arith) (loop .i) (loop .left) (omega arith)
           (omega arith) (loop .inv .2),
       omega arith,
@@ -122,13 +122,13 @@ best-share-requires c κs =
 
 -- The step that the walk takes there.
 step : (c : tie.After-best-share Inv-loop μ-loop) →
-    Step (c .before .before .before .before .before .before .before .before .before .before .before .before .args .m) (c .before .before .before .before .before .before .before .before .before .before .before .before .args .n) (c .before .before .before .before .before .before .before .before .before .before .before .before .args .t1) (c .before .before .before .before .before .before .loop .i) (c .before .before .before .before .before .before .loop .left)
-    (c .best-share .result .share) (whole (c .before .before .before .before .before .before .before .before .before .before .before .before .args .m) (c .before .before .before .before .before .before .before .before .before .before .before .before .args .n) (c .before .before .before .before .before .before .before .before .before .before .before .before .args .t1))
+    Step (c .before .before .before .before .before .before .before .before .before .before .before .before .before .before .args .m) (c .before .before .before .before .before .before .before .before .before .before .before .before .before .before .args .n) (c .before .before .before .before .before .before .before .before .before .before .before .before .before .before .args .t1) (c .before .before .before .before .before .before .before .before .loop .i) (c .before .before .before .before .before .before .before .before .loop .left)
+    (c .best-share .result .share) (whole (c .before .before .before .before .before .before .before .before .before .before .before .before .before .before .args .m) (c .before .before .before .before .before .before .before .before .before .before .before .before .before .before .args .n) (c .before .before .before .before .before .before .before .before .before .before .before .before .before .before .args .t1))
 step c =
-    let args = c .before .before .before .before .before .before .before .before .before .before .before .before .args in
-    let loop = c .before .before .before .before .before .before .loop in
+    let args = c .before .before .before .before .before .before .before .before .before .before .before .before .before .before .args in
+    let loop = c .before .before .before .before .before .before .before .before .loop in
     walk-step (args .m) (args .n) (args .t1) (omega arith) (omega arith) (omega arith) (loop .i) (loop .left) (omega arith)
-    (omega arith) (loop .inv .2) _ (c .before .before .before .before .before .before .before .before .before .before .before .last-totals .ensures) _ (c .best-share .ensures .0) _ (loop .inv .3)
+    (omega arith) (loop .inv .2) _ (c .before .before .before .before .before .before .before .before .before .before .before .before .before .last-totals .ensures) _ (c .best-share .ensures .0) _ (loop .inv .3)
 
 cast-t33 : tie.Need-cast-t33 Inv-loop μ-loop
 cast-t33 c = omega (arith, step c .to)
@@ -136,8 +136,8 @@ cast-t33 c = omega (arith, step c .to)
 sub-t37 : tie.Need-sub-t37 Inv-loop μ-loop
 sub-t37 c = step c .from
 
-array-read-t45 : tie.Need-array-read-t45 Inv-loop μ-loop
-array-read-t45 c = omega (arith, step c .to)
+array-read-t46 : tie.Need-array-read-t46 Inv-loop μ-loop
+array-read-t46 c = omega (arith, step c .to)
 
 mul-shares : tie.Need-mul-shares Inv-loop μ-loop
 mul-shares c = omega arith
@@ -156,7 +156,7 @@ loop-less c = omega arith
 
 loop-again : tie.Need-loop-again Inv-loop μ-loop
 loop-again c =
-    let loop = c .before .before .before .before .before .before .loop in
+    let loop = c .before .before .before .before .before .before .before .before .loop in
     let next = step c in
     (omega arith, omega arith, next .within, next .rest, rw (loop .inv .4) (next .store))
 
@@ -192,7 +192,7 @@ select-spec =
     best-share-requires
     cast-t33
     sub-t37
-    array-read-t45
+    array-read-t46
     mul-shares
     array-set-from-shares
     sub-left

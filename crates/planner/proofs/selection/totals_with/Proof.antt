@@ -16,7 +16,7 @@ use Rattle.planner.proofs.selection.totals_with.Statement.{statement}
 use Rattle.planner.proofs.selection.totals_with.Tie as tie
 
 abbrev Inv-loop : tie.InvT-loop
-Inv-loop row rest m totals₀ t₀ totals t =
+Inv-loop m row rest totals₀ t₀ totals t =
     (1 ≤ t)
     × (t ≤ 65)
     × (length totals ≡ 65)
@@ -24,7 +24,7 @@ Inv-loop row rest m totals₀ t₀ totals t =
     ≡ tabulate (totalWith m (cellAt row) (entryAt rest)) 0 65)
 
 abbrev μ-loop : tie.MeasureT-loop
-μ-loop row rest m totals₀ t₀ totals t = 65 - t
+μ-loop m row rest totals₀ t₀ totals t = 65 - t
 
 add-totals : tie.Need-add-totals Inv-loop μ-loop
 add-totals c = omega arith
@@ -32,8 +32,8 @@ add-totals c = omega arith
 loop-holds : tie.Need-loop-holds Inv-loop μ-loop
 loop-holds c =
     let args = c .args in
-    let f = totalWith (args .m) (cellAt (args .row)) (entryAt (args .rest)) in
-    (omega arith, omega arith, refl, tabulate-open f (args .m + 1) 0 64 (sym (with-none (args .m) (cellAt (args .row)) (entryAt (args .rest)) 0 refl)))
+    let f = totalWith (args .m) (cellAt (args .t1)) (entryAt (args .t2)) in
+    (omega arith, omega arith, refl, tabulate-open f (args .m + 1) 0 64 (sym (with-none (args .m) (cellAt (args .t1)) (entryAt (args .t2)) 0 refl)))
 
 best-share-requires : tie.Need-best-share-requires Inv-loop μ-loop
 best-share-requires c κs = (omega arith, omega arith)
@@ -56,22 +56,22 @@ loop-less c = omega arith
 -- The cell that the loop stores.
 cell : (c : tie.After-capped Inv-loop μ-loop) →
     c .capped .result
-    ≡ totalWith (c .before .before .before .before .args .m) (cellAt (c .before .before .before .before .args .row))
-    (entryAt (c .before .before .before .before .args .rest)) (c .before .before .before .loop .t + 0)
+    ≡ totalWith (c .before .before .before .before .before .before .args .m) (cellAt (c .before .before .before .before .before .before .args .t1))
+    (entryAt (c .before .before .before .before .before .before .args .t2)) (c .before .before .before .before .before .loop .t + 0)
 cell c =
-    let args = c .before .before .before .before .args in
-    let t = c .before .before .before .loop .t in
+    let args = c .before .before .before .before .before .before .args in
+    let t = c .before .before .before .before .before .loop .t in
     let best = c .before .best-share in
     c .capped .ensures
-    ∙ ap (λ x. min x (args .m + 1)) (best .ensures .1 ∙ ap (sumAt (cellAt (args .row)) (entryAt (args .rest)) t) (best .ensures .0))
-    ∙ sym (with-some (args .m) (cellAt (args .row)) (entryAt (args .rest)) t (omega arith))
-    ∙ ap (totalWith (args .m) (cellAt (args .row)) (entryAt (args .rest))) (sym (add-zero t))
+    ∙ ap (λ x. min x (args .m + 1)) (best .ensures .1 ∙ ap (sumAt (cellAt (args .t1)) (entryAt (args .t2)) t) (best .ensures .0))
+    ∙ sym (with-some (args .m) (cellAt (args .t1)) (entryAt (args .t2)) t (omega arith))
+    ∙ ap (totalWith (args .m) (cellAt (args .t1)) (entryAt (args .t2))) (sym (add-zero t))
 
 loop-again : tie.Need-loop-again Inv-loop μ-loop
 loop-again c =
-    let args = c .before .before .before .before .args in
-    let loop = c .before .before .before .loop in
-    let f = totalWith (args .m) (cellAt (args .row)) (entryAt (args .rest)) in (
+    let args = c .before .before .before .before .before .before .args in
+    let loop = c .before .before .before .before .before .loop in
+    let f = totalWith (args .m) (cellAt (args .t1)) (entryAt (args .t2)) in (
       omega arith,
       omega arith,
       length-set (loop .totals) (loop .t) (c .capped .result) ∙ loop .inv .2,
@@ -81,7 +81,7 @@ loop-again c =
 returns : tie.Need-returns Inv-loop μ-loop
 returns c =
     let args = c .before .before .args in
-    let f = totalWith (args .m) (cellAt (args .row)) (entryAt (args .rest)) in
+    let f = totalWith (args .m) (cellAt (args .t1)) (entryAt (args .t2)) in
     sym (cells-done f (c .before .loop .totals) (c .before .loop .t) 0 65 (c .before .loop .inv .2) (omega arith))
     ∙ c .before .loop .inv .3
 
