@@ -1,5 +1,9 @@
--- In reading order: a run on a sound state, the plan of an accepted sheet, its fresh state, the theorem.
+-- In reading order: a run on a sound state, the plan of an accepted sheet, its fresh state, the theorem; then Replay.
 pub mod Together
 pub mod Planning
 pub mod Freshness
 pub mod Theorem
+pub mod Encodings
+pub mod Records
+pub mod Replays
+pub mod ReplayModel

@@ -50,10 +50,10 @@ module _ (sheet : List ℕ) (accepted : startOf sheet .answer ≡ Accepted) wher
   unfolding startState startOf tasksOf sharesFor
   state-is = ap (λ (a : Answer). startedWith a (freshState (readOf sheet .set) (sharesFor sheet)) .state) answered
 
-  state-sound : isSound (startState sheet) ≡ true
+  pub state-sound : isSound (startState sheet) ≡ true
   state-sound = rw state-is (fresh-sound (tasksOf sheet) lawful (sharesFor sheet) chosen-it)
 
-  state-model : modelOf (startState sheet) ≡ modelFor sheet
+  pub state-model : modelOf (startState sheet) ≡ modelFor sheet
   unfolding modelFor
   state-model = rw state-is (fresh-model (tasksOf sheet) lawful (sharesFor sheet) chosen-it)
 

@@ -13,15 +13,15 @@ use Rattle.dispatcher.proofs.Laws.{release-sound, tick-sound, release-model, ti
 use Rattle.guarantee.specs.Runs.{stateOf, saidOf, stateAfter, allSaid, modelSaid, allModelSaid}
 
 module _ (s : State) (sound : isSound s ≡ true) where
-  call-sound : (c : Call) → isSound (stateOf s c) ≡ true
+  pub call-sound : (c : Call) → isSound (stateOf s c) ≡ true
   call-sound (release i) = release-sound s i sound
   call-sound (tick reports) = tick-sound s reports sound
 
-  call-model : (c : Call) → modelOf (stateOf s c) ≡ step (modelOf s) c .model
+  pub call-model : (c : Call) → modelOf (stateOf s c) ≡ step (modelOf s) c .model
   call-model (release i) = release-model s i sound
   call-model (tick reports) = tick-model s reports sound
 
-  call-said : (c : Call) → saidOf s c ≡ modelSaid c (step (modelOf s) c .answer)
+  pub call-said : (c : Call) → saidOf s c ≡ modelSaid c (step (modelOf s) c .answer)
   unfolding releaseOf tickOf
   call-said (release i) = rw sound
   call-said (tick reports) = rw sound

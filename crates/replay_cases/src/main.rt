@@ -1,0 +1,255 @@
+// Case 13 of 01, run through Replay: A alone at (1, 2), three nodes without predecessors. A line for each call: outcome, number,
+// task, mode, alive, age and the set of ended nodes. Lengths 4, 3, 2: ended after tick 9, no switch. Lengths 4, 3, 3: switched after
+// tick 9, and ended after tick 10.
+ghost use Prim.Native.Nat.{_+_, _≤_, _<_};
+ghost use lib.ListN.{length};
+use guarantee::replay::Replayed;
+use guarantee::replay::replay;
+
+const STDOUT: i32 = 1;
+
+// The bytes of a record of one task.
+const RECORD: usize = 13;
+
+// M 2; one task, at 6, with 24 bytes: high, 3 nodes, D 45, CN 9, CO 52, LN 4, LO 20, and three masks.
+const SHEET: [u8; 30] = [
+    2,
+    1,
+    6,
+    0,
+    24,
+    0,
+    1,
+    3,
+    45,
+    0,
+    9,
+    0,
+    52,
+    0,
+    4,
+    0,
+    20,
+    0,
+    0,
+    0,
+    0,
+    0,
+    0,
+    0,
+    0,
+    0,
+    0,
+    0,
+    0,
+    0,
+];
+
+// Release of task 0, then a tick for each report: node 0 ends with tick 4, node 1 with tick 7, node 2 with tick 9.
+const ENDED: [u8; 59] = [
+    0,
+    0,
+    0,
+    0,
+    0,
+    1,
+    1,
+    0,
+    0,
+    0,
+    0,
+    1,
+    1,
+    0,
+    0,
+    0,
+    0,
+    1,
+    1,
+    0,
+    0,
+    0,
+    0,
+    1,
+    1,
+    1,
+    0,
+    0,
+    0,
+    1,
+    1,
+    0,
+    0,
+    0,
+    0,
+    1,
+    1,
+    0,
+    0,
+    0,
+    0,
+    1,
+    1,
+    2,
+    0,
+    0,
+    0,
+    1,
+    1,
+    0,
+    0,
+    0,
+    0,
+    1,
+    1,
+    4,
+    0,
+    0,
+    0,
+];
+
+// The same, but node 2 ends with tick 10.
+const SWITCHED: [u8; 65] = [
+    0,
+    0,
+    0,
+    0,
+    0,
+    1,
+    1,
+    0,
+    0,
+    0,
+    0,
+    1,
+    1,
+    0,
+    0,
+    0,
+    0,
+    1,
+    1,
+    0,
+    0,
+    0,
+    0,
+    1,
+    1,
+    1,
+    0,
+    0,
+    0,
+    1,
+    1,
+    0,
+    0,
+    0,
+    0,
+    1,
+    1,
+    0,
+    0,
+    0,
+    0,
+    1,
+    1,
+    2,
+    0,
+    0,
+    0,
+    1,
+    1,
+    0,
+    0,
+    0,
+    0,
+    1,
+    1,
+    0,
+    0,
+    0,
+    0,
+    1,
+    1,
+    4,
+    0,
+    0,
+    0,
+];
+
+// The byte at a place; 0 past the end.
+fn byte_at(text: &[u8], at: usize) -> u64
+    ensures { λ r. ⌜ r < 256 ⌝ }
+{
+    if at < text.len() { text[at] as u64 } else { 0 }
+}
+
+fn u32_at(text: &[u8], at: usize) -> u64
+    requires { ⌜ at < length (now text) + 12 ⌝ }
+{
+    byte_at(text, at)
+        + 256 * byte_at(text, at + 1)
+        + 65536 * byte_at(text, at + 2)
+        + 16777216 * byte_at(text, at + 3)
+}
+
+fn print_field(x: u64) {
+    io::write_all(STDOUT, b" ");
+    io::print_decimal(STDOUT, x);
+}
+
+// Start's answer: number and task.
+fn print_start(text: &[u8]) {
+    io::write_all(STDOUT, b"start");
+    print_field(byte_at(text, 0));
+    print_field(byte_at(text, 1));
+    io::write_all(STDOUT, b"\n");
+}
+
+// A record of one task, as a line.
+fn print_record(text: &[u8], at: usize)
+    requires { ⌜ at < length (now text) ⌝ }
+{
+    io::print_decimal(STDOUT, byte_at(text, at));
+    print_field(byte_at(text, at + 1));
+    print_field(byte_at(text, at + 2));
+    print_field(byte_at(text, at + 3));
+    print_field(byte_at(text, at + 4));
+    print_field(u32_at(text, at + 5));
+    print_field(u32_at(text, at + 9));
+    io::write_all(STDOUT, b"\n");
+}
+
+fn print_records(text: &[u8], n: usize)
+    requires { ⌜ n ≤ length (now text) ⌝ }
+{
+    let mut at: usize = 2;
+    while at < n {
+        print_record(text, at);
+        at += RECORD;
+    }
+}
+
+fn show(calls: &[u8]) {
+    let sheet = SHEET;
+    let mut out = [0u8; 256];
+    let replayed = replay(&sheet, calls, &mut out);
+    match replayed {
+        Replayed::Written(n) => {
+            print_start(&out);
+            if n <= out.len() {
+                print_records(&out, n);
+            }
+        }
+        Replayed::Short => {
+            io::write_all(STDOUT, b"short\n");
+        }
+    }
+}
+
+fn main() {
+    let ended = ENDED;
+    let switched = SWITCHED;
+    show(&ended);
+    show(&switched);
+}
