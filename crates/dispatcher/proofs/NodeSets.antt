@@ -1,17 +1,22 @@
 -- Sets of nodes as the code keeps them: a subset, all nodes ended, the ready nodes gathered one by one, and the lowest of them.
 use Prim.Native.Nat.{ℕ, suc, _+_, _-_, _≤_, _<_, _^_, min}
 use mathlib.Core.Path.{_≡_, sym, ap, _∙_}
-use mathlib.Core.Bool.{Bool, true, false}
+use mathlib.Core.Bool.{Bool, true, false, not, _&&_, and-comm}
 use mathlib.Core.List.{List, []}
 use native.Mathlib.Nat.{min-eq-left, add-zero, zero-add}
 use native.Mathlib.Numerals.{add-one}
 use native.Mathlib.Omega.{arith}
+use borrow.Author.Tests.{lt-ltb}
+use lib.Bits.{bitAnd}
 use lib.ListN.{take}
-use Rattle.nodes.specs.Sets.{range, keptIf, keep, members, setOf, isWithin}
+use Rattle.nodes.specs.Sets.{has, range, keptIf, keep, members, setOf, isWithin}
+use Rattle.nodes.proofs.Bits.{has-without, has-ext}
+use Rattle.nodes.proofs.Lists.{keep-none}
+use Rattle.nodes.proofs.Members.{setOf-keep-lt, has-setOf-keep}
 use Rattle.nodes.proofs.Parts.{and-eq-isWithin}
 use Rattle.nodes.proofs.Rising.{Rising, rising-range, rising-keep, rising-take, members-setOf, setOf-lt}
 use Rattle.shares.specs.Totals.{shareIn}
-use Rattle.model.specs.Row.{Row, isSubset, allEnded, isReady, ready, running, runningSet}
+use Rattle.model.specs.Row.{Row, isSubset, allEnded, predecessorsOf, isReady, ready, running, runningSet}
 
 -- For a word, the test of every member is the subset test.
 pub within-subset : (a b : ℕ) → a < 2 ^ 32 → isWithin 32 a b ≡ isSubset a b
@@ -57,6 +62,30 @@ module _ (p : ℕ → Bool) (k : ℕ) where
   gathered-fits v set few h g =
       let more : Gathered p k (v + 1) (set + setOf (keptIf (p v) v [])) = gathered-more v set h g in
       omega (arith, setOf-lt 32 (keep p (range 0 k)) (rising-keep p 0 32 (range 0 k) (rising-range 0 k 32 (omega arith))))
+
+-- Whether all predecessors of node v have ended.
+unfoldable pub isUnblocked : Row → ℕ → Bool
+isUnblocked r v = isSubset (predecessorsOf (r .fixed .predecessors) v) (r .job .ended)
+
+-- The ready nodes: none of a job that is not alive, and of an alive one those that wait for no node, less the ended ones.
+pub ready-none : (r : Row) → r .job .alive ≡ false → 0 ≡ setOf (ready r)
+unfolding ready isReady
+ready-none r dead = ap setOf (sym (keep-none (isReady r) (range 0 (r .fixed .nodes)) (λ v m. rw dead)))
+
+pub ready-less-ended : (r : Row) (set : ℕ) → r .job .alive ≡ true → set ≡ setOf (keep (isUnblocked r) (range 0 (r .fixed .nodes)))
+    → set - bitAnd set (r .job .ended) ≡ setOf (ready r)
+unfolding ready isReady isUnblocked
+ready-less-ended r set alive e =
+    let k = r .fixed .nodes in
+    let ended = r .job .ended in
+    has-ext k (set - bitAnd set ended) (setOf (keep (isReady r) (range 0 k)))
+    (omega (arith, e, setOf-keep-lt (isUnblocked r) k))
+    (setOf-keep-lt (isReady r) k)
+    (λ v h.
+    has-without set ended v
+    ∙ ap (λ (n : ℕ). has n v && not (has ended v)) e
+    ∙ rw (has-setOf-keep (isUnblocked r) k v, has-setOf-keep (isReady r) k v, lt-ltb v k h, alive)
+    (and-comm (isUnblocked r v) (not (has ended v))))
 
 -- The lowest of the ready nodes, as a set.
 pub lowest-ready : (critical : Bool) (r : Row) → r .fixed .nodes ≤ 32

@@ -1,9 +1,8 @@
 // One entry: its ready and running nodes, and what the calls make of it.
 ghost use mathlib.Core.Path.{_≡_};
-ghost use mathlib.Core.Bool.{not, _&&_};
 ghost use mathlib.Core.List.{[]};
 ghost use Prim.Native.Nat.{suc, min, _≤_, _<_};
-ghost use Rattle.nodes.specs.Sets.{has, keptIf, setOf};
+ghost use Rattle.nodes.specs.Sets.{keptIf, setOf};
 ghost use Rattle.shares.specs.Totals.{shareIn};
 ghost use Rattle.model.specs.Row.{isSubset, allEnded, ready, runningSet, releasedRow, tickedRow, isLate, switchedRow};
 ghost use Rattle.dispatcher.specs.Holds.{fixedOf, rowOf, withJob};
@@ -19,11 +18,11 @@ pub fn all_ended(nodes: u8, ended: u32) -> bool
     nodes::is_within(nodes::full(nodes as u32), ended)
 }
 
-// Whether node v is ready, by the job, the ended nodes and the node's predecessors.
-fn is_ready(alive: bool, ended: u32, predecessors: u32, v: u32) -> bool
-    ensures { λ r. ⌜ r ≡ (alive && not (has ended v) && isSubset predecessors ended) ⌝ }
+// Whether all predecessors of a node have ended.
+fn is_unblocked(predecessors: u32, ended: u32) -> bool
+    ensures { λ r. ⌜ r ≡ isSubset predecessors ended ⌝ }
 {
-    alive & !nodes::has_node(ended, v) & nodes::is_within(predecessors, ended)
+    nodes::is_within(predecessors, ended)
 }
 
 // The set of node v, or no node.
@@ -34,21 +33,24 @@ fn node_if(kept: bool, v: u32) -> u32
     if kept { 1 << v } else { 0 }
 }
 
-// The ready nodes, as a set.
+// The ready nodes, as a set: of an alive job those whose predecessors have all ended, less the ended ones.
 fn ready(e: TaskState) -> u32
     requires { ⌜ e .nodes ≤ 32 ⌝ }
     ensures { λ r. ⌜ r ≡ setOf (ready (rowOf e)) ⌝ }
 {
+    if !e.alive {
+        return 0;
+    }
     let predecessors = e.predecessors;
     let k = e.nodes as usize;
     let mut set: u32 = 0;
     let mut v: usize = 0;
     while v < k {
-        let kept = is_ready(e.alive, e.ended, predecessors[v], v as u32);
+        let kept = is_unblocked(predecessors[v], e.ended);
         set += node_if(kept, v as u32);
         v += 1;
     }
-    set
+    set - (set & e.ended)
 }
 
 // The share in the standing mode.
