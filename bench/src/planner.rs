@@ -1,0 +1,122 @@
+//! The planner in plain Rust, written from document 01.
+use crate::sheet::{read, refusal, Answer, Figures, Refusal, Task, TaskSet, HIGH, NO_TASK, TASKS};
+
+/// The least critical share at each typical share 1 to 64; M + 1 for none.
+type Row = [u8; 64];
+/// The least critical total at each typical total 0 to 64; M + 1 for none.
+type Totals = [u8; 65];
+
+#[derive(Clone, Copy, Default)]
+pub struct Share {
+    pub typical: u8,
+    pub critical: u8,
+}
+
+fn row(task: &Task, m: u8) -> Row {
+    let mut row = [m + 1; 64];
+    if task.level == HIGH {
+        for a in 1..=m {
+            if let Some(b) = least_critical(&task.figures, a, m) {
+                row[usize::from(a) - 1] = b;
+            }
+        }
+    } else if let Some(a) = low_share(&task.figures, m) {
+        row[usize::from(a) - 1] = 0;
+    }
+    row
+}
+
+fn low_share(f: &Figures, m: u8) -> Option<u8> {
+    let room = f.d.checked_sub(f.ln).filter(|&room| room > 0)?;
+    let share = (f.cn - f.ln).div_ceil(room);
+    (1..=u32::from(m)).contains(&share).then_some(share as u8)
+}
+
+/// The first b from a to m that passes. With figures up to 10,000 and shares up to 64 every sum is below 2^32.
+fn least_critical(f: &Figures, a: u8, m: u8) -> Option<u8> {
+    let typical = u32::from(a);
+    let w = (f.co - f.cn) - (f.lo - f.ln);
+    let work = f.cn - f.ln;
+    let extra = (f.ln * typical).min(w);
+    (a..=m).find(|&b| {
+        let b = u32::from(b);
+        f.d * typical * b >= work * b + w * typical + f.lo * typical * b + extra * (b - typical)
+    })
+}
+
+/// The least sum of a task's critical share and the rest's total, over the typical shares 1 to t.
+fn least_sum(row: &Row, rest: &Totals, t: usize) -> u8 {
+    row[..t].iter().zip(rest[..t].iter().rev()).map(|(x, y)| x + y).min().unwrap_or(u8::MAX)
+}
+
+/// Row 8, and the shares of the tasks with these rows. Iterators in place of the index t take more instructions.
+#[allow(clippy::needless_range_loop)]
+fn select(rows: &[Row], m: u8) -> Result<[Share; TASKS], Refusal> {
+    let n = rows.len();
+    let end = usize::from(m);
+    let mut totals = [[m + 1; 65]; TASKS + 1];
+    totals[n][0] = 0;
+    for i in (0..n).rev() {
+        let rest = totals[i + 1];
+        for t in 1..=end {
+            totals[i][t] = least_sum(&rows[i], &rest, t).min(m + 1);
+        }
+    }
+    let least = totals[0][..=end].iter().copied().min().unwrap_or(m + 1);
+    if least > m {
+        return Err(Refusal { number: 8, task: NO_TASK });
+    }
+    let mut left = totals[0].iter().position(|&total| total == least).unwrap_or(0);
+    let mut shares = [Share::default(); TASKS];
+    for (i, row) in rows.iter().enumerate() {
+        let (total, rest) = (totals[i][left], &totals[i + 1]);
+        let a = (1..=left).find(|&a| row[a - 1] + rest[left - a] == total).unwrap_or(left);
+        shares[i] = Share { typical: a as u8, critical: row[a - 1] };
+        left -= a;
+    }
+    Ok(shares)
+}
+
+/// Rows 7 and 8, and the shares that are chosen.
+pub fn choose(set: &TaskSet) -> Result<[Share; TASKS], Refusal> {
+    let m = set.processors;
+    let mut rows = [[0; 64]; TASKS];
+    for (i, task) in set.tasks().iter().enumerate() {
+        rows[i] = row(task, m);
+        if rows[i].iter().all(|&b| b > m) {
+            return Err(refusal(7, i));
+        }
+    }
+    select(&rows[..usize::from(set.count)], m)
+}
+
+pub fn virtual_deadline(task: &Task, a: u8) -> u32 {
+    let f = &task.figures;
+    if task.level == HIGH {
+        f.ln + (f.cn - f.ln) / u32::from(a)
+    } else {
+        0
+    }
+}
+
+fn write_blocks(bytes: &mut [u8], lengths: impl Iterator<Item = u8>) {
+    let mut offset = 0;
+    for (pair, length) in bytes.chunks_exact_mut(2).zip(lengths) {
+        pair.copy_from_slice(&[offset, length]);
+        offset += length;
+    }
+}
+
+pub fn plan(sheet: &[u8], buffer: &mut [u8]) -> Answer {
+    let set = read(sheet)?;
+    let shares = choose(&set)?;
+    let n = usize::from(set.count);
+    let bytes = buffer.get_mut(..6 * n).ok_or(Refusal { number: 9, task: NO_TASK })?;
+    let shares = &shares[..n];
+    write_blocks(&mut bytes[..2 * n], shares.iter().map(|share| share.typical));
+    write_blocks(&mut bytes[2 * n..4 * n], shares.iter().map(|share| share.critical));
+    for ((pair, task), share) in bytes[4 * n..].chunks_exact_mut(2).zip(set.tasks()).zip(shares) {
+        pair.copy_from_slice(&(virtual_deadline(task, share.typical) as u16).to_le_bytes());
+    }
+    Ok(())
+}

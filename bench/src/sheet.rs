@@ -1,0 +1,120 @@
+//! The reader in plain Rust, written from document 01.
+
+pub const TASKS: usize = 16;
+pub const NODES: usize = 32;
+pub const NO_TASK: u8 = 255;
+pub const HIGH: u8 = 1;
+
+/// Number and task of a refusal, as in document 01's table.
+#[derive(Clone, Copy, Debug, PartialEq, Eq)]
+pub struct Refusal {
+    pub number: u8,
+    pub task: u8,
+}
+
+pub type Answer = Result<(), Refusal>;
+
+pub fn refusal(number: u8, task: usize) -> Refusal {
+    Refusal { number, task: task as u8 }
+}
+
+#[derive(Clone, Copy, Default)]
+pub struct Figures {
+    pub d: u32,
+    pub cn: u32,
+    pub co: u32,
+    pub ln: u32,
+    pub lo: u32,
+}
+
+#[derive(Clone, Copy, Default)]
+pub struct Task {
+    pub level: u8,
+    pub nodes: u8,
+    pub figures: Figures,
+    pub masks: [u32; NODES],
+}
+
+pub struct TaskSet {
+    pub processors: u8,
+    pub count: u8,
+    pub tasks: [Task; TASKS],
+}
+
+impl TaskSet {
+    pub fn tasks(&self) -> &[Task] {
+        &self.tasks[..usize::from(self.count)]
+    }
+}
+
+/// Rows 1 and 2, then for each task rows 3 to 6.
+pub fn read(sheet: &[u8]) -> Result<TaskSet, Refusal> {
+    let header = Refusal { number: 1, task: NO_TASK };
+    let &[processors @ 1..=64, count @ 1..=16, ref rest @ ..] = sheet else { return Err(header) };
+    let n = usize::from(count);
+    let directory = rest.get(..4 * n).ok_or(header)?;
+    let first = 2 + 4 * n;
+    let mut place = first;
+    for (i, pair) in directory.chunks_exact(4).enumerate() {
+        if u16_at(pair, 0) != place {
+            return Err(refusal(2, i));
+        }
+        place += u16_at(pair, 2);
+    }
+    if place != sheet.len() {
+        return Err(refusal(2, n - 1));
+    }
+    let mut set = TaskSet { processors, count, tasks: [Task::default(); TASKS] };
+    let mut records = &sheet[first..];
+    for (i, pair) in directory.chunks_exact(4).enumerate() {
+        let (record, rest) = records.split_at(u16_at(pair, 2));
+        set.tasks[i] = task(record).map_err(|number| refusal(number, i))?;
+        records = rest;
+    }
+    Ok(set)
+}
+
+fn task(record: &[u8]) -> Result<Task, u8> {
+    let &[level @ 0..=1, nodes @ 1..=32, ref body @ ..] = record else { return Err(3) };
+    if record.len() != 12 + 4 * usize::from(nodes) {
+        return Err(3);
+    }
+    let (head, tail) = body.split_at(10);
+    let figure = |i: usize| u16_at(head, 2 * i) as u32;
+    let figures = Figures { d: figure(0), cn: figure(1), co: figure(2), ln: figure(3), lo: figure(4) };
+    let mut masks = [0; NODES];
+    for (mask, bytes) in masks.iter_mut().zip(tail.chunks_exact(4)) {
+        *mask = u32::from_le_bytes([bytes[0], bytes[1], bytes[2], bytes[3]]);
+    }
+    if !figures.keep_rules(level) {
+        Err(4)
+    } else if !masks_lawful(&masks[..usize::from(nodes)]) {
+        Err(5)
+    } else if figures.co <= figures.d {
+        Err(6)
+    } else {
+        Ok(Task { level, nodes, figures, masks })
+    }
+}
+
+impl Figures {
+    fn keep_rules(&self, level: u8) -> bool {
+        let Figures { d, cn, co, ln, lo } = *self;
+        [d, cn, co, ln, lo].iter().all(|figure| (1..=10_000).contains(figure))
+            && ln <= cn
+            && lo <= co
+            && cn <= co
+            && ln <= lo
+            && co - cn >= lo - ln
+            && (level == HIGH || (cn == co && ln == lo))
+    }
+}
+
+/// Whether node v's mask names nodes below v only.
+pub fn masks_lawful(masks: &[u32]) -> bool {
+    masks.iter().enumerate().all(|(v, mask)| mask >> v == 0)
+}
+
+fn u16_at(bytes: &[u8], at: usize) -> usize {
+    usize::from(u16::from_le_bytes([bytes[at], bytes[at + 1]]))
+}
