@@ -4,36 +4,13 @@
 ghost use mathlib.Core.Path.{_≡_};
 ghost use Prim.Native.Nat.{_+_, _*_, _≤_, _<_};
 ghost use lib.ListN.{length, take};
-ghost use Rattle.sheet.specs.Format.{byteAt, u16At, u32At};
 ghost use Rattle.guarantee.specs.Encoding.{askedAt, sizeAt, reportsAt, callsOf};
+use sheet::numbers::byte_at;
+use sheet::numbers::u32_at;
 
 pub const RELEASE: u8 = 0;
 
 const TICK: u8 = 1;
-
-// The byte at a place; 0 past the end.
-pub fn byte_at(s: &[u8], at: usize) -> u8
-    ensures { λ r. ⌜ r ≡ byteAt (now (s .entry)) at ⌝ }
-{
-    if at < s.len() { s[at] } else { 0 }
-}
-
-fn u16_at(s: &[u8], at: usize) -> u32
-    requires { ⌜ at + 2 ≤ length (now s) ⌝ }
-    ensures value { λ r. ⌜ r ≡ u16At (now (s .entry)) at ⌝ }
-    ensures bound { λ r. ⌜ r < 65536 ⌝ }
-{
-    let low = byte_at(s, at);
-    let high = byte_at(s, at + 1);
-    (low as u32) + 256 * (high as u32)
-}
-
-pub fn u32_at(s: &[u8], at: usize) -> u32
-    requires { ⌜ at + 4 ≤ length (now s) ⌝ }
-    ensures { λ r. ⌜ r ≡ u32At (now (s .entry)) at ⌝ }
-{
-    u16_at(s, at) + 65536 * u16_at(s, at + 2)
-}
 
 // The bytes that a call of the kind at a place has; 0 for an unknown kind.
 fn asked_at(calls: &[u8], at: usize) -> usize

@@ -23,7 +23,7 @@ pub fn has_node(set: u32, v: u32) -> bool
 pub fn full(k: u32) -> u32
     ensures { λ r. ⌜ r ≡ setOf (range 0 (min k 32)) ⌝ }
 {
-    if k < 32 {
+    if k <= 32 {
         ((1u64 << k) - 1) as u32
     } else {
         4294967295

@@ -1,6 +1,6 @@
 // Numbers in a sheet's bytes, lowest byte first.
 ghost use mathlib.Core.Path.{_≡_};
-ghost use Prim.Native.Nat.{_<_, _^_};
+ghost use Prim.Native.Nat.{_+_, _*_, _<_, _^_};
 ghost use Rattle.sheet.specs.Format.{byteAt, u16At, u32At};
 
 // The byte at a place; 0 past the sheet's end.
@@ -10,19 +10,32 @@ pub fn byte_at(s: &[u8], at: usize) -> u8
     if at < s.len() { s[at] } else { 0 }
 }
 
-pub fn u16_at(s: &[u8], at: usize) -> u32
-    requires { ⌜ at < 2 ^ 32 ⌝ }
-    ensures value { λ r. ⌜ r ≡ u16At (now (s .entry)) at ⌝ }
+// Two bytes as a number, the low one first.
+fn pair(low: u8, high: u8) -> u32
+    ensures value { λ r. ⌜ r ≡ low + 256 * high ⌝ }
     ensures bound { λ r. ⌜ r < 65536 ⌝ }
 {
-    let low = byte_at(s, at);
-    let high = byte_at(s, at + 1);
     (low as u32) + 256 * (high as u32)
 }
 
+pub fn u16_at(s: &[u8], at: usize) -> u32
+    requires { ⌜ at + 2 < 2 ^ 64 ⌝ }
+    ensures value { λ r. ⌜ r ≡ u16At (now (s .entry)) at ⌝ }
+    ensures bound { λ r. ⌜ r < 65536 ⌝ }
+{
+    if s.len() < at + 2 {
+        return pair(byte_at(s, at), 0);
+    }
+    pair(s[at], s[at + 1])
+}
+
+// The end is tested once for all four bytes.
 pub fn u32_at(s: &[u8], at: usize) -> u32
-    requires { ⌜ at < 2 ^ 31 ⌝ }
+    requires { ⌜ at + 4 < 2 ^ 64 ⌝ }
     ensures { λ r. ⌜ r ≡ u32At (now (s .entry)) at ⌝ }
 {
-    u16_at(s, at) + 65536 * u16_at(s, at + 2)
+    if s.len() < at + 4 {
+        return u16_at(s, at) + 65536 * u16_at(s, at + 2);
+    }
+    pair(s[at], s[at + 1]) + 65536 * pair(s[at + 2], s[at + 3])
 }

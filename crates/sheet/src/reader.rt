@@ -36,9 +36,11 @@ fn read_tasks(s: &[u8], n: u8) -> Reading
     requires { ⌜ (n ≡ countOf (now s)) × (n ≤ 16) ⌝ }
     ensures { λ r. ⌜ r ≡ readingOf (firstOver (recordAnswer (now (s .entry))) 0 n) (now (s .entry)) ⌝ }
 {
-    let mut set = zero_task_set();
-    set.processors = byte_at(s, 0);
-    set.count = n;
+    let mut set = TaskSet {
+        processors: byte_at(s, 0),
+        count: n,
+        tasks: [zero_task(); 16],
+    };
     let mut i: u8 = 0;
     while i < n {
         let record = read_record(s, i);

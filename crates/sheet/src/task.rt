@@ -13,13 +13,13 @@ pub struct Figures {
     pub overload: Budget,
 }
 
-// A task: its level (0 low, 1 high), the number of its nodes (01's k), its figures, and for each node the set of its
-// predecessors (01's masks).
+// A task: its figures, for each node the set of its predecessors (01's masks), its level (0 low, 1 high), and the number of
+// its nodes (01's k). The bytes stand last, so that there is no gap between the fields.
 pub struct Task {
-    pub level: u8,
-    pub nodes: u8,
     pub figures: Figures,
     pub predecessors: [u32; 32],
+    pub level: u8,
+    pub nodes: u8,
 }
 
 // A sheet's processors (01's M), the number of its tasks (01's n), and the tasks.

@@ -17,7 +17,7 @@ returns c = search needs
 
 returns-2 : tie.Need-returns-2
 returns-2 c =
-    let long = simp length-map at (c .before .good .0 .1 .1 .1 .1 .1 .0 .1 .0 .1) in
+    let long = simp length-map at (c .before .good .0 .1 .1 .1 .0 .1 .0 .1) in
     sym (List·getD-eq-default (c .before .args .t1 .predecessors) 0 (omega arith))
 
 pub mask-spec : {M : Type 1} → statement M

@@ -25,8 +25,7 @@ u32-at-requires : tie.Need-u32-at-requires
 u32-at-requires c κs =
     let start = c .before .before .before in
     let kind = sym (c .before .byte-at .ensures) ∙ c .if1 .taken in
-    let h : start .args .at + 1 + 4 ≤ length (now (start .args .calls)) = omega (arith, release-inside (now (start .args .calls)) (start .args .at) (start .pre .1) kind) in
-    h
+    omega (arith, release-inside (now (start .args .calls)) (start .args .at) (start .pre .1) kind)
 
 cast-by-release : tie.Need-cast-by-release
 cast-by-release c = search needs

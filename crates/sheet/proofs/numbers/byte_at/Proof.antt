@@ -2,7 +2,6 @@
 use denote.Ref.{now}
 use lib.ListN.{List·getD-eq-default}
 use mathlib.Core.Path.{refl, sym}
-use mathlib.Core.Path.{refl}
 use Rattle.sheet.specs.Format.{byteAt}
 use borrow.Author.Needs.{needs}
 use Rattle.sheet.proofs.numbers.byte_at.Statement.{statement}

@@ -5,7 +5,7 @@ use mathlib.Core.Path.{_≡_, refl, sym, ap, _∙_}
 use Rattle.sheet.proofs.Readings.{reading-refused, reading-accepted, set-whole}
 use denote.Ref.{now}
 use Rattle.sheet.specs.Answers.{firstOver}
-use Rattle.sheet.specs.Format.{processorsOf, tasksBelow, zeroTaskSet}
+use Rattle.sheet.specs.Format.{processorsOf, tasksBelow}
 use Rattle.sheet.specs.Reading.{recordAnswer}
 use Rattle.sheet.proofs.Faults.{over-next, over-stop, over-end, over-all}
 use Rattle.sheet.proofs.Cells.{tasks-none, tasks-store}
@@ -25,18 +25,18 @@ Inv-loop s n set₀ i₀ set i =
 abbrev μ-loop : tie.MeasureT-loop
 μ-loop s n set₀ i₀ set i = n - i
 
-zero-task-set-requires : tie.Need-zero-task-set-requires Inv-loop μ-loop
-zero-task-set-requires c κs = search needs
-
 byte-at-requires : tie.Need-byte-at-requires Inv-loop μ-loop
 byte-at-requires c κs = search needs
 
+zero-task-requires : tie.Need-zero-task-requires Inv-loop μ-loop
+zero-task-requires c κs = search needs
+
 loop-holds : tie.Need-loop-holds Inv-loop μ-loop
-unfolding processorsOf zeroTaskSet
+unfolding processorsOf
 loop-holds c =
     let s = now (c .before .before .before .args .s) in (
       omega arith,
-      c .byte-at .ensures,
+      c .before .byte-at .ensures,
       refl,
       cc (tasks-none s),
       over-all (recordAnswer s) (c .before .before .before .args .n),
@@ -48,8 +48,8 @@ read-record-requires c κs = search needs
 enum-told : tie.Need-enum-told Inv-loop μ-loop
 enum-told c = search needs
 
-zero-task-set-requires-2 : tie.Need-zero-task-set-requires-2 Inv-loop μ-loop
-zero-task-set-requires-2 c κs = search needs
+zero-task-set-requires : tie.Need-zero-task-set-requires Inv-loop μ-loop
+zero-task-set-requires c κs = search needs
 
 returns : tie.Need-returns Inv-loop μ-loop
 returns c =
@@ -63,7 +63,7 @@ returns c =
     (sym (loop .inv .4)
     ∙ over-stop (recordAnswer s) (loop .i) (start .args .n) (omega arith) refused
     ∙ sym (c .before .enum-told .given .1))
-    (c .zero-task-set2 .ensures)
+    (c .zero-task-set .ensures)
 
 enum-told-2 : tie.Need-enum-told-2 Inv-loop μ-loop
 enum-told-2 c = search needs
@@ -115,12 +115,12 @@ read-tasks-spec =
     (tie.spec
     Inv-loop
     μ-loop
-    zero-task-set-requires
     byte-at-requires
+    zero-task-requires
     loop-holds
     read-record-requires
     enum-told
-    zero-task-set-requires-2
+    zero-task-set-requires
     returns
     enum-told-2
     cast-task
