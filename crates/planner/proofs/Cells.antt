@@ -29,11 +29,6 @@ pub offers-end : (M : ℕ) (row : List ℕ) (i : ℕ) → length row ≤ i → o
 unfolding offersNone
 offers-end M row i done = rw (drop-of-length-le row done)
 
--- The first of tabulated numbers.
-pub tabulate-open : (g : ℕ → ℕ) (x k n : ℕ) → x ≡ g k → x ∷ tabulate g (suc k) n ≡ tabulate g k (suc n)
-unfolding tabulate
-tabulate-open g x k n e = rw e
-
 -- The members of tabulated numbers.
 pub tabulate-from : (g : ℕ → ℕ) (k n x : ℕ) → List·Memᴰ x (tabulate g k n) → (a : ℕ) × ((k ≤ a) × (x ≡ g a))
 unfolding tabulate

@@ -19,7 +19,7 @@ use Rattle.shares.specs.Totals.{noProcessors}
 use Rattle.planner.specs.Plan.{sixteen}
 use Rattle.planner.specs.Selection.{cellAt, entryAt, leastFrom, sumAt, bestShare, totalWith, leastTotal, totalsOf, offered, sharesAt, bestTotal, missingRow, rowsUpTo, lastTotals}
 use Rattle.planner.proofs.Firsts.{least-same, least-to}
-use Rattle.planner.proofs.Optimal.{best-from, best-to, with-positive, with-best, with-none, with-some}
+use Rattle.planner.proofs.Optimal.{best-from, best-to, with-positive, with-best, with-none, with-past, with-some}
 
 -- A filled cell holds what it is to hold.
 cells-at-from : {A : Type 0} (f : ℕ → A) (none : A) (size first count j : ℕ) (d : A) → j < size → first + j < count →
@@ -65,16 +65,17 @@ module _ (M : ℕ) (row rest rest′ : ℕ → ℕ) (t : ℕ) (same : (x : ℕ) 
   best-same one = least-same (sumAt row rest t) (sumAt row rest′ t) 1 (t - 1) (λ a from to. sum-same a from (omega arith))
 
   with-same : totalWith M row rest t ≡ totalWith M row rest′ t
-  with-same = go (decLe 1 t)
+  with-same = go (decLe 1 t) (decLe t M)
     where
-      go : Dec (1 ≤ t) → totalWith M row rest t ≡ totalWith M row rest′ t
-      go (yes one) =
-          with-some M row rest t one
+      go : Dec (1 ≤ t) → Dec (t ≤ M) → totalWith M row rest t ≡ totalWith M row rest′ t
+      go (yes one) (yes to) =
+          with-some M row rest t one to
           ∙ ap (λ (x : ℕ). min x (M + 1))
           (sum-same (bestShare row rest t) (best-from M row rest t) (best-to M row rest t one)
           ∙ ap (sumAt row rest′ t) (best-same one))
-          ∙ sym (with-some M row rest′ t one)
-      go (no zero-left) = with-none M row rest t (omega arith) ∙ sym (with-none M row rest′ t (omega arith))
+          ∙ sym (with-some M row rest′ t one to)
+      go (yes one) (no past) = with-past M row rest t (omega arith) ∙ sym (with-past M row rest′ t (omega arith))
+      go (no zero-left) _ = with-none M row rest t (omega arith) ∙ sym (with-none M row rest′ t (omega arith))
 
 -- The totals of one task more.
 pub totals-more : (M : ℕ) (row : ℕ → ℕ) (rows : List (ℕ → ℕ)) →

@@ -10,7 +10,7 @@ use native.Mathlib.Omega.{arith}
 use native.Mathlib.Nat.{min-le-left, min-le-right, min-eq-left, min-eq-right}
 use native.Mathlib.Decide.{decLe}
 use lib.Dec.{leb, eqb}
-use borrow.Author.Tests.{leb-true, leb-false, le-leb, eqb-true, eq-eqb, ne-eqb}
+use borrow.Author.Tests.{leb-true, leb-false, le-leb, lt-leb, eqb-true}
 use Rattle.sheet.proofs.Logic.{left-true, right-true}
 use Rattle.shares.specs.declared.share.Share.{Share}
 use Rattle.shares.specs.Totals.{typicalTotal, criticalTotal}
@@ -64,11 +64,15 @@ choice-takes (options ∷ rest) choice m =
 module _ (M : ℕ) (row rest : ℕ → ℕ) (t : ℕ) where
   pub with-none : t ≡ 0 → totalWith M row rest t ≡ M + 1
   unfolding totalWith
-  with-none e = rw (eq-eqb t 0 e)
+  with-none e = rw e
 
-  pub with-some : 1 ≤ t → totalWith M row rest t ≡ min (sumAt row rest t (bestShare row rest t)) (M + 1)
+  pub with-past : M < t → totalWith M row rest t ≡ M + 1
   unfolding totalWith
-  with-some one = rw (ne-eqb t 0 (λ e. omega arith))
+  with-past past = rw (le-leb 1 t (omega arith), lt-leb t M past)
+
+  pub with-some : 1 ≤ t → t ≤ M → totalWith M row rest t ≡ min (sumAt row rest t (bestShare row rest t)) (M + 1)
+  unfolding totalWith
+  with-some one to = rw (le-leb 1 t one, le-leb t M to)
 
   pub best-from : 1 ≤ bestShare row rest t
   unfolding bestShare
@@ -86,18 +90,19 @@ module _ (M : ℕ) (row rest : ℕ → ℕ) (t : ℕ) where
   unfolding bestShare
   best-first a from to = least-first-at (sumAt row rest t) 1 (t - 1) a from (omega arith)
 
-  pub with-at-most : (a : ℕ) → 1 ≤ a → a ≤ t → totalWith M row rest t ≤ row a + rest (t - a)
+  pub with-at-most : t ≤ M → (a : ℕ) → 1 ≤ a → a ≤ t → totalWith M row rest t ≤ row a + rest (t - a)
   unfolding sumAt
-  with-at-most a from to =
-      rw (with-some (omega arith))
+  with-at-most inside a from to =
+      rw (with-some (omega arith) inside)
       (omega (arith, min-le-left (sumAt row rest t (bestShare row rest t)) (M + 1), best-least a from to))
 
   pub with-bound : totalWith M row rest t ≤ M + 1
-  with-bound = go (decLe 1 t)
+  with-bound = go (decLe 1 t) (decLe t M)
     where
-      go : Dec (1 ≤ t) → totalWith M row rest t ≤ M + 1
-      go (yes one) = rw (with-some one) (min-le-right (sumAt row rest t (bestShare row rest t)) (M + 1))
-      go (no zero-left) = omega (arith, with-none (omega arith))
+      go : Dec (1 ≤ t) → Dec (t ≤ M) → totalWith M row rest t ≤ M + 1
+      go (yes one) (yes to) = rw (with-some one to) (min-le-right (sumAt row rest t (bestShare row rest t)) (M + 1))
+      go (yes one) (no past) = omega (arith, with-past (omega arith))
+      go (no zero-left) _ = omega (arith, with-none (omega arith))
 
   pub with-positive : totalWith M row rest t ≤ M → 1 ≤ t
   with-positive within = go (decLe 1 t)
@@ -106,9 +111,16 @@ module _ (M : ℕ) (row rest : ℕ → ℕ) (t : ℕ) where
       go (yes one) = one
       go (no zero-left) = absurd (omega (arith, with-none (omega arith)))
 
+  with-to : totalWith M row rest t ≤ M → t ≤ M
+  with-to within = go (decLe t M)
+    where
+      go : Dec (t ≤ M) → t ≤ M
+      go (yes to) = to
+      go (no past) = absurd (omega (arith, with-past (omega arith)))
+
   pub with-best : totalWith M row rest t ≤ M → totalWith M row rest t ≡ row (bestShare row rest t) + rest (t - bestShare row rest t)
   unfolding sumAt
-  with-best within = go (sumAt row rest t (bestShare row rest t)) (with-some (with-positive within)) (decLe (sumAt row rest t (bestShare row rest t)) (M + 1))
+  with-best within = go (sumAt row rest t (bestShare row rest t)) (with-some (with-positive within) (with-to within)) (decLe (sumAt row rest t (bestShare row rest t)) (M + 1))
     where
       go : (x : ℕ) → totalWith M row rest t ≡ min x (M + 1) → Dec (x ≤ M + 1) → totalWith M row rest t ≡ x
       go x e (yes h) = e ∙ min-eq-left h
@@ -131,19 +143,19 @@ total-bound M [] t = go (eqb t 0)
     go false = omega arith
 total-bound M (row ∷ rows) t = with-bound M row (leastTotal M rows) t
 
--- Every choice has at least the least critical total at its typical total.
+-- Every choice with a typical total within M has at least the least critical total there.
 pub total-least : {M : ℕ} {tasks : List (List Share)} {rows : List (ℕ → ℕ)} → Rows M tasks rows → (choice : List Share) →
-    Takes tasks choice → leastTotal M rows (typicalTotal choice) ≤ criticalTotal choice
+    Takes tasks choice → typicalTotal choice ≤ M → leastTotal M rows (typicalTotal choice) ≤ criticalTotal choice
 unfolding leastTotal
-total-least no-row [] t = omega arith
-total-least no-row (s ∷ choice) t = absurd t
-total-least (row-and r rs) [] t = absurd t
-total-least {M} (row-and {row = row} {rows = rows} r rs) (s ∷ choice) (m, t) =
+total-least no-row [] t to = omega arith
+total-least no-row (s ∷ choice) t to = absurd t
+total-least (row-and r rs) [] t to = absurd t
+total-least {M} (row-and {row = row} {rows = rows} r rs) (s ∷ choice) (m, t) to =
     let left : s .typical + typicalTotal choice - s .typical ≡ typicalTotal choice = omega arith in
-    let here = with-at-most M row (leastTotal M rows) (s .typical + typicalTotal choice) (s .typical) (r .positive s m) (omega arith) in
+    let here = with-at-most M row (leastTotal M rows) (s .typical + typicalTotal choice) to (s .typical) (r .positive s m) (omega arith) in
     let here′ : totalWith M row (leastTotal M rows) (s .typical + typicalTotal choice) ≤ row (s .typical) + leastTotal M rows (typicalTotal choice) =
     rw left at here in
-    omega (arith, r .least s m, total-least rs choice t)
+    omega (arith, r .least s m, total-least rs choice t (omega arith))
 
 -- What the selected shares are where the least critical total is within M.
 pub record Sound (M : ℕ) (tasks : List (List Share)) (rows : List (ℕ → ℕ)) (t : ℕ) : Type 0 where
@@ -186,9 +198,9 @@ select-first {M} (row-and {row = row} {rest = tasks} {rows = rows} r rs) t to wi
     let one : 1 ≤ s .typical = r .positive s m in
     let left : t - s .typical ≡ typicalTotal rival = omega arith in
     let least : row (s .typical) ≤ s .critical = r .least s m in
-    let rest-least : leastTotal M rows (t - s .typical) ≤ criticalTotal rival = rw left (total-least rs rival takes) in
+    let rest-least : leastTotal M rows (t - s .typical) ≤ criticalTotal rival = rw left (total-least rs rival takes (omega arith)) in
     let most : total ≤ row (s .typical) + leastTotal M rows (t - s .typical) =
-    with-at-most M row (leastTotal M rows) t (s .typical) one (omega arith) in
+    with-at-most M row (leastTotal M rows) t to (s .typical) one (omega arith) in
     let no-later : a ≤ s .typical = with-first M row (leastTotal M rows) t within (s .typical) one (omega arith) (omega arith) in
     let own : s .critical ≡ row (s .typical) = omega arith in
     let rest-own : criticalTotal rival ≡ leastTotal M rows (t - s .typical) = omega arith in
@@ -227,7 +239,7 @@ module _ {M : ℕ} {tasks : List (List Share)} {rows : List (ℕ → ℕ)} (r : 
       leastTotal M rows (bestTotal M rows) ≤ criticalTotal choice
   fitting-least choice m =
       let (takes, typical, critical) = fitting-total choice m in
-      omega (arith, best-total-least (typicalTotal choice) typical, total-least r choice takes)
+      omega (arith, best-total-least (typicalTotal choice) typical, total-least r choice takes typical)
 
   -- Nothing fits where the least critical total exceeds M.
   select-none : M < leastTotal M rows (bestTotal M rows) → keep (fits M) (choices tasks) ≡ []
@@ -250,7 +262,7 @@ module _ {M : ℕ} {tasks : List (List Share)} {rows : List (ℕ → ℕ)} (r : 
     select-no-later rival m =
         let (takes, typical, critical) = fitting-total rival m in
         let sound = select-sound r (bestTotal M rows) best-total-to within in
-        let least = total-least r rival takes in
+        let least = total-least r rival takes typical in
         ranks-no-later (sharesAt M rows (bestTotal M rows)) rival
         (omega (arith, sound .critical, fitting-least rival m))
         (λ same.

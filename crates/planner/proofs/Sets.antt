@@ -211,17 +211,21 @@ module _ (set : TaskSet) (lawful : LawfulSet set) where
       empty-none _ _ (no-option number task (found .0) (found .1 .1)) (fitting-option choice m (found .0) (omega arith))))
       ∙ least-of-none
 
-  -- The answers of `choose`.
-  pub choice-refused : (answer : Answer) (number task : ℕ) → answer ≡ firstOver (rowAnswer (set .processors) (rowsOf set)) 0 (set .count) →
-      answer ≡ Refused number task → record { answer = answer; shares = replicate 16 noProcessors } ≡ choiceOf set
-  unfolding choiceOf choiceAnswer
-  choice-refused answer number task e refused =
-      let here = sym (answers-same) ∙ sym e ∙ refused in
-      rw (here, refused-none number task here, refused, sixteen-none)
+  -- The answers of `choose`, by the rows.
+  module _ (rows : List Row) (of-set : rows ≡ rowsOf set) where
+    answers-are : firstOver (shareAnswer set) 0 (set .count) ≡ firstOver (rowAnswer (set .processors) rows) 0 (set .count)
+    answers-are = rw of-set (sym answers-same)
 
-  pub choice-selected : (answer : Answer) (chosen-shares : Chosen) → answer ≡ firstOver (rowAnswer (set .processors) (rowsOf set)) 0 (set .count) →
-      answer ≡ Accepted → chosen-shares ≡ selectionOf (set .processors) (rowsUpTo (set .count) (rowsOf set)) → chosen-shares ≡ choiceOf set
-  unfolding choiceOf choiceAnswer selectionOf
-  choice-selected answer chosen-shares e accepted same =
-      let here = sym (answers-same) ∙ sym e ∙ accepted in
-      same ∙ rw (here, selected-chosen)
+    pub choice-refused : (number task : ℕ) → firstOver (rowAnswer (set .processors) rows) 0 (set .count) ≡ Refused number task →
+        record { answer = Refused number task; shares = replicate 16 noProcessors } ≡ choiceOf set
+    unfolding choiceOf choiceAnswer
+    choice-refused number task refused =
+        let here = answers-are ∙ refused in
+        rw (here, refused-none number task here, sixteen-none)
+
+    pub choice-selected : (chosen-shares : Chosen) → firstOver (rowAnswer (set .processors) rows) 0 (set .count) ≡ Accepted →
+        chosen-shares ≡ selectionOf (set .processors) (rowsUpTo (set .count) rows) → chosen-shares ≡ choiceOf set
+    unfolding choiceOf choiceAnswer selectionOf
+    choice-selected chosen-shares accepted same =
+        let here = answers-are ∙ accepted in
+        same ∙ rw (here, selected-chosen, of-set)

@@ -17,6 +17,7 @@ use Rattle.sheet.specs.declared.answer.Answer.{Answer}
 use Rattle.sheet.specs.declared.task.TaskSet.{TaskSet}
 use Rattle.sheet.specs.Answers.{noTask, refusedIf}
 use Rattle.sheet.specs.Format.{cells, taskIn}
+use Rattle.sheet.specs.Rules.{within}
 
 -- What the 64 numbers of a row say at typical share a.
 unfoldable pub cellAt : List ℕ → ℕ → ℕ
@@ -43,11 +44,12 @@ sumAt row rest t a = row a + rest (t - a)
 unfoldable pub bestShare : (ℕ → ℕ) → (ℕ → ℕ) → ℕ → ℕ
 bestShare row rest t = leastFrom (sumAt row rest t) 1 (t - 1)
 
--- The least critical total of a task and the tasks after it with typical total t. The task takes one processor at least.
+-- The least critical total of a task and the tasks after it with typical total t, from 1 to M: the task takes one processor
+-- at least. M + 1 at any other t.
 unfoldable pub totalWith : ℕ → (ℕ → ℕ) → (ℕ → ℕ) → ℕ → ℕ
-totalWith M row rest t = cond (eqb t 0) (M + 1) (min (sumAt row rest t (bestShare row rest t)) (M + 1))
+totalWith M row rest t = cond (within 1 M t) (min (sumAt row rest t (bestShare row rest t)) (M + 1)) (M + 1)
 
--- The least critical total of tasks with these rows and typical total t.
+-- The least critical total of tasks with these rows and typical total t, from 0 to M. M + 1 at any other t.
 unfoldable pub leastTotal : ℕ → List (ℕ → ℕ) → ℕ → ℕ
 leastTotal M [] t = cond (eqb t 0) 0 (M + 1)
 leastTotal M (row ∷ rows) t = totalWith M row (leastTotal M rows) t

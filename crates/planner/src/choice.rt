@@ -2,12 +2,14 @@
 ghost use mathlib.Core.Path.{_≡_};
 ghost use Rattle.planner.specs.Lawful.{LawfulSet};
 ghost use Rattle.planner.specs.Plan.{choiceOf};
-use crate::rows::rows_answer;
+use crate::rows::offers_none;
 use crate::rows::rows_of;
 use crate::selection::select;
 use shares::share::Share;
 use sheet::answer::Answer;
 use sheet::task::TaskSet;
+
+const NO_SHARE: u8 = 7;
 
 // The answer on a task set, and the shares of its tasks; zeros where nothing is chosen and from the last task on.
 pub struct Chosen {
@@ -15,7 +17,7 @@ pub struct Chosen {
     pub shares: [Share; 16],
 }
 
-// Rows 7 and 8, and the shares that are chosen.
+// Row 7 over the tasks in order, then row 8, and the shares that are chosen.
 pub fn choose(set: TaskSet) -> Chosen
     requires { ⌜ LawfulSet set ⌝ }
     ensures { λ r. ⌜ r ≡ choiceOf set ⌝ }
@@ -23,15 +25,20 @@ pub fn choose(set: TaskSet) -> Chosen
     let n = set.count;
     let m = set.processors;
     let rows = rows_of(set);
-    let answer = rows_answer(rows, n, m);
-    if let Answer::Refused(_, _) = answer {
-        return Chosen {
-            answer,
-            shares: [Share {
-                typical: 0,
-                critical: 0,
-            }; 16],
-        };
+    let mut i: u8 = 0;
+    while i < n {
+        let row = rows[i as usize];
+        let cells = row.cells;
+        if offers_none(cells, m) {
+            return Chosen {
+                answer: Answer::Refused(NO_SHARE, i),
+                shares: [Share {
+                    typical: 0,
+                    critical: 0,
+                }; 16],
+            };
+        }
+        i += 1;
     }
     select(rows, n, m)
 }

@@ -1,13 +1,9 @@
-// The rows of a task set, and row 7.
+// The rows of a task set, and whether a row offers anything.
 ghost use mathlib.Core.Path.{_≡_};
 ghost use Prim.Native.Nat.{_≤_};
-ghost use Rattle.sheet.specs.Answers.{firstOver};
-ghost use Rattle.planner.specs.Selection.{rowsOf, offersNone, rowAnswer};
+ghost use Rattle.planner.specs.Selection.{rowsOf, offersNone};
 use shares::row::row;
-use sheet::answer::Answer;
 use sheet::task::TaskSet;
-
-const NO_SHARE: u8 = 7;
 
 // The least critical share of a task at each typical share 1 to 64; m + 1 for none.
 pub struct Row {
@@ -32,7 +28,8 @@ pub fn rows_of(set: TaskSet) -> [Row; 16]
     rows
 }
 
-fn offers_none(cells: [u8; 64], m: u8) -> bool
+// Whether no cell of a row is within m.
+pub fn offers_none(cells: [u8; 64], m: u8) -> bool
     ensures { λ r. ⌜ r ≡ offersNone m cells ⌝ }
 {
     let mut i: usize = 0;
@@ -43,21 +40,4 @@ fn offers_none(cells: [u8; 64], m: u8) -> bool
         i += 1;
     }
     true
-}
-
-// Row 7 over the tasks in order.
-pub fn rows_answer(rows: [Row; 16], n: u8, m: u8) -> Answer
-    requires { ⌜ n ≤ 16 ⌝ }
-    ensures { λ r. ⌜ r ≡ firstOver (rowAnswer m rows) 0 n ⌝ }
-{
-    let mut i: u8 = 0;
-    while i < n {
-        let row = rows[i as usize];
-        let cells = row.cells;
-        if offers_none(cells, m) {
-            return Answer::Refused(NO_SHARE, i);
-        }
-        i += 1;
-    }
-    Answer::Accepted
 }

@@ -12,7 +12,7 @@ use sheet::answer::NO_TASK;
 
 const NO_FIT: u8 = 8;
 
-// The least critical total at each typical total 0 to 64; m + 1 for any above m.
+// The least critical total at each typical total 0 to m, m + 1 for any above m; m + 1 at each typical total above m, to 64.
 pub struct Totals {
     pub cells: [u8; 65],
 }
@@ -68,7 +68,7 @@ fn totals_with(row: [u8; 64], rest: [u8; 65], m: u8) -> [u8; 65]
 {
     let mut totals = [m + 1; 65];
     let mut t: u8 = 1;
-    while t < 65 {
+    while t <= m {
         let best = best_share(&row, &rest, t);
         totals[t as usize] = capped(best.sum, m);
         t += 1;

@@ -25,13 +25,14 @@ fn low_row(f: Figures, m: u8) -> [u8; 64]
     row
 }
 
-// A high task's row.
+// A high task's row. No typical share above m has a critical share within m.
 fn high_row(f: Figures, m: u8) -> [u8; 64]
     requires { ⌜ m ≤ 64 ⌝ }
     ensures { λ r. ⌜ r ≡ tabulate (leastCritical m f) 1 64 ⌝ }
 {
-    let mut row = [0u8; 64];
-    for i in 0..64usize {
+    let mut row = [m + 1; 64];
+    let end = m as usize;
+    for i in 0..end {
         row[i] = number_of(least_critical(f, m, i as u8 + 1), m);
     }
     row

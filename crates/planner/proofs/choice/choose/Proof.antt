@@ -1,57 +1,98 @@
--- `choice::choose` meets its contract: row 7 by the rows, then what the rows select.
-use mathlib.Core.Path.{ap, _∙_}
-use mathlib.Core.List.{List}
-use Rattle.sheet.specs.Answers.{firstOver}
-use Rattle.planner.specs.declared.rows.Row.{Row}
-use Rattle.planner.specs.Selection.{rowAnswer, rowsUpTo, selectionOf}
-use Rattle.planner.proofs.Sets.{choice-refused, choice-selected}
+-- `choice::choose` meets its contract: row 7 by the rows, then what the rows select. The loop's invariant: row 7 over the tasks
+-- left is row 7 over all tasks. The measure is the tasks left.
+use Prim.Native.Nat.{_-_, _≤_}
+use mathlib.Core.Path.{_≡_, sym, ap, _∙_}
+use mathlib.Core.Bool.{Bool}
+use native.Mathlib.Omega.{arith}
 use borrow.Author.Needs.{needs}
+use Rattle.sheet.specs.Answers.{refusedIf, firstOver}
+use Rattle.sheet.proofs.Faults.{over-next, over-stop, over-end, over-all}
+use Rattle.planner.specs.Plan.{noShare}
+use Rattle.planner.specs.Selection.{rowAnswer}
+use Rattle.planner.proofs.Sets.{choice-refused, choice-selected}
 use Rattle.planner.proofs.choice.choose.Statement.{statement}
 use Rattle.planner.proofs.choice.choose.Tie as tie
 
-rows-of-requires : tie.Need-rows-of-requires
+abbrev Inv-loop : tie.InvT-loop
+Inv-loop n m rows i₀ i = (i ≤ n) × (firstOver (rowAnswer m rows) i (n - i) ≡ firstOver (rowAnswer m rows) 0 n)
+
+abbrev μ-loop : tie.MeasureT-loop
+μ-loop n m rows i₀ i = n - i
+
+rows-of-requires : tie.Need-rows-of-requires Inv-loop μ-loop
 rows-of-requires c κs = search needs
 
-rows-answer-requires : tie.Need-rows-answer-requires
-rows-answer-requires c κs = search needs
+loop-holds : tie.Need-loop-holds Inv-loop μ-loop
+loop-holds c =
+    let set = c .before .args .set in
+    (omega arith, over-all (rowAnswer (set .processors) (c .rows-of .result)) (set .count))
 
-enum-told : tie.Need-enum-told
-enum-told c = search needs
+cast-row : tie.Need-cast-row Inv-loop μ-loop
+cast-row c = search needs
 
-returns : tie.Need-returns
+mul-row : tie.Need-mul-row Inv-loop μ-loop
+mul-row c = search needs
+
+array-copy-out-row : tie.Need-array-copy-out-row Inv-loop μ-loop
+array-copy-out-row c = search needs
+
+offers-none-requires : tie.Need-offers-none-requires Inv-loop μ-loop
+offers-none-requires c κs = search needs
+
+returns : tie.Need-returns Inv-loop μ-loop
+unfolding rowAnswer
 returns c =
-    let start = c .before .before .before .before in
+    let at = c .before .before .before .before .before in
+    let start = at .before .before in
     let set = start .args .set in
-    choice-refused set (start .pre) _ _ _
-    (c .before .before .rows-answer .ensures
-    ∙ ap (λ (rows : List Row). firstOver (rowAnswer (set .processors) rows) 0 (set .count)) (c .before .before .before .rows-of .ensures))
-    (c .enum-told .given .1)
+    let refused = ap (λ (t : Bool). refusedIf t noShare (at .loop .i)) (sym (c .before .offers-none .ensures) ∙ c .if1 .taken) in
+    choice-refused set (start .pre) _ (at .before .rows-of .ensures) noShare (at .loop .i)
+    (sym (at .loop .inv .1) ∙ over-stop (rowAnswer (set .processors) (at .before .rows-of .result)) (at .loop .i) (set .count) (omega arith) refused)
 
-enum-told-2 : tie.Need-enum-told-2
-enum-told-2 c = search needs
+add-i : tie.Need-add-i Inv-loop μ-loop
+add-i c = search needs
 
-select-requires : tie.Need-select-requires
+loop-less : tie.Need-loop-less Inv-loop μ-loop
+loop-less c = search needs
+
+loop-again : tie.Need-loop-again Inv-loop μ-loop
+unfolding rowAnswer
+loop-again c =
+    let at = c .before .before .before .before .before in
+    let set = at .before .before .args .set in
+    let accepted = ap (λ (t : Bool). refusedIf t noShare (at .loop .i)) (sym (c .before .offers-none .ensures) ∙ c .if1 .left) in (
+      omega arith,
+      over-next (rowAnswer (set .processors) (at .before .rows-of .result)) (at .loop .i) (set .count) (omega arith) accepted
+          ∙ at .loop .inv .1,
+    )
+
+select-requires : tie.Need-select-requires Inv-loop μ-loop
 select-requires c κs = search needs
 
-returns-2 : tie.Need-returns-2
+returns-2 : tie.Need-returns-2 Inv-loop μ-loop
 returns-2 c =
-    let start = c .before .before .before .before .before in
+    let at = c .before .before in
+    let start = at .before .before in
     let set = start .args .set in
-    let rows = c .before .before .before .before .rows-of .ensures in
-    choice-selected set (start .pre) _ (c .select .result)
-    (c .before .before .before .rows-answer .ensures
-    ∙ ap (λ (rows : List Row). firstOver (rowAnswer (set .processors) rows) 0 (set .count)) rows)
-    (c .before .enum-told2 .given .1)
-    (c .select .ensures ∙ ap (λ (rows : List Row). selectionOf (set .processors) (rowsUpTo (set .count) rows)) rows)
+    choice-selected set (start .pre) _ (at .before .rows-of .ensures) (c .select .result)
+    (sym (at .loop .inv .1) ∙ over-end (rowAnswer (set .processors) (at .before .rows-of .result)) (at .loop .i) (set .count) (omega arith))
+    (c .select .ensures)
 
 pub choose-spec : {M : Type 1} → statement M
 choose-spec =
     tie.close
     (tie.spec
+    Inv-loop
+    μ-loop
     rows-of-requires
-    rows-answer-requires
-    enum-told
+    loop-holds
+    cast-row
+    mul-row
+    array-copy-out-row
+    offers-none-requires
     returns
-    enum-told-2
+    add-i
+    loop-less
+    loop-again
     select-requires
     returns-2)

@@ -1,39 +1,34 @@
--- `selection::totals_with` meets its contract. The loop's invariant: the totals that are done, followed by the definition of
--- those that are left, are all of them. The measure is what is left of 65.
-use Prim.Native.Nat.{min, _+_, _-_, _≤_}
-use native.Mathlib.Nat.{add-zero}
+-- `selection::totals_with` meets its contract. The loop's invariant: the totals are done below t and say m + 1 from there on,
+-- which is right above m. The measure is what is left of m + 1.
+use Prim.Native.Nat.{ℕ, min, _+_, _-_, _≤_}
 use Rattle.planner.specs.Selection.{sumAt, cellAt, entryAt, totalWith}
 use borrow.Author.Needs.{needs}
-use mathlib.Core.Path.{_≡_, refl, sym, ap, _∙_}
-use mathlib.Core.List.{_++_}
+use mathlib.Core.Path.{_≡_, sym, ap, _∙_}
 use native.Mathlib.Omega.{arith}
-use lib.ListN.{length, take, length-set}
 use Rattle.shares.specs.Row.{tabulate}
-use Rattle.shares.proofs.Rows.{cell-step, cells-done}
-use Rattle.planner.proofs.Cells.{tabulate-open}
-use Rattle.planner.proofs.Optimal.{with-none, with-some}
+use Rattle.shares.proofs.Rows.{upTo, up-to-start, up-to-more, up-to-all}
+use Rattle.planner.proofs.Optimal.{with-none, with-past, with-some}
 use Rattle.planner.proofs.selection.totals_with.Statement.{statement}
 use Rattle.planner.proofs.selection.totals_with.Tie as tie
 
 abbrev Inv-loop : tie.InvT-loop
 Inv-loop m row rest totals₀ t₀ totals t =
-    (1 ≤ t)
-    × (t ≤ 65)
-    × (length totals ≡ 65)
-    × (take t totals ++ tabulate (totalWith m (cellAt row) (entryAt rest)) (t + 0) (65 - t)
-    ≡ tabulate (totalWith m (cellAt row) (entryAt rest)) 0 65)
+    (1 ≤ t) × (t ≤ m + 1) × (totals ≡ tabulate (upTo (totalWith m (cellAt row) (entryAt rest)) (m + 1) t) 0 65)
 
 abbrev μ-loop : tie.MeasureT-loop
-μ-loop m row rest totals₀ t₀ totals t = 65 - t
+μ-loop m row rest totals₀ t₀ totals t = m + 1 - t
 
 add-totals : tie.Need-add-totals Inv-loop μ-loop
 add-totals c = omega arith
 
 loop-holds : tie.Need-loop-holds Inv-loop μ-loop
 loop-holds c =
-    let args = c .args in
-    let f = totalWith (args .m) (cellAt (args .t1)) (entryAt (args .t2)) in
-    (omega arith, omega arith, refl, tabulate-open f (args .m + 1) 0 64 (sym (with-none (args .m) (cellAt (args .t1)) (entryAt (args .t2)) 0 refl)))
+    let args = c .args in (
+      omega arith,
+      omega arith,
+      up-to-start (totalWith (args .m) (cellAt (args .t1)) (entryAt (args .t2))) (args .m + 1) 1 0 65
+          (λ t from below. with-none (args .m) (cellAt (args .t1)) (entryAt (args .t2)) t (omega arith)),
+    )
 
 best-share-requires : tie.Need-best-share-requires Inv-loop μ-loop
 best-share-requires c κs = (omega arith, omega arith)
@@ -57,33 +52,30 @@ loop-less c = omega arith
 cell : (c : tie.After-capped Inv-loop μ-loop) →
     c .capped .result
     ≡ totalWith (c .before .before .before .before .before .before .args .m) (cellAt (c .before .before .before .before .before .before .args .t1))
-    (entryAt (c .before .before .before .before .before .before .args .t2)) (c .before .before .before .before .before .loop .t + 0)
+    (entryAt (c .before .before .before .before .before .before .args .t2)) (c .before .before .before .before .before .loop .t)
 cell c =
     let args = c .before .before .before .before .before .before .args in
     let t = c .before .before .before .before .before .loop .t in
     let best = c .before .best-share in
     c .capped .ensures
     ∙ ap (λ x. min x (args .m + 1)) (best .ensures .1 ∙ ap (sumAt (cellAt (args .t1)) (entryAt (args .t2)) t) (best .ensures .0))
-    ∙ sym (with-some (args .m) (cellAt (args .t1)) (entryAt (args .t2)) t (omega arith))
-    ∙ ap (totalWith (args .m) (cellAt (args .t1)) (entryAt (args .t2))) (sym (add-zero t))
+    ∙ sym (with-some (args .m) (cellAt (args .t1)) (entryAt (args .t2)) t (omega arith) (omega arith))
 
 loop-again : tie.Need-loop-again Inv-loop μ-loop
 loop-again c =
     let args = c .before .before .before .before .before .before .args in
     let loop = c .before .before .before .before .before .loop in
-    let f = totalWith (args .m) (cellAt (args .t1)) (entryAt (args .t2)) in (
-      omega arith,
-      omega arith,
-      length-set (loop .totals) (loop .t) (c .capped .result) ∙ loop .inv .2,
-      rw (cell c) (cell-step f (loop .totals) (loop .t) 0 65 (omega arith) (omega arith)) ∙ loop .inv .3,
-    )
+    let f = totalWith (args .m) (cellAt (args .t1)) (entryAt (args .t2)) in
+    (omega arith, omega arith, rw (cell c) (up-to-more f (args .m + 1) (loop .totals) (loop .t) (loop .t) 0 65 (omega arith) (omega arith) (loop .inv .2)))
 
 returns : tie.Need-returns Inv-loop μ-loop
 returns c =
     let args = c .before .before .args in
-    let f = totalWith (args .m) (cellAt (args .t1)) (entryAt (args .t2)) in
-    sym (cells-done f (c .before .loop .totals) (c .before .loop .t) 0 65 (c .before .loop .inv .2) (omega arith))
-    ∙ c .before .loop .inv .3
+    let loop = c .before .loop in
+    loop .inv .2
+    ∙ ap (λ (f : ℕ → ℕ). tabulate f 0 65)
+    (up-to-all (totalWith (args .m) (cellAt (args .t1)) (entryAt (args .t2))) (args .m + 1) (loop .t)
+    (λ t past. with-past (args .m) (cellAt (args .t1)) (entryAt (args .t2)) t (omega arith)))
 
 pub totals-with-spec : {M : Type 1} → statement M
 totals-with-spec =

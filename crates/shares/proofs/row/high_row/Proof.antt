@@ -1,30 +1,29 @@
--- `row::high_row` meets its contract. The loop's invariant: the cells that are done, followed by the definition of those that
--- are left, are the row. The measure is what is left of 64.
-use Prim.Native.Nat.{_+_, _-_, _≤_}
-use mathlib.Core.Path.{_≡_, refl, sym, ap, _∙_}
-use mathlib.Core.List.{_++_}
+-- `row::high_row` meets its contract. The loop's invariant: the row is done up to typical share i and says m + 1 above it, which
+-- is right above m. The measure is what is left of m.
+use Prim.Native.Nat.{ℕ, _+_, _-_, _≤_}
+use mathlib.Core.Path.{_≡_, ap, _∙_}
 use native.Mathlib.Omega.{arith}
 use borrow.Author.Needs.{needs}
-use lib.ListN.{length, take, length-set}
 use Rattle.shares.specs.Search.{leastCritical, numberOf}
 use Rattle.shares.specs.Row.{tabulate}
-use Rattle.shares.proofs.Least.{least-bound}
+use Rattle.shares.proofs.Least.{least-bound, least-past}
 use Rattle.shares.proofs.Walk.{number-answer}
-use Rattle.shares.proofs.Rows.{cell-step, cells-done}
+use Rattle.shares.proofs.Rows.{upTo, up-to-start, up-to-more, up-to-all}
 use Rattle.shares.proofs.row.high_row.Statement.{statement}
 use Rattle.shares.proofs.row.high_row.Tie as tie
 
 abbrev Inv-loop : tie.InvT-loop
-Inv-loop f m row₀ i₀ row i =
-    (i ≤ 64)
-    × (length row ≡ 64)
-    × (take i row ++ tabulate (leastCritical m f) (i + 1) (64 - i) ≡ tabulate (leastCritical m f) 1 64)
+Inv-loop f m row₀ end i₀ row i = (i ≤ m) × (row ≡ tabulate (upTo (leastCritical m f) (m + 1) (i + 1)) 1 64)
 
 abbrev μ-loop : tie.MeasureT-loop
-μ-loop f m row₀ i₀ row i = 64 - i
+μ-loop f m row₀ end i₀ row i = m - i
+
+add-row : tie.Need-add-row Inv-loop μ-loop
+add-row c = search needs
 
 loop-holds : tie.Need-loop-holds Inv-loop μ-loop
-loop-holds c = (omega arith, refl, refl)
+loop-holds c =
+    (omega arith, up-to-start (leastCritical (c .args .m) (c .args .f)) (c .args .m + 1) 1 1 64 (λ a from below. absurd (omega arith)))
 
 cast-least-critical : tie.Need-cast-least-critical Inv-loop μ-loop
 cast-least-critical c = omega arith
@@ -58,18 +57,17 @@ cell c =
 
 loop-again : tie.Need-loop-again Inv-loop μ-loop
 loop-again c =
-    let at = c .before .before .before in (
-      omega arith,
-      length-set (at .loop .row) (at .loop .i) (c .number-of .result) ∙ at .loop .inv .1,
-      rw (cell c) (cell-step (leastCritical (at .before .args .m) (at .before .args .f)) (at .loop .row) (at .loop .i) 1 64 (omega arith) (omega arith))
-          ∙ at .loop .inv .2,
-    )
+    let at = c .before .before .before in
+    let g = leastCritical (at .before .args .m) (at .before .args .f) in
+    (omega arith, rw (cell c) (up-to-more g (at .before .args .m + 1) (at .loop .row) (at .loop .i) (at .loop .i + 1) 1 64 (omega arith) (omega arith) (at .loop .inv .1)))
 
 returns : tie.Need-returns Inv-loop μ-loop
 returns c =
-    let g = leastCritical (c .before .before .args .m) (c .before .before .args .f) in
-    sym (cells-done g (c .before .loop .row) (c .before .loop .i) 1 64 (c .before .loop .inv .1) (omega arith))
-    ∙ c .before .loop .inv .2
+    let args = c .before .before .args in
+    let loop = c .before .loop in
+    loop .inv .1
+    ∙ ap (λ (g : ℕ → ℕ). tabulate g 1 64)
+    (up-to-all (leastCritical (args .m) (args .f)) (args .m + 1) (loop .i + 1) (λ a past. least-past (args .m) (args .f) a (omega arith)))
 
 pub high-row-spec : {M : Type 1} → statement M
 high-row-spec =
@@ -77,6 +75,7 @@ high-row-spec =
     (tie.spec
     Inv-loop
     μ-loop
+    add-row
     loop-holds
     cast-least-critical
     add-least-critical
