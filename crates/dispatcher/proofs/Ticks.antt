@@ -1,86 +1,93 @@
--- Tick on a state: row 15 over the tasks, each task's part, the lowest late task, the switch, and the state that it leaves.
+-- Tick on a state: what one pass over the tasks finds and writes, and the tick's answer and state by it.
 use Prim.Native.Nat.{ℕ, zero, suc, _+_, _≤_, _<_}
 use mathlib.Core.Path.{_≡_, refl, sym, ap, ap₂, _∙_}
-use mathlib.Core.Bool.{Bool, true, false, cond}
+use mathlib.Core.Bool.{Bool, true, false, cond, not, _&&_, _||_, false≢true}
 use mathlib.Core.List.{List, [], _∷_, _++_, map}
 use mathlib.Core.Option.{Option, none, some}
 use native.Mathlib.Omega.{arith}
 use native.Mathlib.Numerals.{add-one}
-use native.Mathlib.Decide.{ℕ-discrete}
 use borrow.Author.Tests.{eq-eqb, ne-eqb}
-use lib.ListN.{length, getD, take, drop, length-map}
+use lib.Dec.{leb, eqb}
+use lib.ListN.{length, getD, set, take, drop, length-map}
 use lib.Seq.{drop-cons, take-all, length-take-le}
-use Rattle.sheet.specs.declared.answer.Answer.{Answer}
-use Rattle.sheet.specs.declared.answer.Answer.the-variants.{Accepted, Refused}
-use Rattle.sheet.specs.Answers.{numberOf, taskOf}
+use Rattle.sheet.specs.Answers.{noTask}
+use Rattle.sheet.specs.Rules.{within}
 use Rattle.model.specs.Row.{Fixed, Row, isSubset, runningSet, tickedRow, isLate, switchedRow}
-use Rattle.model.specs.Step.{Model, Refusal, refusal, wrongCount, notRunning, step, stepBy, tick, ticked, noRow, rowAt, reportRefusal, tickRefusal, tickedRows, lowestLate, switchedTo, switching}
+use Rattle.model.specs.Step.{Model, Refusal, refusal, wrongCount, notRunning, step, ticked, noRow, rowAt, reportRefusal, tickRefusal, tickedRows, lowestLate, switching}
 use Rattle.model.specs.Claim.{fixedOf as rowFixed}
 use Rattle.model.proofs.Steps.{length-ticked}
 use Rattle.dispatcher.specs.declared.state.TaskState.{TaskState}
 use Rattle.dispatcher.specs.declared.state.State.{State}
 use Rattle.dispatcher.specs.declared.tick.Ticked.{Ticked}
-use Rattle.dispatcher.specs.declared.tick.TickAnswer.{TickAnswer}
 use Rattle.dispatcher.specs.declared.tick.TickAnswer.the-variants.{Ran, Switched, Refused as TickRefused}
-use Rattle.dispatcher.specs.Holds.{rowOf, entriesOf, modelOf, withModel}
-use Rattle.dispatcher.specs.Sound.{isSound}
-use Rattle.dispatcher.specs.Answers.{refusalAnswer, tickAnswer}
+use Rattle.dispatcher.specs.Holds.{rowOf, entriesOf, modelOf, withJob, withModel}
+use Rattle.dispatcher.specs.Sound.{entrySound, isSound}
+use Rattle.dispatcher.specs.Answers.{notSound}
 use Rattle.dispatcher.specs.Calls.{tickedBy, tickOf}
-use Rattle.dispatcher.proofs.Entries.{entryAt, left-next, left-none}
-use Rattle.dispatcher.proofs.Releases.{no-refusal}
-use Rattle.dispatcher.proofs.Rows.{model-own, model-with, model-again, model-length, model-row, rows-none, writtenTo}
+use Rattle.dispatcher.proofs.Soundness.{ranges-kept, few-entries}
+use Rattle.dispatcher.proofs.Entries.{entryAt, left-next, left-none, Passed, passed-none, passed-broken, passed-more, passed-all}
+use Rattle.dispatcher.proofs.Rows.{row-with, model-own, model-with, model-again, model-length, model-row, rows-none, writtenTo, written-more}
+
+-- A search by steps: the task found, or else what is left to look at. 255 stands for none found.
+unfoldable pub foundOr : {A : Type 0} → (ℕ → Option A) → ℕ → Option A → Option A
+foundOr make found left = cond (eqb found noTask) left (make found)
+
+module _ {A : Type 0} (make : ℕ → Option A) where
+  found-none : (left : Option A) → foundOr make noTask left ≡ left
+  unfolding foundOr
+  found-none left = refl
+
+  -- One step: task i is found where the test holds there and no task was found before it.
+  found-more : (found i : ℕ) (holds : Bool) (left rest whole : Option A) → i < 255 → left ≡ cond holds (make i) rest
+      → foundOr make found left ≡ whole → foundOr make (cond (eqb found noTask && holds) i found) rest ≡ whole
+  unfolding foundOr
+  found-more found i holds left rest whole h by so-far = go (eqb found noTask) holds refl by so-far
+    where
+      go : (e t : Bool) → eqb found noTask ≡ e → left ≡ cond t (make i) rest → cond e left (make found) ≡ whole
+          → foundOr make (cond (e && t) i found) rest ≡ whole
+      go true true q by so-far = rw (ne-eqb i 255 (λ (z : i ≡ 255). omega arith)) (sym by ∙ so-far)
+      go true false q by so-far = rw q (sym by ∙ so-far)
+      go false t q by so-far = rw q so-far
+
+  -- Nothing is left.
+  found-at : (found : ℕ) → (found ≡ 255 → ⊥) → foundOr make found none ≡ make found
+  unfolding foundOr
+  found-at found other = rw (ne-eqb found 255 other)
+
+cond-not : {A : Type 0} (t : Bool) (a b : A) → cond t a b ≡ cond (not t) b a
+cond-not true a b = refl
+cond-not false a b = refl
 
 -- Row 15 put to the tasks from i on.
 unfoldable pub reportsFrom : State → List ℕ → ℕ → Option Refusal
 reportsFrom s reports i = reportRefusal (s .critical) i (map rowOf (drop i (entriesOf s))) (drop i reports)
 
--- Row 15 over the tasks, one after the other.
+-- The lowest late task from i on, after the tasks' parts of the tick.
+unfoldable pub lateFrom : State → List ℕ → ℕ → Option ℕ
+lateFrom s reports i = lowestLate i (tickedRows (map rowOf (drop i (entriesOf s))) (drop i reports))
+
+-- Both over the tasks, one after the other.
 module _ (s : State) (reports : List ℕ) (long : s .count ≤ length (s .entries)) (same : length reports ≡ s .count) where
   reports-open : (i : ℕ) → i < s .count
       → reportsFrom s reports i
-      ≡ cond (isSubset (getD reports i 0) (runningSet (s .critical) (rowOf (entryAt s i)))) (reportsFrom s reports (suc i)) (refusal notRunning i)
+      ≡ cond (not (isSubset (getD reports i 0) (runningSet (s .critical) (rowOf (entryAt s i))))) (refusal notRunning i) (reportsFrom s reports (i + 1))
   unfolding reportsFrom
-  reports-open i h = rw (left-next s long i h, drop-cons reports i 0 (omega arith))
+  reports-open i h =
+      rw (add-one i, left-next s long i h, drop-cons reports i 0 (omega arith))
+      (cond-not (isSubset (getD reports i 0) (runningSet (s .critical) (rowOf (entryAt s i)))) _ _)
 
-  pub reports-next : (i : ℕ) → i < s .count → isSubset (getD reports i 0) (runningSet (s .critical) (rowOf (entryAt s i))) ≡ true
-      → reportsFrom s reports (i + 1) ≡ reportsFrom s reports i
-  reports-next i h t = rw (add-one i) (sym (reports-open i h ∙ rw t))
+  late-open : (i : ℕ) → i < s .count
+      → lateFrom s reports i ≡ cond (isLate (tickedRow (rowOf (entryAt s i)) (getD reports i 0))) (some i) (lateFrom s reports (i + 1))
+  unfolding lateFrom
+  late-open i h = rw (add-one i, left-next s long i h, drop-cons reports i 0 (omega arith))
 
-  pub reports-stop : (i : ℕ) → i < s .count → isSubset (getD reports i 0) (runningSet (s .critical) (rowOf (entryAt s i))) ≡ false
-      → reportsFrom s reports i ≡ refusal notRunning i
-  reports-stop i h t = reports-open i h ∙ rw t
-
-  pub reports-end : (i : ℕ) → s .count ≤ i → reportsFrom s reports i ≡ none
+  reports-end : (i : ℕ) → s .count ≤ i → reportsFrom s reports i ≡ none
   unfolding reportsFrom
   reports-end i h = rw (left-none s long i h)
 
-  pub reports-all : reportsFrom s reports 0 ≡ reportRefusal (s .critical) 0 (modelOf s .rows) reports
-  unfolding reportsFrom modelOf
-  reports-all = refl
-
--- The lowest late task from i on.
-unfoldable pub lateFrom : State → ℕ → Option ℕ
-lateFrom s i = lowestLate i (map rowOf (drop i (entriesOf s)))
-
--- The lowest late task, looked for one after the other.
-module _ (s : State) (long : s .count ≤ length (s .entries)) where
-  late-open : (i : ℕ) → i < s .count → lateFrom s i ≡ cond (isLate (rowOf (entryAt s i))) (some i) (lateFrom s (suc i))
-  unfolding lateFrom
-  late-open i h = rw (left-next s long i h)
-
-  pub late-next : (i : ℕ) → i < s .count → isLate (rowOf (entryAt s i)) ≡ false → lateFrom s (i + 1) ≡ lateFrom s i
-  late-next i h t = rw (add-one i) (sym (late-open i h ∙ rw t))
-
-  pub late-stop : (i : ℕ) → i < s .count → isLate (rowOf (entryAt s i)) ≡ true → lateFrom s i ≡ some i
-  late-stop i h t = late-open i h ∙ rw t
-
-  pub late-end : (i : ℕ) → s .count ≤ i → lateFrom s i ≡ none
+  late-end : (i : ℕ) → s .count ≤ i → lateFrom s reports i ≡ none
   unfolding lateFrom
   late-end i h = rw (left-none s long i h)
-
-  pub late-all : lateFrom s 0 ≡ lowestLate 0 (modelOf s .rows)
-  unfolding lateFrom modelOf
-  late-all = refl
 
 -- Rows ticked one after the other.
 ticked-more : (rows : List Row) (reports : List ℕ) (i : ℕ) → i < length rows → i < length reports
@@ -103,6 +110,12 @@ unfolding tickedRow
 ticked-fixed [] reports = refl
 ticked-fixed (r ∷ rows) [] = refl
 ticked-fixed (r ∷ rows) (x ∷ reports) = ap (λ (fs : List Fixed). r .fixed ∷ fs) (ticked-fixed rows reports)
+
+-- An entry is late after its part of the tick as its row is.
+pub late-after : (e : TaskState) (report : ℕ) (after : TaskState) → after ≡ withJob e (tickedRow (rowOf e) report .job)
+    → isLate (rowOf after) ≡ isLate (tickedRow (rowOf e) report)
+unfolding tickedRow rowOf
+late-after e report after stored = ap (λ (x : TaskState). isLate (rowOf x)) stored ∙ ap isLate (row-with e (tickedRow (rowOf e) report) refl)
 
 -- The rows of the first i tasks, ticked.
 abbrev pub tickedBelow : State → List ℕ → ℕ → List Row
@@ -147,72 +160,55 @@ module _ (s : State) (long : s .count ≤ length (s .entries)) where
   pub switched-whole : (i : ℕ) → s .count ≤ i → switchedBelow s i ≡ map switchedRow (modelOf s .rows)
   switched-whole i h = ap (map switchedRow) (take-all i (modelOf s .rows) (omega (arith, model-length s long)))
 
--- Row 14, and row 15 where it holds.
+-- The first i tasks are passed: they are sound, these are the sums of their shares, the task that reported wrongly, the late one,
+-- and the state with their parts of the tick.
+pub record Scanned (s : State) (reports : List ℕ) (i typical critical wrong late : ℕ) (next : State) : Type 0 where
+  pub shares : Passed s i typical critical
+  pub wrongs : foundOr (refusal notRunning) wrong (reportsFrom s reports i) ≡ reportsFrom s reports 0
+  pub lates : foundOr some late (lateFrom s reports i) ≡ lateFrom s reports 0
+  pub written : next ≡ writtenTo s (s .critical) (tickedBelow s reports i)
+
 module _ (s : State) (reports : List ℕ) (long : s .count ≤ length (s .entries)) where
-  pub wrong-count : (length reports ≡ s .count → ⊥) → refusalAnswer (tickRefusal (modelOf s) reports) ≡ Refused 14 255
-  unfolding tickRefusal wrongCount
-  wrong-count other = rw (model-length s long, ne-eqb (length reports) (s .count) other)
+  pub scanned-none : Scanned s reports 0 0 0 255 255 s
+  scanned-none =
+      record {
+        shares = passed-none s long;
+        wrongs = found-none (refusal notRunning) (reportsFrom s reports 0);
+        lates = found-none some (lateFrom s reports 0);
+        written = sym (written-none s long);
+      }
 
-  pub right-count : length reports ≡ s .count → tickRefusal (modelOf s) reports ≡ reportRefusal (s .critical) 0 (modelOf s .rows) reports
-  unfolding tickRefusal modelOf
-  right-count same = rw (eq-eqb (length reports) (length (modelOf s .rows)) (same ∙ sym (model-length s long)))
+  pub scanned-count : (i typical critical wrong late : ℕ) (next : State) → Scanned s reports i typical critical wrong late next → next .count ≡ s .count
+  unfolding withModel
+  scanned-count i typical critical wrong late next p = ap (λ (t : State). t .count) (p .written)
 
-  pub accepted-count : refusalAnswer (tickRefusal (modelOf s) reports) ≡ Accepted → length reports ≡ s .count
-  accepted-count e = go (ℕ-discrete (length reports) (s .count))
-    where
-      go : Dec (length reports ≡ s .count) → length reports ≡ s .count
-      go (yes same) = same
-      go (no other) = let r = wrong-count other in let never : _≡_ {A = ℕ} 0 1 = cc in absurd (omega arith)
+  pub scanned-broken : (i typical critical wrong late : ℕ) (next : State) → Scanned s reports i typical critical wrong late next
+      → (within 1 64 (s .processors) && within 1 16 (s .count)) ≡ true → i < s .count → entrySound (entryAt s i) ≡ false → isSound s ≡ false
+  scanned-broken i typical critical wrong late next p ranges h broken =
+      sym (ranges-kept s ranges) ∙ rw (passed-broken s long i typical critical h broken (p .shares))
 
--- The end of a tick, by the mode and the lowest late task.
-module _ (s : State) where
-  pub settled-critical : s .critical ≡ true
-      → _≡_ {A = Ticked} (record { state = s; answer = Ran }) (tickedBy s (switching (s .critical) (modelOf s .rows)))
-  unfolding modelOf
-  settled-critical e =
-      ap (λ (t : State). record { state = t; answer = Ran }) (sym (model-own s) ∙ ap (λ (t : Bool). writtenTo s t (modelOf s .rows)) e)
-      ∙ ap (λ (t : Bool). tickedBy s (switching t (modelOf s .rows))) (sym e)
-
-  by-switch : (o : Option ℕ) (answer : TickAnswer) (next : State) {i : ℕ} → answer ≡ tickAnswer (switchedTo (modelOf s .rows) o .answer) → answer ≡ Switched i
-      → next ≡ writtenTo s true (map switchedRow (modelOf s .rows))
-      → _≡_ {A = Ticked} (record { state = next; answer = answer }) (tickedBy s (switchedTo (modelOf s .rows) o))
-  by-switch none answer next by switched written = let never : _≡_ {A = ℕ} 0 1 = cc in absurd (omega arith)
-  by-switch (some i) answer next by switched written = rw (by, written)
-
-  pub settled-switched : (answer : TickAnswer) (next : State) {i : ℕ} → s .critical ≡ false
-      → answer ≡ tickAnswer (switchedTo (modelOf s .rows) (lowestLate 0 (modelOf s .rows)) .answer) → answer ≡ Switched i
-      → next ≡ writtenTo s true (map switchedRow (modelOf s .rows))
-      → _≡_ {A = Ticked} (record { state = next; answer = answer }) (tickedBy s (switching (s .critical) (modelOf s .rows)))
-  settled-switched answer next e by switched written =
-      by-switch (lowestLate 0 (modelOf s .rows)) answer next by switched written
-      ∙ ap (λ (t : Bool). tickedBy s (switching t (modelOf s .rows))) (sym e)
-
-  own-typical : s .critical ≡ false → s ≡ writtenTo s false (modelOf s .rows)
-  unfolding modelOf
-  own-typical e = sym (model-own s) ∙ ap (λ (t : Bool). writtenTo s t (modelOf s .rows)) e
-
-  by-calm : (o : Option ℕ) (answer : TickAnswer) → s .critical ≡ false → answer ≡ tickAnswer (switchedTo (modelOf s .rows) o .answer)
-      → ((i : ℕ) → answer ≡ Switched i → ⊥)
-      → _≡_ {A = Ticked} (record { state = s; answer = answer }) (tickedBy s (switchedTo (modelOf s .rows) o))
-  by-calm none answer e by calm =
-      ap₂ (λ (t : State) (a : TickAnswer). record { state = t; answer = a }) (own-typical e) by
-  by-calm (some i) answer e by calm = absurd (calm i by)
-
-  pub settled-calm : (answer : TickAnswer) → s .critical ≡ false
-      → answer ≡ tickAnswer (switchedTo (modelOf s .rows) (lowestLate 0 (modelOf s .rows)) .answer)
-      → ((i : ℕ) → answer ≡ Switched i → ⊥)
-      → _≡_ {A = Ticked} (record { state = s; answer = answer }) (tickedBy s (switching (s .critical) (modelOf s .rows)))
-  settled-calm answer e by calm =
-      by-calm (lowestLate 0 (modelOf s .rows)) answer e by calm
-      ∙ ap (λ (t : Bool). tickedBy s (switching t (modelOf s .rows))) (sym e)
-
-switching-length : (critical : Bool) (rows : List Row) → length (switching critical rows .model .rows) ≡ length rows
-switching-length true rows = refl
-switching-length false rows = go (lowestLate 0 rows)
-  where
-    go : (o : Option ℕ) → length (switchedTo rows o .model .rows) ≡ length rows
-    go none = refl
-    go (some i) = length-map rows switchedRow
+  pub scanned-more : (i typical critical wrong late : ℕ) (next : State) (typical′ critical′ wrong′ late′ : ℕ) (missing reached : Bool) (after : TaskState)
+      → Scanned s reports i typical critical wrong late next → length reports ≡ s .count → i < s .count → i < 255
+      → entrySound (entryAt s i) ≡ true → entryAt s i .share .typical < 256 → entryAt s i .share .critical < 256
+      → typical′ ≡ typical + entryAt s i .share .typical → critical′ ≡ critical + entryAt s i .share .critical
+      → wrong′ ≡ cond (eqb wrong noTask && missing) i wrong → late′ ≡ cond (eqb late noTask && reached) i late
+      → missing ≡ not (isSubset (getD reports i 0) (runningSet (s .critical) (rowOf (entryAt s i))))
+      → reached ≡ isLate (tickedRow (rowOf (entryAt s i)) (getD reports i 0))
+      → after ≡ withJob (entryAt s i) (tickedRow (rowOf (entryAt s i)) (getD reports i 0) .job)
+      → Scanned s reports (i + 1) typical′ critical′ wrong′ late′
+      (record { processors = next .processors; count = next .count; critical = next .critical; entries = set (next .entries) i after })
+  scanned-more i typical critical wrong late next typical′ critical′ wrong′ late′ missing reached after p same h small sound a b ts cs ws ls m r stored =
+      record {
+        shares = rw (ts, cs) (passed-more s long i typical critical h sound a b (p .shares));
+        wrongs = rw ws (found-more (refusal notRunning) wrong i missing _ _ _ small (rw m (reports-open s reports long same i h)) (p .wrongs));
+        lates = rw ls (found-more some late i reached _ _ _ small (rw r (late-open s reports long same i h)) (p .lates));
+        written =
+            written-more s (s .critical) (tickedBelow s reports i) next i (tickedRow (rowOf (entryAt s i)) (getD reports i 0)) after (p .written)
+            (ticked-below s long reports i (omega arith))
+            (omega arith)
+            stored
+            ∙ ap (writtenTo s (s .critical)) (ticked-next s long reports i same h);
+      }
 
 -- Tick by its answer.
 module _ (s : State) (reports : List ℕ) where
@@ -220,28 +216,99 @@ module _ (s : State) (reports : List ℕ) where
   unfolding tickOf
   tick-unsound e = rw e
 
-  by-refusal : (o : Option Refusal) {number task : ℕ} → refusalAnswer o ≡ Refused number task
-      → _≡_ {A = Ticked} (record { state = s; answer = TickRefused number task }) (tickedBy s (stepBy o (modelOf s) (tick reports)))
-  by-refusal none e = let never : _≡_ {A = ℕ} 0 1 = cc in absurd (omega arith)
-  by-refusal (some r) e =
-      rw (model-own s) (ap (λ (a : Answer). record { state = s; answer = TickRefused (numberOf a) (taskOf a) }) (sym e))
-
-  pub tick-refused : (answer : Answer) {number task : ℕ} → isSound s ≡ true → answer ≡ refusalAnswer (tickRefusal (modelOf s) reports) → answer ≡ Refused number task
-      → record { state = s; answer = TickRefused number task } ≡ tickOf s reports
+  pub tick-refused : (r : Refusal) → isSound s ≡ true → tickRefusal (modelOf s) reports ≡ some r
+      → record { state = s; answer = TickRefused (r .number) (r .task) } ≡ tickOf s reports
   unfolding tickOf step
-  tick-refused answer sound by refused = rw sound (by-refusal (tickRefusal (modelOf s) reports) (sym by ∙ refused))
+  tick-refused r sound refused = rw (sound, refused, model-own s)
 
-  pub tick-accepted : (next : State) (result : Ticked) → isSound s ≡ true → refusalAnswer (tickRefusal (modelOf s) reports) ≡ Accepted
-      → next ≡ writtenTo s (s .critical) (tickedRows (modelOf s .rows) reports)
-      → result ≡ tickedBy next (switching (next .critical) (modelOf next .rows)) → result ≡ tickOf s reports
+  pub tick-accepted : isSound s ≡ true → tickRefusal (modelOf s) reports ≡ none
+      → tickedBy s (switching (s .critical) (tickedRows (modelOf s .rows) reports)) ≡ tickOf s reports
   unfolding tickOf step ticked modelOf
-  tick-accepted next result sound accepted written settled =
-      let rows = tickedRows (modelOf s .rows) reports in
-      let held : modelOf next ≡ record { critical = s .critical; rows = rows } =
-      ap modelOf written ∙ model-with s (record { critical = s .critical; rows = rows }) (ticked-fixed (modelOf s .rows) reports) in
-      let same : switching (next .critical) (modelOf next .rows) ≡ switching (s .critical) rows = ap (λ (m : Model). switching (m .critical) (m .rows)) held in
-      settled
-      ∙ ap₂ tickedBy written same
-      ∙ ap (λ (t : State). record { state = t; answer = tickAnswer (switching (s .critical) rows .answer) })
-      (model-again s (record { critical = s .critical; rows = rows }) (switching (s .critical) rows .model) (sym (switching-length (s .critical) rows)))
-      ∙ rw (sound, no-refusal (tickRefusal (modelOf s) reports) accepted)
+  tick-accepted sound accepted = rw (sound, accepted)
+
+-- Row 14.
+wrong-count : (s : State) (reports : List ℕ) → s .count ≤ length (s .entries) → (length reports ≡ s .count → ⊥)
+    → tickRefusal (modelOf s) reports ≡ refusal wrongCount noTask
+unfolding tickRefusal
+wrong-count s reports long other = rw (model-length s long, ne-eqb (length reports) (s .count) other)
+
+pub tick-miscounted : (s : State) (reports : List ℕ) → length (s .entries) ≡ 16 → (length reports ≡ s .count → ⊥)
+    → record { state = s; answer = TickRefused (cond (isSound s) wrongCount notSound) 255 } ≡ tickOf s reports
+tick-miscounted s reports sixteen other = go (isSound s) refl
+  where
+    go : (sound : Bool) → isSound s ≡ sound → record { state = s; answer = TickRefused (cond sound wrongCount notSound) 255 } ≡ tickOf s reports
+    go true sound =
+        tick-refused s reports (record { number = wrongCount; task = noTask }) sound (wrong-count s reports (omega (arith, few-entries s sound)) other)
+    go false unsound = tick-unsound s reports unsound
+
+-- The end of a tick, by the mode and the lowest late task.
+module _ (s : State) (rows : List Row) (late : ℕ) (lowest : lowestLate 0 rows ≡ foundOr some late none) where
+  ran-by : (critical none-late : Bool) → eqb late noTask ≡ none-late → (critical || none-late) ≡ true
+      → _≡_ {A = Ticked} (record { state = writtenTo s critical rows; answer = Ran }) (tickedBy s (switching critical rows))
+  unfolding foundOr
+  ran-by true none-late e t = refl
+  ran-by false true e t = rw (lowest, e)
+  ran-by false false e t = absurd (false≢true t)
+
+  switched-by : (critical none-late : Bool) → eqb late noTask ≡ none-late → (critical || none-late) ≡ false
+      → _≡_ {A = Ticked} (record { state = writtenTo s true (map switchedRow rows); answer = Switched late }) (tickedBy s (switching critical rows))
+  unfolding foundOr
+  switched-by true none-late e t = absurd (false≢true (sym t))
+  switched-by false true e t = absurd (false≢true (sym t))
+  switched-by false false e t = rw (lowest, e)
+
+-- All tasks are passed: the tick by what the pass found.
+module _ (s : State) (reports : List ℕ) (long : s .count ≤ length (s .entries)) (same : length reports ≡ s .count)
+    (i typical critical wrong late : ℕ) (next : State) (p : Scanned s reports i typical critical wrong late next) (all : s .count ≤ i)
+    (ranges : (within 1 64 (s .processors) && within 1 16 (s .count)) ≡ true) where
+  scanned-sound : isSound s ≡ (leb typical (s .processors) && leb critical (s .processors))
+  scanned-sound = sym (passed-all s long i typical critical all (p .shares) ∙ ranges-kept s ranges)
+
+  pub scanned-unfit : (leb typical (s .processors) && leb critical (s .processors)) ≡ false
+      → record { state = s; answer = TickRefused 10 255 } ≡ tickOf s reports
+  scanned-unfit unfit = tick-unsound s reports (scanned-sound ∙ unfit)
+
+  reported : tickRefusal (modelOf s) reports ≡ foundOr (refusal notRunning) wrong none
+  unfolding tickRefusal modelOf reportsFrom
+  reported =
+      rw (eq-eqb (length reports) (length (modelOf s .rows)) (same ∙ sym (model-length s long)))
+      (sym (ap (foundOr (refusal notRunning) wrong) (sym (reports-end s reports long same i all)) ∙ p .wrongs))
+
+  lowest : lowestLate 0 (tickedRows (modelOf s .rows) reports) ≡ foundOr some late none
+  unfolding modelOf lateFrom
+  lowest = sym (ap (foundOr some late) (sym (late-end s reports long same i all)) ∙ p .lates)
+
+  whole : next ≡ writtenTo s (s .critical) (tickedRows (modelOf s .rows) reports)
+  whole = p .written ∙ ap (writtenTo s (s .critical)) (ticked-whole s long reports i all)
+
+  module _ (fit : (leb typical (s .processors) && leb critical (s .processors)) ≡ true) where
+    pub scanned-wrong : (wrong ≡ 255 → ⊥) → record { state = s; answer = TickRefused 15 wrong } ≡ tickOf s reports
+    unfolding notRunning
+    scanned-wrong other =
+        tick-refused s reports (record { number = notRunning; task = wrong }) (scanned-sound ∙ fit) (reported ∙ found-at (refusal notRunning) wrong other)
+
+    accepted : wrong ≡ 255 → tickedBy s (switching (s .critical) (tickedRows (modelOf s .rows) reports)) ≡ tickOf s reports
+    accepted right =
+        tick-accepted s reports (scanned-sound ∙ fit)
+        (reported ∙ ap (λ (x : ℕ). foundOr (refusal notRunning) x none) right ∙ found-none (refusal notRunning) none)
+
+    pub scanned-ran : wrong ≡ 255 → (s .critical || eqb late noTask) ≡ true → record { state = next; answer = Ran } ≡ tickOf s reports
+    scanned-ran right calm =
+        ap (λ (t : State). record { state = t; answer = Ran }) whole
+        ∙ ran-by s (tickedRows (modelOf s .rows) reports) late lowest (s .critical) (eqb late noTask) refl calm
+        ∙ accepted right
+
+    pub scanned-switched : (turned : State) → wrong ≡ 255 → (s .critical || eqb late noTask) ≡ false
+        → turned ≡ withModel next (record { critical = true; rows = map switchedRow (modelOf next .rows) })
+        → record { state = turned; answer = Switched late } ≡ tickOf s reports
+    scanned-switched turned right reached turning =
+        let rows = tickedRows (modelOf s .rows) reports in
+        let held : modelOf next ≡ record { critical = s .critical; rows = rows } =
+        ap modelOf whole ∙ model-with s (record { critical = s .critical; rows = rows }) (ticked-fixed (modelOf s .rows) reports) in
+        let state : turned ≡ writtenTo s true (map switchedRow rows) =
+        turning
+        ∙ ap₂ (λ (t : State) (m : Model). withModel t (record { critical = true; rows = map switchedRow (m .rows) })) whole held
+        ∙ model-again s (record { critical = s .critical; rows = rows }) (record { critical = true; rows = map switchedRow rows }) (sym (length-map rows switchedRow)) in
+        ap (λ (t : State). record { state = t; answer = Switched late }) state
+        ∙ switched-by s rows late lowest (s .critical) (eqb late noTask) refl reached
+        ∙ accepted right

@@ -3,6 +3,7 @@ ghost use mathlib.Core.Path.{_≡_};
 ghost use mathlib.Core.Bool.{_&&_};
 ghost use Prim.Native.Nat.{_≤_};
 ghost use lib.Dec.{leb};
+ghost use Rattle.sheet.specs.Rules.{within};
 ghost use Rattle.shares.specs.Totals.{typicalTotal, criticalTotal};
 ghost use Rattle.dispatcher.specs.Holds.{entriesOf, modelOf, sharesOf};
 ghost use Rattle.dispatcher.specs.Sound.{entrySound, entriesSound, isSound};
@@ -15,7 +16,7 @@ use sheet::rules::masks_lawful;
 
 pub const NOT_SOUND: u8 = 10;
 
-fn entry_sound(e: TaskState) -> bool
+pub fn entry_sound(e: TaskState) -> bool
     ensures { λ r. ⌜ r ≡ entrySound e ⌝ }
 {
     let nodes = e.nodes;
@@ -54,11 +55,18 @@ fn entries_sound(state: State) -> bool
     (typical <= processors) & (critical <= processors)
 }
 
+// Whether M and n are in range.
+pub fn ranges_kept(processors: u8, count: u8) -> bool
+    ensures { λ r. ⌜ r ≡ (within 1 64 processors && within 1 16 count) ⌝ }
+{
+    is_within(1, 64, processors as u32) & is_within(1, 16, count as u32)
+}
+
 // Whether the state is sound.
 pub fn is_sound(state: State) -> bool
     ensures { λ r. ⌜ r ≡ isSound state ⌝ }
 {
-    if !(is_within(1, 64, state.processors as u32) & is_within(1, 16, state.count as u32)) {
+    if !ranges_kept(state.processors, state.count) {
         return false;
     }
     entries_sound(state)

@@ -1,23 +1,26 @@
 // Tick.
 ghost use mathlib.Core.Path.{_≡_};
-ghost use mathlib.Core.Bool.{true};
+ghost use mathlib.Core.Bool.{true, cond, _&&_};
 ghost use mathlib.Core.List.{map};
-ghost use Prim.Native.Nat.{_≤_};
-ghost use lib.ListN.{length};
+ghost use Prim.Native.Nat.{_+_, _≤_};
+ghost use lib.Dec.{leb, eqb};
+ghost use Rattle.sheet.specs.Answers.{noTask};
 ghost use Rattle.model.specs.Row.{switchedRow};
-ghost use Rattle.model.specs.Step.{reportRefusal, tickRefusal, tickedRows, lowestLate, switchedTo, switching};
+ghost use Rattle.model.specs.Step.{wrongCount};
 ghost use Rattle.dispatcher.specs.Holds.{modelOf, withModel};
 ghost use Rattle.dispatcher.specs.Sound.{isSound};
-ghost use Rattle.dispatcher.specs.Answers.{refusalAnswer, tickAnswer};
-ghost use Rattle.dispatcher.specs.Calls.{tickedBy, tickOf};
+ghost use Rattle.dispatcher.specs.Answers.{notSound};
+ghost use Rattle.dispatcher.specs.Calls.{tickOf};
 use crate::entry::is_late;
 use crate::entry::running;
 use crate::entry::switched;
 use crate::entry::ticked;
 use crate::sound::NOT_SOUND;
+use crate::sound::entry_sound;
 use crate::sound::is_sound;
+use crate::sound::ranges_kept;
 use crate::state::State;
-use sheet::answer::Answer;
+use shares::share::Share;
 use sheet::answer::NO_TASK;
 
 const WRONG_COUNT: u8 = 14;
@@ -37,65 +40,45 @@ pub struct Ticked {
     pub answer: TickAnswer,
 }
 
-// Row 15 over all tasks.
-fn reports_answer(state: State, reports: &[u32]) -> Answer
-    requires { ⌜ (isSound state ≡ true) × (length (now reports) ≡ state .count) ⌝ }
-    ensures { λ r. ⌜ r ≡ refusalAnswer (reportRefusal (state .critical) 0 (modelOf state .rows) (now (reports .entry))) ⌝ }
-{
-    let n = state.count;
-    let mut i: u8 = 0;
-    while i < n {
-        let e = state.entries[i as usize];
-        if !nodes::is_within(reports[i as usize], running(e, state.critical)) {
-            return Answer::Refused(NOT_RUNNING, i);
-        }
-        i += 1;
-    }
-    Answer::Accepted
+// What a pass over the first tasks found: the sums of their shares, the first task whose report has a node that isn't running,
+// and the lowest late task; 255 for none.
+struct Pass {
+    typical: u32,
+    critical: u32,
+    wrong: u8,
+    late: u8,
 }
 
-// Rows 14 and 15.
-fn tick_answer(state: State, reports: &[u32]) -> Answer
-    requires { ⌜ isSound state ≡ true ⌝ }
-    ensures { λ r. ⌜ r ≡ refusalAnswer (tickRefusal (modelOf state) (now (reports .entry))) ⌝ }
+// The task found before, or else task i where the test holds.
+fn first_of(found: u8, i: u8, holds: bool) -> u8
+    ensures { λ r. ⌜ r ≡ cond (eqb found noTask && holds) i found ⌝ }
 {
-    if reports.len() != state.count as usize {
-        return Answer::Refused(WRONG_COUNT, NO_TASK);
-    }
-    reports_answer(state, reports)
+    if (found == NO_TASK) & holds { i } else { found }
 }
 
-// Each task's part of a tick.
-fn ticked_all(state: State, reports: &[u32]) -> State
-    requires { ⌜ (isSound state ≡ true) × (length (now reports) ≡ state .count) ⌝ }
-    ensures { λ r. ⌜ r ≡ withModel state (record { critical = state .critical; rows = tickedRows (modelOf state .rows) (now (reports .entry)) }) ⌝ }
+// The pass with one task more.
+fn passed(pass: Pass, i: u8, share: Share, wrong: bool, late: bool) -> Pass
+    requires { ⌜ (pass .typical ≤ 65535) × (pass .critical ≤ 65535) ⌝ }
+    ensures typical { λ r. ⌜ r .typical ≡ pass .typical + share .typical ⌝ }
+    ensures critical { λ r. ⌜ r .critical ≡ pass .critical + share .critical ⌝ }
+    ensures wrong { λ r. ⌜ r .wrong ≡ cond (eqb (pass .wrong) noTask && wrong) i (pass .wrong) ⌝ }
+    ensures late { λ r. ⌜ r .late ≡ cond (eqb (pass .late) noTask && late) i (pass .late) ⌝ }
+    ensures small { λ r. ⌜ (r .typical ≤ pass .typical + 255) × (r .critical ≤ pass .critical + 255) ⌝ }
 {
-    let n = state.count as usize;
-    let mut next = state;
-    let mut i: usize = 0;
-    while i < n {
-        let e = next.entries[i];
-        next.entries[i] = ticked(e, reports[i]);
-        i += 1;
+    Pass {
+        typical: pass.typical + share.typical as u32,
+        critical: pass.critical + share.critical as u32,
+        wrong: first_of(pass.wrong, i, wrong),
+        late: first_of(pass.late, i, late),
     }
-    next
 }
 
-// The lowest task with an alive high job that has reached its threshold, if there is one.
-fn switch_answer(state: State) -> TickAnswer
-    requires { ⌜ state .count ≤ 16 ⌝ }
-    ensures { λ r. ⌜ r ≡ tickAnswer (switchedTo (modelOf state .rows) (lowestLate 0 (modelOf state .rows)) .answer) ⌝ }
+// Whether the sums are at most M.
+fn shares_fit(pass: Pass, processors: u8) -> bool
+    ensures { λ r. ⌜ r ≡ (leb (pass .typical) processors && leb (pass .critical) processors) ⌝ }
 {
-    let n = state.count;
-    let mut i: u8 = 0;
-    while i < n {
-        let e = state.entries[i as usize];
-        if is_late(e) {
-            return TickAnswer::Switched(i);
-        }
-        i += 1;
-    }
-    TickAnswer::Ran
+    let m = processors as u32;
+    (pass.typical <= m) & (pass.critical <= m)
 }
 
 // The state turned critical: low jobs are dropped.
@@ -115,43 +98,73 @@ fn switched_all(state: State) -> State
     next
 }
 
-// The end of a tick: the switch, if the mode is typical and some task is late.
-fn settled(state: State) -> Ticked
-    requires { ⌜ state .count ≤ 16 ⌝ }
-    ensures { λ r. ⌜ r ≡ tickedBy state (switching (state .critical) (modelOf state .rows)) ⌝ }
+// The number of the refusal where the reports are not one for each task: row 10, or else row 14.
+fn miscounted(state: State) -> u8
+    ensures { λ r. ⌜ r ≡ cond (isSound state) wrongCount notSound ⌝ }
 {
-    if state.critical {
-        return Ticked {
-            state,
-            answer: TickAnswer::Ran,
-        };
+    if is_sound(state) {
+        WRONG_COUNT
+    } else {
+        NOT_SOUND
     }
-    let answer = switch_answer(state);
-    if let TickAnswer::Switched(_) = answer {
-        return Ticked {
-            state: switched_all(state),
-            answer,
-        };
-    }
-    Ticked { state, answer }
 }
 
-// Tick: the reported nodes end, the ages grow, and the mode may turn critical. A refused call hands the state back.
+// A refusal beside the state as it came.
+fn refused(state: State, number: u8, task: u8) -> Ticked
+    ensures { λ r. ⌜ r ≡ (record { state = state; answer = TickAnswer.Refused number task }) ⌝ }
+{
+    Ticked {
+        state,
+        answer: TickAnswer::Refused(number, task),
+    }
+}
+
+// Tick: the reported nodes end, the ages grow, and the mode may turn critical. A refused call hands the state back. The tasks are
+// passed once: soundness, reports and each task's part of the tick.
 pub fn tick(state: State, reports: &[u32]) -> Ticked
     ensures whole { λ r. ⌜ r ≡ tickOf state (now (reports .entry)) ⌝ }
 {
-    if !is_sound(state) {
+    let n = state.count;
+    if reports.len() != n as usize {
+        return refused(state, miscounted(state), NO_TASK);
+    }
+    if !ranges_kept(state.processors, n) {
+        return refused(state, NOT_SOUND, NO_TASK);
+    }
+    let mut next = state;
+    let mut pass = Pass {
+        typical: 0,
+        critical: 0,
+        wrong: NO_TASK,
+        late: NO_TASK,
+    };
+    let mut i: u8 = 0;
+    while i < n {
+        let e = next.entries[i as usize];
+        if !entry_sound(e) {
+            return refused(state, NOT_SOUND, NO_TASK);
+        }
+        let report = reports[i as usize];
+        let wrong = !nodes::is_within(report, running(e, state.critical));
+        let after = ticked(e, report);
+        pass = passed(pass, i, e.share, wrong, is_late(after));
+        next.entries[i as usize] = after;
+        i += 1;
+    }
+    if !shares_fit(pass, state.processors) {
+        return refused(state, NOT_SOUND, NO_TASK);
+    }
+    if pass.wrong != NO_TASK {
+        return refused(state, NOT_RUNNING, pass.wrong);
+    }
+    if state.critical | (pass.late == NO_TASK) {
         return Ticked {
-            state,
-            answer: TickAnswer::Refused(NOT_SOUND, NO_TASK),
+            state: next,
+            answer: TickAnswer::Ran,
         };
     }
-    let answer = tick_answer(state, reports);
-    if let Answer::Refused(number, task) = answer {
-        return Ticked {
-            state,
-            answer: TickAnswer::Refused(number, task),
-        };
+    Ticked {
+        state: switched_all(next),
+        answer: TickAnswer::Switched(pass.late),
     }
-    settled(ticked_all(state, reports))
 }

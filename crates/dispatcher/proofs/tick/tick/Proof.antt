@@ -1,83 +1,320 @@
--- `dispatcher::tick::tick` meets its contract: row 10, the model's rows, each task's part, and then the switch. Assumes nothing.
-use Prim.Native.Nat.{_≤_}
-use mathlib.Core.Bool.{true}
-use mathlib.Core.Path.{_≡_, sym, _∙_}
+-- `dispatcher::tick::tick` meets its contract. The loop's invariant: what the pass over the tasks found and wrote so far, with what is
+-- left, is the whole. The measure is the tasks left. Assumes nothing.
+use Prim.Native.Nat.{ℕ, _+_, _-_, _≤_}
+use mathlib.Core.Bool.{true, not, _&&_}
+use mathlib.Core.Path.{_≡_, sym, ap, _∙_}
 use native.Mathlib.Omega.{arith}
+use borrow.Author.Needs.{needs}
 use borrow.Author.Tests.{not-true, not-false}
 use denote.Ref.{now}
-use lib.ListN.{length, length-map}
-use Rattle.dispatcher.specs.Holds.{withModel}
-use Rattle.dispatcher.specs.Sound.{isSound}
-use Rattle.dispatcher.proofs.Soundness.{few-entries}
-use Rattle.dispatcher.proofs.Ticks.{accepted-count, tick-unsound, tick-refused, tick-accepted}
-use borrow.Author.Needs.{needs}
+use lib.Dec.{leb}
+use lib.ListN.{length, length-map, getD}
+use Rattle.nodes.specs.Sets.{isWithin}
+use Rattle.sheet.specs.Rules.{within}
+use Rattle.model.specs.Row.{isSubset, runningSet, tickedRow}
+use Rattle.dispatcher.specs.declared.state.TaskState.{TaskState}
+use Rattle.dispatcher.specs.declared.tick.TickAnswer.the-variants.{Refused}
+use Rattle.dispatcher.specs.Holds.{rowOf, withJob}
+use Rattle.dispatcher.specs.Sound.{entrySound}
+use Rattle.dispatcher.proofs.NodeSets.{within-subset}
+use Rattle.dispatcher.proofs.Soundness.{ranges-broken, count-within, few-nodes}
+use Rattle.dispatcher.proofs.Entries.{noEntry, entryAt, Passed}
+use Rattle.dispatcher.proofs.Rows.{written-at}
+use Rattle.dispatcher.proofs.Ticks.{tickedBelow, ticked-below, late-after, Scanned, scanned-none, scanned-count, scanned-broken, scanned-more, tick-unsound, tick-miscounted, scanned-unfit, scanned-wrong, scanned-ran, scanned-switched}
 use Rattle.dispatcher.proofs.tick.tick.Statement.{statement}
 use Rattle.dispatcher.proofs.tick.tick.Tie as tie
 
-is-sound-requires : tie.Need-is-sound-requires
-is-sound-requires c κs = search needs
+abbrev Inv-loop : tie.InvT-loop
+Inv-loop state reports n next₀ pass₀ i₀ next pass i =
+    (i ≤ state .count) × Scanned state reports i (pass .typical) (pass .critical) (pass .wrong) (pass .late) next
 
-returns : tie.Need-returns
+abbrev μ-loop : tie.MeasureT-loop
+μ-loop state reports n next₀ pass₀ i₀ next pass i = state .count - i
+
+cast-if1 : tie.Need-cast-if1 Inv-loop μ-loop
+cast-if1 c = search needs
+
+miscounted-requires : tie.Need-miscounted-requires Inv-loop μ-loop
+miscounted-requires c κs = search needs
+
+refused-requires : tie.Need-refused-requires Inv-loop μ-loop
+refused-requires c κs = search needs
+
+-- The line has sixteen entries.
+sixteen : (c : tie.Start Inv-loop μ-loop) → length (c .args .state .entries) ≡ 16
+sixteen c = simp length-map at (c .good .0 .1 .1 .1 .1 .1 .0 .1 .0 .1)
+
+returns : tie.Need-returns Inv-loop μ-loop
 returns c =
-    let args = c .before .before .before .args in
-    tick-unsound (args .state) (now (args .reports)) (sym (c .before .is-sound .ensures) ∙ not-true _ (c .if1 .taken))
+    let start = c .before .before .before .before in
+    let s = start .args .state in
+    c .refused .ensures
+    ∙ ap (λ (n : ℕ). record { state = s; answer = Refused n 255 }) (c .before .miscounted .ensures)
+    ∙ tick-miscounted s (now (start .args .reports)) (sixteen start) (c .before .before .if1 .taken)
 
--- Past the first test the state is sound.
-sound : (c : tie.Else1) → isSound (c .before .before .before .args .state) ≡ true
-sound c = sym (c .before .is-sound .ensures) ∙ not-false _ (c .if1 .left)
+ranges-kept-requires : tie.Need-ranges-kept-requires Inv-loop μ-loop
+ranges-kept-requires c κs = search needs
 
--- The line has an entry for each task.
-long : (c : tie.Else1) → c .before .before .before .args .state .count ≤ length (c .before .before .before .args .state .entries)
-long c =
-    let start = c .before .before .before in
-    let sixteen : length (start .args .state .entries) ≡ 16 = simp length-map at (start .good .0 .1 .1 .1 .1 .1 .0 .1 .0 .1) in
-    omega (arith, few-entries (start .args .state) (sound c))
+refused-requires-2 : tie.Need-refused-requires-2 Inv-loop μ-loop
+refused-requires-2 c κs = search needs
 
-tick-answer-requires : tie.Need-tick-answer-requires
-tick-answer-requires c κs = sound c
-
-enum-known-answer : tie.Need-enum-known-answer
-enum-known-answer c = search needs
-
-returns-2 : tie.Need-returns-2
+returns-2 : tie.Need-returns-2 Inv-loop μ-loop
 returns-2 c =
-    let args = c .before .before .before .before .before .before .before .args in
-    tick-refused (args .state) (now (args .reports)) _ (sound (c .before .before .before .before)) (c .before .before .before .tick-answer .ensures) (c .before .answer .given .1)
+    let args = c .before .before .before .before .before .args in
+    c .refused2 .ensures
+    ∙ tick-unsound (args .state) (now (args .reports)) (ranges-broken (args .state) (sym (c .before .before .ranges-kept .ensures) ∙ not-true _ (c .before .if2 .taken)))
 
-enum-told : tie.Need-enum-told
-enum-told c = search needs
+-- Past the first two tests: M and n are in range, there is an entry and a report for each task.
+ranges : (c : tie.Else2 Inv-loop μ-loop)
+    → (within 1 64 (c .before .before .before .before .args .state .processors) && within 1 16 (c .before .before .before .before .args .state .count)) ≡ true
+ranges c = sym (c .before .ranges-kept .ensures) ∙ not-false _ (c .if2 .left)
 
-ticked-all-requires : tie.Need-ticked-all-requires
-ticked-all-requires c κs =
+few : (c : tie.Else2 Inv-loop μ-loop) → c .before .before .before .before .args .state .count ≤ 16
+few c = count-within (c .before .before .before .before .args .state) (ranges c)
+
+long : (c : tie.Else2 Inv-loop μ-loop) → c .before .before .before .before .args .state .count ≤ length (c .before .before .before .before .args .state .entries)
+long c = omega (arith, few c, sixteen (c .before .before .before .before))
+
+same : (c : tie.Else2 Inv-loop μ-loop) → length (now (c .before .before .before .before .args .reports)) ≡ c .before .before .before .before .args .state .count
+same c = c .before .before .if1 .left
+
+loop-holds : tie.Need-loop-holds Inv-loop μ-loop
+loop-holds c =
+    let args = c .before .before .before .before .args in
+    (omega arith, scanned-none (args .state) (now (args .reports)) (long c))
+
+cast-e : tie.Need-cast-e Inv-loop μ-loop
+cast-e c = omega (arith, few (c .before .before))
+
+mul-e : tie.Need-mul-e Inv-loop μ-loop
+mul-e c = omega (arith, few (c .before .before))
+
+element-copy-out-e : tie.Need-element-copy-out-e Inv-loop μ-loop
+element-copy-out-e c = omega (arith, few (c .before .before))
+
+-- The entry of the turn is as it came.
+untouched : (c : tie.After-e Inv-loop μ-loop)
+    → getD (c .before .before .loop .next .entries) (c .before .before .loop .i) noEntry
+    ≡ entryAt (c .before .before .before .before .before .before .before .args .state) (c .before .before .loop .i)
+untouched c =
+    let loop = c .before .before .loop in
     let at = c .before .before .before in
-    let args = at .before .before .before .args in
-    (sound at, accepted-count (args .state) (now (args .reports)) (long at) (sym (c .before .before .tick-answer .ensures) ∙ c .enum-told .given .1))
+    let args = at .before .before .before .before .args in
+    let p : Scanned _ _ _ _ _ _ _ _ = loop .inv .1 in
+    written-at (args .state) _ (tickedBelow (args .state) (now (args .reports)) (loop .i)) (loop .next) (loop .i) (p .written)
+    (ticked-below (args .state) (long at) (now (args .reports)) (loop .i) (loop .inv .0))
 
-settled-requires : tie.Need-settled-requires
-unfolding withModel
-settled-requires c κs =
-    let at = c .before .before .before .before in
-    rw (c .ticked-all .ensures) (few-entries (at .before .before .before .args .state) (sound at))
+entry-sound-requires : tie.Need-entry-sound-requires Inv-loop μ-loop
+entry-sound-requires c κs = search needs
 
-returns-3 : tie.Need-returns-3
+refused-requires-3 : tie.Need-refused-requires-3 Inv-loop μ-loop
+refused-requires-3 c κs = search needs
+
+returns-3 : tie.Need-returns-3 Inv-loop μ-loop
 returns-3 c =
+    let turn = c .before .before .before in
+    let loop = turn .before .before .loop in
+    let at = turn .before .before .before in
+    let args = at .before .before .before .before .args in
+    c .refused3 .ensures
+    ∙ tick-unsound (args .state) (now (args .reports))
+    (scanned-broken (args .state) (now (args .reports)) (long at) (loop .i) _ _ _ _ _ (loop .inv .1) (ranges at) (omega arith)
+    (ap entrySound (sym (untouched turn)) ∙ sym (c .before .before .entry-sound .ensures) ∙ not-true _ (c .before .if3 .taken)))
+
+-- Past the third test the entry is sound.
+sound : (c : tie.Else3 Inv-loop μ-loop)
+    → entrySound (entryAt (c .before .before .before .before .before .before .before .before .before .args .state) (c .before .before .before .before .loop .i)) ≡ true
+sound c = ap entrySound (sym (untouched (c .before .before))) ∙ sym (c .before .entry-sound .ensures) ∙ not-false _ (c .if3 .left)
+
+cast-report : tie.Need-cast-report Inv-loop μ-loop
+cast-report c = omega (arith, few (c .before .before .before .before .before))
+
+mul-report : tie.Need-mul-report Inv-loop μ-loop
+mul-report c = omega (arith, few (c .before .before .before .before .before))
+
+shared-slice-read-report : tie.Need-shared-slice-read-report Inv-loop μ-loop
+shared-slice-read-report c = omega (arith, same (c .before .before .before .before .before .before))
+
+running-requires : tie.Need-running-requires Inv-loop μ-loop
+running-requires c κs = rw (untouched (c .before .before .before)) (few-nodes _ (sound (c .before)))
+
+is-within-requires : tie.Need-is-within-requires Inv-loop μ-loop
+is-within-requires c κs = search needs
+
+ticked-requires : tie.Need-ticked-requires Inv-loop μ-loop
+ticked-requires c κs = rw (untouched (c .before .before .before .before .before)) (few-nodes _ (sound (c .before .before .before)))
+
+is-late-requires : tie.Need-is-late-requires Inv-loop μ-loop
+is-late-requires c κs = search needs
+
+passed-requires : tie.Need-passed-requires Inv-loop μ-loop
+passed-requires c κs =
+    let loop = c .before .before .before .before .before .before .before .before .before .loop in
+    let at = c .before .before .before .before .before .before .before .before .before .before in
+    let scanned : Scanned _ _ _ _ _ _ _ _ = loop .inv .1 in
+    let p : Passed _ _ _ _ = scanned .shares in
+    (omega (arith, p .typical-small, few at), omega (arith, p .critical-small, few at))
+
+cast-after : tie.Need-cast-after Inv-loop μ-loop
+cast-after c = omega (arith, few (c .before .before .before .before .before .before .before .before .before .before .before))
+
+mul-after : tie.Need-mul-after Inv-loop μ-loop
+mul-after c = omega (arith, few (c .before .before .before .before .before .before .before .before .before .before .before))
+
+element-set-from-after : tie.Need-element-set-from-after Inv-loop μ-loop
+element-set-from-after c = omega (arith, few (c .before .before .before .before .before .before .before .before .before .before .before))
+
+add-i : tie.Need-add-i Inv-loop μ-loop
+add-i c = omega (arith, few (c .before .before .before .before .before .before .before .before .before .before .before))
+
+loop-less : tie.Need-loop-less Inv-loop μ-loop
+loop-less c = omega arith
+
+loop-again : tie.Need-loop-again Inv-loop μ-loop
+loop-again c =
+    let turn = c .before .before .before .before .before .before .before .before in
+    let loop = turn .before .before .loop in
+    let at = turn .before .before .before in
+    let args = at .before .before .before .before .args in
+    let s = args .state in
+    let reports = now (args .reports) in
+    let report = getD reports (loop .i) 0 in
+    let e = entryAt s (loop .i) in
+    let stored : c .before .before .ticked .result ≡ withJob e (tickedRow (rowOf e) report .job) =
+    c .before .before .ticked .ensures ∙ ap (λ (x : TaskState). withJob x (tickedRow (rowOf x) report .job)) (untouched turn) in
+    let read = getD (loop .next .entries) (loop .i) noEntry in
+    let typicals : c .passed .result .typical ≡ loop .pass .typical + read .share .typical = c .passed .ensures .0 in
+    let criticals : c .passed .result .critical ≡ loop .pass .critical + read .share .critical = c .passed .ensures .1 .0 in
+    let typical : c .passed .result .typical ≡ loop .pass .typical + e .share .typical =
+    typicals ∙ ap (λ (x : TaskState). loop .pass .typical + x .share .typical) (untouched turn) in
+    let critical : c .passed .result .critical ≡ loop .pass .critical + e .share .critical =
+    criticals ∙ ap (λ (x : TaskState). loop .pass .critical + x .share .critical) (untouched turn) in
+    let inside : c .before .before .before .is-within .result ≡ isSubset report (runningSet (s .critical) (rowOf e)) =
+    c .before .before .before .is-within .ensures
+    ∙ ap (isWithin 32 report) (c .before .before .before .before .running .ensures ∙ ap (λ (x : TaskState). runningSet (s .critical) (rowOf x)) (untouched turn))
+    ∙ within-subset report _ (omega (arith, c .before .before .before .before .before .shared-slice-known2 .given (loop .i))) in (
+      omega arith,
+      scanned-more s reports (long at) (loop .i) _ _ _ _ (loop .next) _ _ _ _ (not (c .before .before .before .is-within .result)) (c .before .is-late .result)
+          (c .before .before .ticked .result)
+          (loop .inv .1)
+          (same at)
+          (omega arith)
+          (omega (arith, few at))
+          (sound (c .before .before .before .before .before .before))
+          (omega (arith, typical, c .passed .ensures .1 .1 .1 .1 .0))
+          (omega (arith, critical, c .passed .ensures .1 .1 .1 .1 .1))
+          typical
+          critical
+          (c .passed .ensures .1 .1 .0)
+          (c .passed .ensures .1 .1 .1 .0)
+          (ap not inside)
+          (c .before .is-late .ensures ∙ late-after e report _ stored)
+          stored,
+    )
+
+shares-fit-requires : tie.Need-shares-fit-requires Inv-loop μ-loop
+shares-fit-requires c κs = search needs
+
+refused-requires-4 : tie.Need-refused-requires-4 Inv-loop μ-loop
+refused-requires-4 c κs = search needs
+
+returns-4 : tie.Need-returns-4 Inv-loop μ-loop
+returns-4 c =
+    let loop = c .before .before .before .before .loop in
     let at = c .before .before .before .before .before in
-    let args = at .before .before .before .args in
-    tick-accepted (args .state) (now (args .reports)) (c .before .ticked-all .result) (c .settled .result) (sound at)
-    (sym (c .before .before .before .before .tick-answer .ensures) ∙ c .before .before .enum-told .given .1)
-    (c .before .ticked-all .ensures)
-    (c .settled .ensures)
+    let args = at .before .before .before .before .args in
+    c .refused4 .ensures
+    ∙ scanned-unfit (args .state) (now (args .reports)) (long at) (same at) (loop .i) _ _ _ _ _ (loop .inv .1) (c .before .before .before .loop-test .left) (ranges at)
+    (sym (c .before .before .shares-fit .ensures) ∙ not-true _ (c .before .if4 .taken))
+
+-- Past the fourth test the shares fit.
+fit : (c : tie.Else4 Inv-loop μ-loop)
+    → (leb (c .before .before .before .loop .pass .typical) (c .before .before .before .before .before .before .before .before .args .state .processors)
+    && leb (c .before .before .before .loop .pass .critical) (c .before .before .before .before .before .before .before .before .args .state .processors))
+    ≡ true
+fit c = sym (c .before .shares-fit .ensures) ∙ not-false _ (c .if4 .left)
+
+refused-requires-5 : tie.Need-refused-requires-5 Inv-loop μ-loop
+refused-requires-5 c κs = search needs
+
+returns-5 : tie.Need-returns-5 Inv-loop μ-loop
+returns-5 c =
+    let fits = c .before .before .before in
+    let loop = fits .before .before .before .loop in
+    let at = fits .before .before .before .before in
+    let args = at .before .before .before .before .args in
+    c .refused5 .ensures
+    ∙ scanned-wrong (args .state) (now (args .reports)) (long at) (same at) (loop .i) _ _ _ _ _ (loop .inv .1) (fits .before .before .loop-test .left) (ranges at) (fit fits)
+    (c .before .if5 .taken)
+
+returns-6 : tie.Need-returns-6 Inv-loop μ-loop
+returns-6 c =
+    let fits = c .before .before .before .before .before in
+    let loop = fits .before .before .before .loop in
+    let at = fits .before .before .before .before in
+    let args = at .before .before .before .before .args in
+    scanned-ran (args .state) (now (args .reports)) (long at) (same at) (loop .i) _ _ _ _ _ (loop .inv .1) (fits .before .before .loop-test .left) (ranges at) (fit fits)
+    (c .before .before .before .if5 .left)
+    (c .if6 .taken)
+
+switched-all-requires : tie.Need-switched-all-requires Inv-loop μ-loop
+switched-all-requires c κs =
+    let at = c .before .before .before .before .before .before .before .before .before in
+    let args = at .before .before .before .before .args in
+    let loop = c .before .before .before .before .before .before .before .before .loop in
+    rw (scanned-count (args .state) (now (args .reports)) (long at) (loop .i) _ _ _ _ _ (loop .inv .1)) (few at)
+
+returns-7 : tie.Need-returns-7 Inv-loop μ-loop
+returns-7 c =
+    let fits = c .before .before .before .before .before .before in
+    let loop = fits .before .before .before .loop in
+    let at = fits .before .before .before .before in
+    let args = at .before .before .before .before .args in
+    scanned-switched (args .state) (now (args .reports)) (long at) (same at) (loop .i) _ _ _ _ _ (loop .inv .1) (fits .before .before .loop-test .left) (ranges at) (fit fits)
+    (c .switched-all .result)
+    (c .before .before .before .before .if5 .left)
+    (c .before .if6 .left)
+    (c .switched-all .ensures)
 
 pub tick-spec : {M : Type 1} → statement M
 tick-spec =
     tie.close
     (tie.spec
-    is-sound-requires
+    Inv-loop
+    μ-loop
+    cast-if1
+    miscounted-requires
+    refused-requires
     returns
-    tick-answer-requires
-    enum-known-answer
+    ranges-kept-requires
+    refused-requires-2
     returns-2
-    enum-told
-    ticked-all-requires
-    settled-requires
-    returns-3)
+    loop-holds
+    cast-e
+    mul-e
+    element-copy-out-e
+    entry-sound-requires
+    refused-requires-3
+    returns-3
+    cast-report
+    mul-report
+    shared-slice-read-report
+    running-requires
+    is-within-requires
+    ticked-requires
+    is-late-requires
+    passed-requires
+    cast-after
+    mul-after
+    element-set-from-after
+    add-i
+    loop-less
+    loop-again
+    shares-fit-requires
+    refused-requires-4
+    returns-4
+    refused-requires-5
+    returns-5
+    returns-6
+    switched-all-requires
+    returns-7)
