@@ -49,6 +49,18 @@ struct Pass {
     late: u8,
 }
 
+// No task is passed.
+fn no_pass() -> Pass
+    ensures { λ r. ⌜ r ≡ (record { typical = 0; critical = 0; wrong = noTask; late = noTask }) ⌝ }
+{
+    Pass {
+        typical: 0,
+        critical: 0,
+        wrong: NO_TASK,
+        late: NO_TASK,
+    }
+}
+
 // The task found before, or else task i where the test holds.
 fn first_of(found: u8, i: u8, holds: bool) -> u8
     ensures { λ r. ⌜ r ≡ cond (eqb found noTask && holds) i found ⌝ }
@@ -132,12 +144,7 @@ pub fn tick(state: State, reports: &[u32]) -> Ticked
         return refused(state, NOT_SOUND, NO_TASK);
     }
     let mut next = state;
-    let mut pass = Pass {
-        typical: 0,
-        critical: 0,
-        wrong: NO_TASK,
-        late: NO_TASK,
-    };
+    let mut pass = no_pass();
     let mut i: u8 = 0;
     while i < n {
         let e = next.entries[i as usize];

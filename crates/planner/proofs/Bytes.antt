@@ -77,6 +77,3 @@ module _ (f : ℕ → List ℕ) where
         rw (done, ← so-far)
         (laid-more at (each (range 0 i) f) (f i) old (omega (arith, so-far))
         ∙ ap (λ (l : List ℕ). laid at l old) (sym (each-next i)))
-
-    pub pairs-room : length buffer ≡ length old
-    pairs-room = ap length done ∙ laid-length at (each (range 0 i) f) old (omega (arith, so-far))

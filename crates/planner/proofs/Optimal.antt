@@ -7,7 +7,7 @@ use mathlib.Core.Bool.{Bool, true, false, cond}
 use mathlib.Core.List.{List, [], _∷_, List·Memᴰ, List·Memᴰ·head, List·Memᴰ·eq-of-singleton}
 use mathlib.Core.Option.{none, some}
 use native.Mathlib.Omega.{arith}
-use native.Mathlib.Nat.{min-le-left, min-le-right, min-eq-left, min-eq-right}
+use native.Mathlib.Nat.{min-le-left, min-eq-left, min-eq-right}
 use native.Mathlib.Decide.{decLe}
 use lib.Dec.{leb, eqb}
 use borrow.Author.Tests.{leb-true, leb-false, le-leb, lt-leb, eqb-true}
@@ -96,14 +96,6 @@ module _ (M : ℕ) (row rest : ℕ → ℕ) (t : ℕ) where
       rw (with-some (omega arith) inside)
       (omega (arith, min-le-left (sumAt row rest t (bestShare row rest t)) (M + 1), best-least a from to))
 
-  pub with-bound : totalWith M row rest t ≤ M + 1
-  with-bound = go (decLe 1 t) (decLe t M)
-    where
-      go : Dec (1 ≤ t) → Dec (t ≤ M) → totalWith M row rest t ≤ M + 1
-      go (yes one) (yes to) = rw (with-some one to) (min-le-right (sumAt row rest t (bestShare row rest t)) (M + 1))
-      go (yes one) (no past) = omega (arith, with-past (omega arith))
-      go (no zero-left) _ = omega (arith, with-none (omega arith))
-
   pub with-positive : totalWith M row rest t ≤ M → 1 ≤ t
   with-positive within = go (decLe 1 t)
     where
@@ -133,15 +125,6 @@ module _ (M : ℕ) (row rest : ℕ → ℕ) (t : ℕ) where
       bestShare row rest t ≤ a
   unfolding sumAt
   with-first within a from to less = best-first a from to (rw (with-best within) at less)
-
-pub total-bound : (M : ℕ) (rows : List (ℕ → ℕ)) (t : ℕ) → leastTotal M rows t ≤ M + 1
-unfolding leastTotal
-total-bound M [] t = go (eqb t 0)
-  where
-    go : (e : Bool) → cond e 0 (M + 1) ≤ M + 1
-    go true = omega arith
-    go false = omega arith
-total-bound M (row ∷ rows) t = with-bound M row (leastTotal M rows) t
 
 -- Every choice with a typical total within M has at least the least critical total there.
 pub total-least : {M : ℕ} {tasks : List (List Share)} {rows : List (ℕ → ℕ)} → Rows M tasks rows → (choice : List Share) →

@@ -16,7 +16,7 @@ use Rattle.shares.specs.Totals.{noProcessors, shareIn, shareTotal}
 use Rattle.planner.specs.Blocks.{offsetIn, lengthIn}
 use Rattle.planner.specs.Plan.{blockBytes, virtualBytes, wordBytes}
 use Rattle.planner.specs.Writing.{laid}
-use Rattle.planner.proofs.Bytes.{laid-none, pairs-more, pairs-room, pairs-length}
+use Rattle.planner.proofs.Bytes.{laid-none, pairs-more, pairs-length}
 
 total-snoc : (mode : Bool) (shares : List Share) (s : Share) → shareTotal mode (shares ++ (s ∷ [])) ≡ shareTotal mode shares + shareIn mode s
 total-snoc false [] s = omega arith
@@ -46,10 +46,6 @@ module _ (mode : Bool) (shares : List Share) (at : ℕ) (old : List ℕ) where
     unfolding blockBytes
     blocks-more = pairs-more (λ j. offsetIn mode shares j ∷ lengthIn mode shares j ∷ []) (λ j. refl) at i old buffer fit done
 
-    pub blocks-room : length buffer ≡ length old
-    unfolding blockBytes
-    blocks-room = pairs-room (λ j. offsetIn mode shares j ∷ lengthIn mode shares j ∷ []) (λ j. refl) at i old buffer fit done
-
 module _ (set : TaskSet) (shares : List Share) (at : ℕ) (old : List ℕ) where
   pub virtuals-none : old ≡ laid at (virtualBytes set shares 0) old
   unfolding virtualBytes range
@@ -61,16 +57,7 @@ module _ (set : TaskSet) (shares : List Share) (at : ℕ) (old : List ℕ) where
     virtuals-more =
         pairs-more (λ j. wordBytes (virtualOf (taskIn set j) (lengthIn false shares j))) (λ j. refl) at i old buffer fit done
 
-    pub virtuals-room : length buffer ≡ length old
-    unfolding virtualBytes
-    virtuals-room =
-        pairs-room (λ j. wordBytes (virtualOf (taskIn set j) (lengthIn false shares j))) (λ j. refl) at i old buffer fit done
-
 -- A part has two bytes for each task.
 pub blocks-length : (mode : Bool) (shares : List Share) (n : ℕ) → length (blockBytes mode shares n) ≡ 2 * n
 unfolding blockBytes
 blocks-length mode shares n = pairs-length (λ j. offsetIn mode shares j ∷ lengthIn mode shares j ∷ []) (λ j. refl) n
-
-pub virtuals-length : (set : TaskSet) (shares : List Share) (n : ℕ) → length (virtualBytes set shares n) ≡ 2 * n
-unfolding virtualBytes
-virtuals-length set shares n = pairs-length (λ j. wordBytes (virtualOf (taskIn set j) (lengthIn false shares j))) (λ j. refl) n

@@ -13,7 +13,7 @@ use Rattle.shares.specs.declared.search.Found.the-variants.{At, Nothing}
 use Rattle.shares.specs.Low.{isLow, lowShare, hasLowShare, lowAnswer}
 use Rattle.shares.specs.Search.{leastCritical}
 use Rattle.shares.specs.Row.{lowCritical, criticalAt, tabulate, rowOf}
-use Rattle.shares.proofs.Least.{least-bound, least-from}
+use Rattle.shares.proofs.Least.{least-from}
 use Rattle.shares.proofs.Rows.{tabulated}
 
 -- Both halves of a test that holds.
@@ -58,14 +58,6 @@ module _ (M : ℕ) (f : Figures) where
       go true true has own _ = (has, eqb-true a (lowShare f) own)
       go true false has own past = absurd (omega arith)
       go false e has own past = absurd (omega arith)
-
-  pub low-critical-bound : (a : ℕ) → lowCritical M f a ≤ M + 1
-  unfolding lowCritical
-  low-critical-bound a = go (hasLowShare M f && eqb a (lowShare f))
-    where
-      go : (t : Bool) → cond t 0 (M + 1) ≤ M + 1
-      go true = omega arith
-      go false = omega arith
 
   -- What the answer to the search for the share says.
   pub answer-share : (s : ℕ) → lowAnswer M f ≡ At s → (hasLowShare M f ≡ true) × (lowShare f ≡ s)
@@ -121,14 +113,6 @@ module _ (M : ℕ) (t : Task) where
   pub critical-high : isLow t ≡ false → (a : ℕ) → criticalAt M t a ≡ leastCritical M (t .figures) a
   unfolding criticalAt
   critical-high high a = rw high
-
-  pub critical-bound : (a : ℕ) → criticalAt M t a ≤ M + 1
-  unfolding criticalAt
-  critical-bound a = go (isLow t)
-    where
-      go : (l : Bool) → cond l (lowCritical M (t .figures) a) (leastCritical M (t .figures) a) ≤ M + 1
-      go true = low-critical-bound M (t .figures) a
-      go false = least-bound M (t .figures) a
 
   -- Only typical shares within M have a critical share.
   pub critical-within : (a : ℕ) → criticalAt M t a ≤ M → a ≤ M

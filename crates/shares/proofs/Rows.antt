@@ -96,7 +96,3 @@ unfolding rowOf
 row-at M t a one within =
     let e : 1 + (a - 1) ≡ a = omega arith in
     tabulate-at (criticalAt M t) 1 64 (a - 1) (omega arith) ∙ ap (criticalAt M t) e
-
-pub row-length : (M : ℕ) (t : Task) → length (rowOf M t) ≡ 64
-unfolding rowOf
-row-length M t = tabulate-length (criticalAt M t) 1 64

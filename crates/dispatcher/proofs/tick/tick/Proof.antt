@@ -78,27 +78,30 @@ long c = omega (arith, few c, sixteen (c .before .before .before .before))
 same : (c : tie.Else2 Inv-loop μ-loop) → length (now (c .before .before .before .before .args .reports)) ≡ c .before .before .before .before .args .state .count
 same c = c .before .before .if1 .left
 
+no-pass-requires : tie.Need-no-pass-requires Inv-loop μ-loop
+no-pass-requires c κs = search needs
+
 loop-holds : tie.Need-loop-holds Inv-loop μ-loop
 loop-holds c =
-    let args = c .before .before .before .before .args in
-    (omega arith, scanned-none (args .state) (now (args .reports)) (long c))
+    let args = c .before .before .before .before .before .args in
+    (omega arith, rw (c .no-pass .ensures) (scanned-none (args .state) (now (args .reports)) (long (c .before))))
 
 cast-e : tie.Need-cast-e Inv-loop μ-loop
-cast-e c = omega (arith, few (c .before .before))
+cast-e c = omega (arith, few (c .before .before .before))
 
 mul-e : tie.Need-mul-e Inv-loop μ-loop
-mul-e c = omega (arith, few (c .before .before))
+mul-e c = omega (arith, few (c .before .before .before))
 
 element-copy-out-e : tie.Need-element-copy-out-e Inv-loop μ-loop
-element-copy-out-e c = omega (arith, few (c .before .before))
+element-copy-out-e c = omega (arith, few (c .before .before .before))
 
 -- The entry of the turn is as it came.
 untouched : (c : tie.After-e Inv-loop μ-loop)
     → getD (c .before .before .loop .next .entries) (c .before .before .loop .i) noEntry
-    ≡ entryAt (c .before .before .before .before .before .before .before .args .state) (c .before .before .loop .i)
+    ≡ entryAt (c .before .before .before .before .before .before .before .before .args .state) (c .before .before .loop .i)
 untouched c =
     let loop = c .before .before .loop in
-    let at = c .before .before .before in
+    let at = c .before .before .before .before in
     let args = at .before .before .before .before .args in
     let p : Scanned _ _ _ _ _ _ _ _ = loop .inv .1 in
     written-at (args .state) _ (tickedBelow (args .state) (now (args .reports)) (loop .i)) (loop .next) (loop .i) (p .written)
@@ -114,7 +117,7 @@ returns-3 : tie.Need-returns-3 Inv-loop μ-loop
 returns-3 c =
     let turn = c .before .before .before in
     let loop = turn .before .before .loop in
-    let at = turn .before .before .before in
+    let at = turn .before .before .before .before in
     let args = at .before .before .before .before .args in
     c .refused3 .ensures
     ∙ tick-unsound (args .state) (now (args .reports))
@@ -123,17 +126,17 @@ returns-3 c =
 
 -- Past the third test the entry is sound.
 sound : (c : tie.Else3 Inv-loop μ-loop)
-    → entrySound (entryAt (c .before .before .before .before .before .before .before .before .before .args .state) (c .before .before .before .before .loop .i)) ≡ true
+    → entrySound (entryAt (c .before .before .before .before .before .before .before .before .before .before .args .state) (c .before .before .before .before .loop .i)) ≡ true
 sound c = ap entrySound (sym (untouched (c .before .before))) ∙ sym (c .before .entry-sound .ensures) ∙ not-false _ (c .if3 .left)
 
 cast-report : tie.Need-cast-report Inv-loop μ-loop
-cast-report c = omega (arith, few (c .before .before .before .before .before))
+cast-report c = omega (arith, few (c .before .before .before .before .before .before))
 
 mul-report : tie.Need-mul-report Inv-loop μ-loop
-mul-report c = omega (arith, few (c .before .before .before .before .before))
+mul-report c = omega (arith, few (c .before .before .before .before .before .before))
 
 shared-slice-read-report : tie.Need-shared-slice-read-report Inv-loop μ-loop
-shared-slice-read-report c = omega (arith, same (c .before .before .before .before .before .before))
+shared-slice-read-report c = omega (arith, same (c .before .before .before .before .before .before .before))
 
 running-requires : tie.Need-running-requires Inv-loop μ-loop
 running-requires c κs = rw (untouched (c .before .before .before)) (few-nodes _ (sound (c .before)))
@@ -150,22 +153,22 @@ is-late-requires c κs = search needs
 passed-requires : tie.Need-passed-requires Inv-loop μ-loop
 passed-requires c κs =
     let loop = c .before .before .before .before .before .before .before .before .before .loop in
-    let at = c .before .before .before .before .before .before .before .before .before .before in
+    let at = c .before .before .before .before .before .before .before .before .before .before .before in
     let scanned : Scanned _ _ _ _ _ _ _ _ = loop .inv .1 in
     let p : Passed _ _ _ _ = scanned .shares in
     (omega (arith, p .typical-small, few at), omega (arith, p .critical-small, few at))
 
 cast-after : tie.Need-cast-after Inv-loop μ-loop
-cast-after c = omega (arith, few (c .before .before .before .before .before .before .before .before .before .before .before))
+cast-after c = omega (arith, few (c .before .before .before .before .before .before .before .before .before .before .before .before))
 
 mul-after : tie.Need-mul-after Inv-loop μ-loop
-mul-after c = omega (arith, few (c .before .before .before .before .before .before .before .before .before .before .before))
+mul-after c = omega (arith, few (c .before .before .before .before .before .before .before .before .before .before .before .before))
 
 element-set-from-after : tie.Need-element-set-from-after Inv-loop μ-loop
-element-set-from-after c = omega (arith, few (c .before .before .before .before .before .before .before .before .before .before .before))
+element-set-from-after c = omega (arith, few (c .before .before .before .before .before .before .before .before .before .before .before .before))
 
 add-i : tie.Need-add-i Inv-loop μ-loop
-add-i c = omega (arith, few (c .before .before .before .before .before .before .before .before .before .before .before))
+add-i c = omega (arith, few (c .before .before .before .before .before .before .before .before .before .before .before .before))
 
 loop-less : tie.Need-loop-less Inv-loop μ-loop
 loop-less c = omega arith
@@ -174,7 +177,7 @@ loop-again : tie.Need-loop-again Inv-loop μ-loop
 loop-again c =
     let turn = c .before .before .before .before .before .before .before .before in
     let loop = turn .before .before .loop in
-    let at = turn .before .before .before in
+    let at = turn .before .before .before .before in
     let args = at .before .before .before .before .args in
     let s = args .state in
     let reports = now (args .reports) in
@@ -221,7 +224,7 @@ refused-requires-4 c κs = search needs
 returns-4 : tie.Need-returns-4 Inv-loop μ-loop
 returns-4 c =
     let loop = c .before .before .before .before .loop in
-    let at = c .before .before .before .before .before in
+    let at = c .before .before .before .before .before .before in
     let args = at .before .before .before .before .args in
     c .refused4 .ensures
     ∙ scanned-unfit (args .state) (now (args .reports)) (long at) (same at) (loop .i) _ _ _ _ _ (loop .inv .1) (c .before .before .before .loop-test .left) (ranges at)
@@ -229,8 +232,8 @@ returns-4 c =
 
 -- Past the fourth test the shares fit.
 fit : (c : tie.Else4 Inv-loop μ-loop)
-    → (leb (c .before .before .before .loop .pass .typical) (c .before .before .before .before .before .before .before .before .args .state .processors)
-    && leb (c .before .before .before .loop .pass .critical) (c .before .before .before .before .before .before .before .before .args .state .processors))
+    → (leb (c .before .before .before .loop .pass .typical) (c .before .before .before .before .before .before .before .before .before .args .state .processors)
+    && leb (c .before .before .before .loop .pass .critical) (c .before .before .before .before .before .before .before .before .before .args .state .processors))
     ≡ true
 fit c = sym (c .before .shares-fit .ensures) ∙ not-false _ (c .if4 .left)
 
@@ -241,7 +244,7 @@ returns-5 : tie.Need-returns-5 Inv-loop μ-loop
 returns-5 c =
     let fits = c .before .before .before in
     let loop = fits .before .before .before .loop in
-    let at = fits .before .before .before .before in
+    let at = fits .before .before .before .before .before in
     let args = at .before .before .before .before .args in
     c .refused5 .ensures
     ∙ scanned-wrong (args .state) (now (args .reports)) (long at) (same at) (loop .i) _ _ _ _ _ (loop .inv .1) (fits .before .before .loop-test .left) (ranges at) (fit fits)
@@ -251,7 +254,7 @@ returns-6 : tie.Need-returns-6 Inv-loop μ-loop
 returns-6 c =
     let fits = c .before .before .before .before .before in
     let loop = fits .before .before .before .loop in
-    let at = fits .before .before .before .before in
+    let at = fits .before .before .before .before .before in
     let args = at .before .before .before .before .args in
     scanned-ran (args .state) (now (args .reports)) (long at) (same at) (loop .i) _ _ _ _ _ (loop .inv .1) (fits .before .before .loop-test .left) (ranges at) (fit fits)
     (c .before .before .before .if5 .left)
@@ -259,7 +262,7 @@ returns-6 c =
 
 switched-all-requires : tie.Need-switched-all-requires Inv-loop μ-loop
 switched-all-requires c κs =
-    let at = c .before .before .before .before .before .before .before .before .before in
+    let at = c .before .before .before .before .before .before .before .before .before .before in
     let args = at .before .before .before .before .args in
     let loop = c .before .before .before .before .before .before .before .before .loop in
     rw (scanned-count (args .state) (now (args .reports)) (long at) (loop .i) _ _ _ _ _ (loop .inv .1)) (few at)
@@ -268,7 +271,7 @@ returns-7 : tie.Need-returns-7 Inv-loop μ-loop
 returns-7 c =
     let fits = c .before .before .before .before .before .before in
     let loop = fits .before .before .before .loop in
-    let at = fits .before .before .before .before in
+    let at = fits .before .before .before .before .before in
     let args = at .before .before .before .before .args in
     scanned-switched (args .state) (now (args .reports)) (long at) (same at) (loop .i) _ _ _ _ _ (loop .inv .1) (fits .before .before .loop-test .left) (ranges at) (fit fits)
     (c .switched-all .result)
@@ -289,6 +292,7 @@ tick-spec =
     ranges-kept-requires
     refused-requires-2
     returns-2
+    no-pass-requires
     loop-holds
     cast-e
     mul-e
