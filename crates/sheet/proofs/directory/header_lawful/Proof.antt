@@ -34,7 +34,13 @@ add-result c = search needs
 
 returns : tie.Need-returns
 unfolding headerLawful processorsOf countOf
-returns c = cc
+returns c =
+    rw (
+      c .is-within2 .ensures,
+      c .before .is-within .ensures,
+      c .before .before .byte-at2 .ensures,
+      c .before .before .before .byte-at .ensures,
+    )
 
 pub header-lawful-spec : {M : Type 1} → statement M
 header-lawful-spec =

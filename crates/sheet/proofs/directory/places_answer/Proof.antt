@@ -1,7 +1,7 @@
 -- `sheet::directory::places_answer` meets its contract. The loop's invariant: the pairs passed are in place, and the next
 -- record has to start where the last one ended. The measure is the pairs left. Assumes nothing.
-use Prim.Native.Nat.{_≤_, _<_, _-_}
-use mathlib.Core.Path.{_≡_, sym, _∙_}
+use Prim.Native.Nat.{ℕ, _+_, _*_, _≤_, _<_, _-_}
+use mathlib.Core.Path.{_≡_, sym, ap, _∙_}
 use lib.ListN.{length}
 use denote.Ref.{now}
 use Rattle.sheet.specs.Answers.{firstOver}
@@ -30,7 +30,7 @@ loop-holds : tie.Need-loop-holds Inv-loop μ-loop
 loop-holds c =
     let s = now (c .before .args .s) in
     let p = c .before .pre in
-    (omega arith, cc (start-first s), omega arith, over-all (placeAnswer s) (c .before .args .n))
+    (omega arith, ap (λ (n : ℕ). 2 + 4 * n) (p .0) ∙ sym (start-first s), omega arith, over-all (placeAnswer s) (c .before .args .n))
 
 cast-at : tie.Need-cast-at Inv-loop μ-loop
 cast-at c = search needs
@@ -74,7 +74,7 @@ loop-again c =
     let inv = c .before .before .before .before .loop .inv in
     let in-place = place-kept s i (sym (c .before .before .u16-at .ensures .0) ∙ c .before .if1 .left ∙ inv .1) in (
       omega arith,
-      cc (start-next s i, c .before .before .u16-at .ensures .0, c .u16-at2 .ensures .0),
+      rw (c .before .before .u16-at .ensures .0, c .u16-at2 .ensures .0) (sym (start-next s i)),
       omega arith,
       over-next (placeAnswer s) i _ (omega arith) in-place ∙ inv .3,
     )
@@ -92,7 +92,7 @@ returns-2 c =
     let loop = c .before .before .loop in
     let all : loop .i ≡ n = omega arith in
     let places = sym (loop .inv .3) ∙ over-end (placeAnswer s) (loop .i) n (omega arith) in
-    let last : startOf s n ≡ length s = cc (loop .inv .1, c .if2 .taken) in
+    let last : startOf s n ≡ length s = ap (startOf s) (sym all) ∙ sym (loop .inv .1) ∙ c .if2 .taken in
     sym (after-accepted _ _ places ∙ end-kept s n (c .before .before .before .before .pre .0) last)
 
 returns-3 : tie.Need-returns-3 Inv-loop μ-loop
@@ -102,7 +102,7 @@ returns-3 c =
     let loop = c .before .before .loop in
     let all : loop .i ≡ n = omega arith in
     let places = sym (loop .inv .3) ∙ over-end (placeAnswer s) (loop .i) n (omega arith) in
-    let start : startOf s n ≡ loop .start = cc (loop .inv .1) in
+    let start : startOf s n ≡ loop .start = ap (startOf s) (sym all) ∙ sym (loop .inv .1) in
     sym
     (after-accepted _ _ places
     ∙ end-broken s n (c .before .before .before .before .pre .0) (λ e. c .if2 .left (sym start ∙ e)))

@@ -36,7 +36,14 @@ u16-at-requires-5 c κs = search needs
 
 returns : tie.Need-returns
 unfolding figuresAt
-returns c = cc
+returns c =
+    rw (
+      c .u16-at5 .ensures .0,
+      c .before .u16-at4 .ensures .0,
+      c .before .before .u16-at3 .ensures .0,
+      c .before .before .before .u16-at2 .ensures .0,
+      c .before .before .before .before .u16-at .ensures .0,
+    )
 
 pub figures-at-spec : {M : Type 1} → statement M
 figures-at-spec =

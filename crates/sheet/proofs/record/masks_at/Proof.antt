@@ -3,7 +3,7 @@
 use native.Mathlib.Omega.{arith}
 use denote.Ref.{now}
 use Prim.Native.Nat.{_≤_, _-_}
-use mathlib.Core.Path.{_≡_}
+use mathlib.Core.Path.{_≡_, ap, _∙_}
 use Rattle.sheet.specs.Format.{masksAt}
 use Rattle.sheet.proofs.Cells.{masks-none, masks-store}
 use borrow.Author.Needs.{needs}
@@ -46,12 +46,14 @@ loop-less c = search needs
 loop-again : tie.Need-loop-again Inv-loop μ-loop
 loop-again c =
     let v = c .before .before .loop .v in
-    (omega arith, cc (masks-store (now (c .before .before .before .before .args .s)) (c .before .before .before .before .args .at) v (omega arith)))
+    let args = c .before .before .before .before .args in
+    (omega arith, rw (c .u32-at .ensures, c .before .before .loop .inv .1) (masks-store (now (args .s)) (args .at) v (omega arith)))
 
 returns : tie.Need-returns Inv-loop μ-loop
 returns c =
-    let all : c .before .loop .v ≡ c .before .before .before .args .nodes = omega arith in
-    cc
+    let args = c .before .before .before .args in
+    let all : c .before .loop .v ≡ args .nodes = omega arith in
+    c .before .loop .inv .1 ∙ ap (masksAt (now (args .s)) (args .at)) all
 
 pub masks-at-spec : {M : Type 1} → statement M
 masks-at-spec =

@@ -34,7 +34,7 @@ shape-lawful-requires c κs = search needs
 
 returns-2 : tie.Need-returns-2
 unfolding levelAt nodesAt
-returns-2 c = cc
+returns-2 c = rw (c .shape-lawful .ensures, c .before .byte-at2 .ensures, c .before .before .byte-at .ensures)
 
 pub shape-at-spec : {M : Type 1} → statement M
 shape-at-spec =

@@ -30,7 +30,17 @@ or-else-requires-2 c κs = search needs
 
 returns : tie.Need-returns
 unfolding taskAnswer
-returns c = cc
+returns c =
+    rw (
+      c .or-else2 .ensures,
+      c .before .or-else .ensures,
+      c .before .before .refused-unless3 .ensures,
+      c .before .before .before .is-heavy .ensures,
+      c .before .before .before .before .refused-unless2 .ensures,
+      c .before .before .before .before .before .masks-lawful .ensures,
+      c .before .before .before .before .before .before .refused-unless .ensures,
+      c .before .before .before .before .before .before .before .figures-lawful .ensures,
+    )
 
 pub task-answer-spec : {M : Type 1} → statement M
 task-answer-spec =

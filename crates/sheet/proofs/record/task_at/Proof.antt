@@ -23,7 +23,13 @@ masks-at-requires c κs = (omega arith, rw (c .before .before .byte-at .ensures)
 
 returns : tie.Need-returns
 unfolding taskAt levelAt nodesAt
-returns c = cc
+returns c =
+    rw (
+      c .masks-at .ensures,
+      c .before .figures-at .ensures,
+      c .before .before .byte-at2 .ensures,
+      c .before .before .before .byte-at .ensures,
+    )
 
 pub task-at-spec : {M : Type 1} → statement M
 task-at-spec =

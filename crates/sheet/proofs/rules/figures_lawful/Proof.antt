@@ -15,7 +15,7 @@ low-lawful-requires c κs = search needs
 
 returns : tie.Need-returns
 unfolding figuresLawful
-returns c = cc
+returns c = rw (c .low-lawful .ensures, c .before .in-order .ensures, c .before .before .in-range .ensures)
 
 pub figures-lawful-spec : {M : Type 1} → statement M
 figures-lawful-spec =

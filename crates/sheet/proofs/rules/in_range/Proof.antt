@@ -21,7 +21,14 @@ is-within-requires-5 c κs = search needs
 
 returns : tie.Need-returns
 unfolding inRange
-returns c = cc
+returns c =
+    rw (
+      c .is-within5 .ensures,
+      c .before .is-within4 .ensures,
+      c .before .before .is-within3 .ensures,
+      c .before .before .before .is-within2 .ensures,
+      c .before .before .before .before .is-within .ensures,
+    )
 
 pub in-range-spec : {M : Type 1} → statement M
 in-range-spec =

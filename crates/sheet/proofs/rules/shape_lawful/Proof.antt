@@ -15,7 +15,7 @@ add-result c = search needs
 
 returns : tie.Need-returns
 unfolding shapeLawful levelLawful
-returns c = cc
+returns c = rw (c .is-within .ensures)
 
 pub shape-lawful-spec : {M : Type 1} → statement M
 shape-lawful-spec = tie.close (tie.spec is-within-requires mul-result add-result returns)
