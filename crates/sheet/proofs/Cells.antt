@@ -39,8 +39,12 @@ module _ {A : Type 0} (f : ℕ → A) (none : A) where
       )
 
   -- A store at the count adds what the next cell is to hold.
+  pub cells-store-from : (first size d count : ℕ) → d < size → first + d ≡ count
+      → set (cellsFrom first size f none count) d (f count) ≡ cellsFrom first size f none (count + 1)
+  cells-store-from first size d count h e = rw (add-one count) (cells-store-at size first d count h e)
+
   pub cells-store : (size count : ℕ) → count < size → set (cells size f none count) count (f count) ≡ cells size f none (count + 1)
-  cells-store size count h = rw (add-one count) (cells-store-at size 0 count count h (omega arith))
+  cells-store size count h = cells-store-from 0 size count count h (omega arith)
 
 -- The masks of a record, read one after the other.
 module _ (s : List ℕ) (at : ℕ) where

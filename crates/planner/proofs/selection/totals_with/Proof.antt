@@ -3,17 +3,19 @@
 use Prim.Native.Nat.{ℕ, min, _+_, _-_, _≤_}
 use Rattle.planner.specs.Selection.{sumAt, cellAt, entryAt, totalWith}
 use borrow.Author.Needs.{needs}
-use mathlib.Core.Path.{_≡_, sym, ap, _∙_}
+use mathlib.Core.List.{List, _∷_}
+use mathlib.Core.Path.{_≡_, refl, sym, ap, ap₂, _∙_}
 use native.Mathlib.Omega.{arith}
-use Rattle.shares.specs.Row.{tabulate}
-use Rattle.shares.proofs.Rows.{upTo, up-to-start, up-to-more, up-to-all}
+use Rattle.sheet.specs.Format.{cells, cellsFrom}
+use Rattle.sheet.proofs.Cells.{cells-none, cells-store}
+use Rattle.shares.proofs.Rows.{cells-tabulated}
 use Rattle.planner.proofs.Optimal.{with-none, with-past, with-some}
 use Rattle.planner.proofs.selection.totals_with.Statement.{statement}
 use Rattle.planner.proofs.selection.totals_with.Tie as tie
 
 abbrev Inv-loop : tie.InvT-loop
 Inv-loop m row rest totals₀ t₀ totals t =
-    (1 ≤ t) × (t ≤ m + 1) × (totals ≡ tabulate (upTo (totalWith m (cellAt row) (entryAt rest)) (m + 1) t) 0 65)
+    (1 ≤ t) × (t ≤ m + 1) × (totals ≡ cells 65 (totalWith m (cellAt row) (entryAt rest)) (m + 1) t)
 
 abbrev μ-loop : tie.MeasureT-loop
 μ-loop m row rest totals₀ t₀ totals t = m + 1 - t
@@ -22,12 +24,14 @@ add-totals : tie.Need-add-totals Inv-loop μ-loop
 add-totals c = omega arith
 
 loop-holds : tie.Need-loop-holds Inv-loop μ-loop
+unfolding cellsFrom
 loop-holds c =
-    let args = c .args in (
+    let args = c .args in
+    let f = totalWith (args .m) (cellAt (args .t1)) (entryAt (args .t2)) in (
       omega arith,
       omega arith,
-      up-to-start (totalWith (args .m) (cellAt (args .t1)) (entryAt (args .t2))) (args .m + 1) 1 0 65
-          (λ t from below. with-none (args .m) (cellAt (args .t1)) (entryAt (args .t2)) t (omega arith)),
+      ap₂ (λ (x : ℕ) (xs : List ℕ). x ∷ xs) (sym (with-none (args .m) (cellAt (args .t1)) (entryAt (args .t2)) 0 refl))
+          (sym (cells-none f (args .m + 1) 1 64 1 (omega arith))),
     )
 
 best-share-requires : tie.Need-best-share-requires Inv-loop μ-loop
@@ -66,16 +70,15 @@ loop-again c =
     let args = c .before .before .before .before .before .before .args in
     let loop = c .before .before .before .before .before .loop in
     let f = totalWith (args .m) (cellAt (args .t1)) (entryAt (args .t2)) in
-    (omega arith, omega arith, rw (cell c) (up-to-more f (args .m + 1) (loop .totals) (loop .t) (loop .t) 0 65 (omega arith) (omega arith) (loop .inv .2)))
+    (omega arith, omega arith, rw (cell c, loop .inv .2) (cells-store f (args .m + 1) 65 (loop .t) (omega arith)))
 
 returns : tie.Need-returns Inv-loop μ-loop
 returns c =
     let args = c .before .before .args in
     let loop = c .before .loop in
     loop .inv .2
-    ∙ ap (λ (f : ℕ → ℕ). tabulate f 0 65)
-    (up-to-all (totalWith (args .m) (cellAt (args .t1)) (entryAt (args .t2))) (args .m + 1) (loop .t)
-    (λ t past. with-past (args .m) (cellAt (args .t1)) (entryAt (args .t2)) t (omega arith)))
+    ∙ cells-tabulated (totalWith (args .m) (cellAt (args .t1)) (entryAt (args .t2))) (args .m + 1) 0 65 (loop .t)
+    (λ t past. with-past (args .m) (cellAt (args .t1)) (entryAt (args .t2)) t (omega arith))
 
 pub totals-with-spec : {M : Type 1} → statement M
 totals-with-spec =

@@ -1,19 +1,20 @@
 -- `row::high_row` meets its contract. The loop's invariant: the row is done up to typical share i and says m + 1 above it, which
 -- is right above m. The measure is what is left of m.
-use Prim.Native.Nat.{ℕ, _+_, _-_, _≤_}
-use mathlib.Core.Path.{_≡_, ap, _∙_}
+use Prim.Native.Nat.{_+_, _-_, _≤_}
+use mathlib.Core.Path.{_≡_, sym, ap, _∙_}
 use native.Mathlib.Omega.{arith}
 use borrow.Author.Needs.{needs}
 use Rattle.shares.specs.Search.{leastCritical, numberOf}
-use Rattle.shares.specs.Row.{tabulate}
 use Rattle.shares.proofs.Least.{least-bound, least-past}
 use Rattle.shares.proofs.Walk.{number-answer}
-use Rattle.shares.proofs.Rows.{upTo, up-to-start, up-to-more, up-to-all}
+use Rattle.sheet.specs.Format.{cellsFrom}
+use Rattle.sheet.proofs.Cells.{cells-none, cells-store-from}
+use Rattle.shares.proofs.Rows.{cells-tabulated}
 use Rattle.shares.proofs.row.high_row.Statement.{statement}
 use Rattle.shares.proofs.row.high_row.Tie as tie
 
 abbrev Inv-loop : tie.InvT-loop
-Inv-loop f m row₀ end i₀ row i = (i ≤ m) × (row ≡ tabulate (upTo (leastCritical m f) (m + 1) (i + 1)) 1 64)
+Inv-loop f m row₀ end i₀ row i = (i ≤ m) × (row ≡ cellsFrom 1 64 (leastCritical m f) (m + 1) (i + 1))
 
 abbrev μ-loop : tie.MeasureT-loop
 μ-loop f m row₀ end i₀ row i = m - i
@@ -23,7 +24,7 @@ add-row c = search needs
 
 loop-holds : tie.Need-loop-holds Inv-loop μ-loop
 loop-holds c =
-    (omega arith, up-to-start (leastCritical (c .args .m) (c .args .f)) (c .args .m + 1) 1 1 64 (λ a from below. absurd (omega arith)))
+    (omega arith, sym (cells-none (leastCritical (c .args .m) (c .args .f)) (c .args .m + 1) 1 64 1 (omega arith)))
 
 cast-least-critical : tie.Need-cast-least-critical Inv-loop μ-loop
 cast-least-critical c = omega arith
@@ -59,15 +60,14 @@ loop-again : tie.Need-loop-again Inv-loop μ-loop
 loop-again c =
     let at = c .before .before .before in
     let g = leastCritical (at .before .args .m) (at .before .args .f) in
-    (omega arith, rw (cell c) (up-to-more g (at .before .args .m + 1) (at .loop .row) (at .loop .i) (at .loop .i + 1) 1 64 (omega arith) (omega arith) (at .loop .inv .1)))
+    (omega arith, rw (cell c, at .loop .inv .1) (cells-store-from g (at .before .args .m + 1) 1 64 (at .loop .i) (at .loop .i + 1) (omega arith) (omega arith)))
 
 returns : tie.Need-returns Inv-loop μ-loop
 returns c =
     let args = c .before .before .args in
     let loop = c .before .loop in
     loop .inv .1
-    ∙ ap (λ (g : ℕ → ℕ). tabulate g 1 64)
-    (up-to-all (leastCritical (args .m) (args .f)) (args .m + 1) (loop .i + 1) (λ a past. least-past (args .m) (args .f) a (omega arith)))
+    ∙ cells-tabulated (leastCritical (args .m) (args .f)) (args .m + 1) 1 64 (loop .i + 1) (λ a past. least-past (args .m) (args .f) a (omega arith))
 
 pub high-row-spec : {M : Type 1} → statement M
 high-row-spec =
