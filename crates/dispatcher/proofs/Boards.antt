@@ -21,11 +21,13 @@ use Rattle.model.specs.Step.{noRow, rowAt}
 use Rattle.model.specs.Claim.{runningCount}
 use Rattle.model.proofs.Capacity.{running-count}
 use Rattle.dispatcher.specs.declared.state.State.{State}
-use Rattle.dispatcher.specs.Holds.{fixedOf, rowOf, modelOf}
+use Rattle.entries.specs.Entry.{fixedOf, rowOf}
+use Rattle.dispatcher.specs.Holds.{modelOf}
 use Rattle.dispatcher.specs.Sound.{isSound}
 use Rattle.dispatcher.specs.Board.{unused, idle, pairsOf, block, blocks, boardBytes, boardAnswer, boardedOf, boardOf}
-use Rattle.dispatcher.proofs.NodeSets.{running-members}
-use Rattle.dispatcher.proofs.Soundness.{sharesIn, state-facts, few-nodes}
+use Rattle.entries.proofs.NodeSets.{running-members}
+use Rattle.entries.proofs.Soundness.{few-nodes}
+use Rattle.dispatcher.proofs.Soundness.{sharesIn, state-facts}
 use Rattle.dispatcher.proofs.Entries.{entryAt, sound-at}
 use Rattle.dispatcher.proofs.Rows.{model-length, model-row}
 

@@ -9,10 +9,12 @@ use native.Mathlib.Omega.{arith}
 use lib.Dec.{leb}
 use lib.ListN.{length, getD, drop, drop-of-length-le}
 use lib.Seq.{length-take-le, drop-cons, getD-take}
-use Rattle.dispatcher.specs.declared.state.TaskState.{TaskState}
+use Rattle.entries.specs.declared.state.TaskState.{TaskState}
 use Rattle.dispatcher.specs.declared.state.State.{State}
-use Rattle.dispatcher.specs.Holds.{fixedOf, rowOf, entriesOf, modelOf}
-use Rattle.dispatcher.specs.Sound.{entrySound, entriesSound, isSound}
+use Rattle.entries.specs.Entry.{fixedOf, rowOf}
+use Rattle.dispatcher.specs.Holds.{entriesOf, modelOf}
+use Rattle.entries.specs.Sound.{entrySound}
+use Rattle.dispatcher.specs.Sound.{entriesSound, isSound}
 use Rattle.dispatcher.proofs.Soundness.{sharesIn, state-facts}
 
 -- What a read past the line would give.

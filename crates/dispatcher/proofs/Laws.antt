@@ -14,15 +14,18 @@ use Rattle.model.specs.Row.{Fixed, Job, Row, allEnded}
 use Rattle.model.specs.Step.{Model, Call, release, tick, Refusal, step, stepBy, releaseRefusal, tickRefusal, released, ticked, switching, switchedTo, lowestLate, tickedRows, noRow, rowAt}
 use Rattle.model.specs.Claim.{fixedOf as rowFixed}
 use Rattle.model.proofs.Lasting.{KeptSound, fixed-step, length-step, sound-step}
-use Rattle.dispatcher.specs.declared.state.TaskState.{TaskState}
+use Rattle.entries.specs.declared.state.TaskState.{TaskState}
 use Rattle.dispatcher.specs.declared.state.State.{State}
 use Rattle.dispatcher.specs.declared.tick.TickAnswer.the-variants.{Refused as TickRefused}
-use Rattle.dispatcher.specs.Holds.{fixedOf, jobOf, rowOf, withJob, entriesOf, modelOf, withRows, withModel}
-use Rattle.dispatcher.specs.Sound.{entrySound, entriesSound, isSound}
+use Rattle.entries.specs.Entry.{fixedOf, jobOf, rowOf, withJob}
+use Rattle.dispatcher.specs.Holds.{entriesOf, modelOf, withRows, withModel}
+use Rattle.entries.specs.Sound.{entrySound}
+use Rattle.dispatcher.specs.Sound.{entriesSound, isSound}
 use Rattle.sheet.specs.Answers.{noTask}
 use Rattle.dispatcher.specs.Answers.{notSound, releaseAnswer, tickAnswer}
 use Rattle.dispatcher.specs.Calls.{releasedBy, releaseOf, tickedBy, tickOf}
-use Rattle.dispatcher.proofs.Soundness.{sharesIn, SoundEntry, SoundState, entry-facts, sound-entry, state-facts, sound-state, within-bounds}
+use Rattle.entries.proofs.Soundness.{SoundEntry, entry-facts, sound-entry, within-bounds}
+use Rattle.dispatcher.proofs.Soundness.{sharesIn, SoundState, state-facts, sound-state}
 use Rattle.dispatcher.proofs.Entries.{noEntry, sound-in}
 use Rattle.dispatcher.proofs.Rows.{rows-rest, model-own, model-with, no-entry-row}
 

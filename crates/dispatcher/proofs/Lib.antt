@@ -1,5 +1,4 @@
 -- Laws that belong to no one function.
-pub mod NodeSets
 pub mod Soundness
 pub mod Entries
 pub mod Rows
@@ -8,4 +7,3 @@ pub mod Ticks
 pub mod Boards
 pub mod Laws
 pub mod Shown
-pub mod Starts

@@ -14,10 +14,11 @@ use Rattle.sheet.specs.declared.answer.Answer.the-variants.{Accepted, Refused}
 use Rattle.sheet.specs.Answers.{refusedIf, _orElse_}
 use Rattle.model.specs.Row.{isHigh, releasedRow}
 use Rattle.model.specs.Step.{Refusal, refusal, unknownTask, lowInCritical, tooEarly, step, stepBy, release, released, releaseRefusal}
-use Rattle.dispatcher.specs.declared.state.TaskState.{TaskState}
+use Rattle.entries.specs.declared.state.TaskState.{TaskState}
 use Rattle.dispatcher.specs.declared.state.State.{State}
 use Rattle.dispatcher.specs.declared.release.Released.{Released}
-use Rattle.dispatcher.specs.Holds.{fixedOf, jobOf, rowOf, withJob, entriesOf, modelOf, withModel}
+use Rattle.entries.specs.Entry.{fixedOf, jobOf, rowOf, withJob}
+use Rattle.dispatcher.specs.Holds.{entriesOf, modelOf, withModel}
 use Rattle.dispatcher.specs.Sound.{isSound}
 use Rattle.dispatcher.specs.Answers.{refusalAnswer}
 use Rattle.dispatcher.specs.Calls.{releasedBy, releaseOf}
@@ -29,11 +30,6 @@ in-order : (a b : Bool) (i : ℕ) → refusalAnswer (cond a (refusal lowInCritic
 in-order true b i = refl
 in-order false true i = refl
 in-order false false i = refl
-
--- Two rows whose causes the code tests by their opposites.
-pub two-rows : (a b : Bool) (n m i : ℕ) (first later whole : Answer) → first ≡ refusedIf (not (not a)) n i → later ≡ refusedIf (not (not b)) m i
-    → whole ≡ (first orElse later) → whole ≡ (refusedIf a n i orElse refusedIf b m i)
-two-rows a b n m i first later whole f l w = w ∙ rw (f, l, Bool·not-not a, Bool·not-not b)
 
 -- An accepting answer stands for no refusal.
 pub no-refusal : (o : Option Refusal) → refusalAnswer o ≡ Accepted → o ≡ none

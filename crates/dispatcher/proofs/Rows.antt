@@ -8,9 +8,10 @@ use lib.ListN.{length, getD, set, take, drop, length-map, List·getD-map}
 use Rattle.model.specs.Row.{Fixed, Job, Row}
 use Rattle.model.specs.Step.{Model, noRow, rowAt}
 use Rattle.model.specs.Claim.{fixedOf as rowFixed}
-use Rattle.dispatcher.specs.declared.state.TaskState.{TaskState}
+use Rattle.entries.specs.declared.state.TaskState.{TaskState}
 use Rattle.dispatcher.specs.declared.state.State.{State}
-use Rattle.dispatcher.specs.Holds.{fixedOf, jobOf, rowOf, withJob, entriesOf, modelOf, withRows, withModel}
+use Rattle.entries.specs.Entry.{fixedOf, jobOf, rowOf, withJob}
+use Rattle.dispatcher.specs.Holds.{entriesOf, modelOf, withRows, withModel}
 use Rattle.dispatcher.proofs.Entries.{noEntry, entryAt, entries-length, entries-at}
 
 -- One entry: its own job put back changes nothing, a job put back is read again, and the last one counts.

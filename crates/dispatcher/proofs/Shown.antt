@@ -16,7 +16,7 @@ use Rattle.dispatcher.specs.Holds.{modelOf}
 use Rattle.dispatcher.specs.Sound.{isSound}
 use Rattle.dispatcher.specs.Board.{unused, idle, pairsOf, block, blocks, boardBytes}
 use Rattle.dispatcher.proofs.Soundness.{sharesIn}
-use Rattle.dispatcher.proofs.NodeSets.{running-rises}
+use Rattle.entries.proofs.NodeSets.{running-rises}
 use Rattle.dispatcher.proofs.Boards.{pairs-length, running-few, block-length, blocks-length, shares-more, shares-part, shares-fit, board-length, board-whole}
 use Rattle.dispatcher.proofs.Rows.{model-length}
 

@@ -16,12 +16,14 @@ use Rattle.model.specs.Row.{Fixed, Row, isSubset, runningSet, tickedRow, isLate
 use Rattle.model.specs.Step.{Model, Refusal, refusal, wrongCount, notRunning, step, ticked, noRow, rowAt, reportRefusal, tickRefusal, tickedRows, lowestLate, switching}
 use Rattle.model.specs.Claim.{fixedOf as rowFixed}
 use Rattle.model.proofs.Steps.{length-ticked}
-use Rattle.dispatcher.specs.declared.state.TaskState.{TaskState}
+use Rattle.entries.specs.declared.state.TaskState.{TaskState}
 use Rattle.dispatcher.specs.declared.state.State.{State}
 use Rattle.dispatcher.specs.declared.tick.Ticked.{Ticked}
 use Rattle.dispatcher.specs.declared.tick.TickAnswer.the-variants.{Ran, Switched, Refused as TickRefused}
-use Rattle.dispatcher.specs.Holds.{rowOf, entriesOf, modelOf, withJob, withModel}
-use Rattle.dispatcher.specs.Sound.{entrySound, isSound}
+use Rattle.entries.specs.Entry.{rowOf, withJob}
+use Rattle.dispatcher.specs.Holds.{entriesOf, modelOf, withModel}
+use Rattle.entries.specs.Sound.{entrySound}
+use Rattle.dispatcher.specs.Sound.{isSound}
 use Rattle.dispatcher.specs.Answers.{notSound}
 use Rattle.dispatcher.specs.Calls.{tickedBy, tickOf}
 use Rattle.dispatcher.proofs.Soundness.{ranges-kept, few-entries}

@@ -1,7 +1,6 @@
--- In reading order: the state and the model that it holds, soundness, the answers, the calls Release and Tick, Board, Start.
+-- In reading order: the state and the model that it holds, soundness, the answers, the calls Release and Tick, Board.
 pub mod Holds
 pub mod Sound
 pub mod Answers
 pub mod Calls
 pub mod Board
-pub mod Start

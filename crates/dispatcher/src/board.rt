@@ -8,11 +8,11 @@ ghost use Rattle.nodes.specs.Sets.{members};
 ghost use Rattle.dispatcher.specs.Holds.{modelOf};
 ghost use Rattle.dispatcher.specs.Sound.{isSound};
 ghost use Rattle.dispatcher.specs.Board.{unused, idle, pairsOf, boardBytes, boardedOf, boardOf};
-use crate::entry::running;
-use crate::entry::share_in;
 use crate::sound::NOT_SOUND;
 use crate::sound::is_sound;
 use crate::state::State;
+use entries::entry::running;
+use entries::entry::share_in;
 use sheet::answer::Answer;
 use sheet::answer::NO_TASK;
 

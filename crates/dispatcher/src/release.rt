@@ -1,44 +1,25 @@
 // Release.
 ghost use mathlib.Core.Path.{_≡_};
-ghost use mathlib.Core.Bool.{true, not, _&&_, _||_};
-ghost use lib.Dec.{ltb};
-ghost use Rattle.sheet.specs.Answers.{refusedIf, _orElse_};
-ghost use Rattle.model.specs.Row.{isHigh};
-ghost use Rattle.model.specs.Step.{lowInCritical, tooEarly, releaseRefusal};
-ghost use Rattle.dispatcher.specs.Holds.{fixedOf, modelOf};
+ghost use mathlib.Core.Bool.{true};
+ghost use Rattle.model.specs.Step.{releaseRefusal};
+ghost use Rattle.dispatcher.specs.Holds.{modelOf};
 ghost use Rattle.dispatcher.specs.Sound.{isSound};
 ghost use Rattle.dispatcher.specs.Answers.{refusalAnswer};
 ghost use Rattle.dispatcher.specs.Calls.{releaseOf};
-use crate::entry::HIGH;
-use crate::entry::released;
 use crate::sound::NOT_SOUND;
 use crate::sound::is_sound;
 use crate::state::State;
-use crate::state::TaskState;
+use entries::entry::released;
+use entries::release::entry_answer;
 use sheet::answer::Answer;
 use sheet::answer::NO_TASK;
-use sheet::answer::or_else;
-use sheet::answer::refused_unless;
 
 const UNKNOWN_TASK: u8 = 11;
-
-const LOW_IN_CRITICAL: u8 = 12;
-
-const TOO_EARLY: u8 = 13;
 
 // Release's answer beside the state.
 pub struct Released {
     pub state: State,
     pub answer: Answer,
-}
-
-// Rows 12 and 13, of one entry.
-fn entry_answer(e: TaskState, critical: bool, task: u8) -> Answer
-    ensures { λ r. ⌜ r ≡ refusedIf (critical && not (isHigh (fixedOf e))) lowInCritical task orElse refusedIf (e .alive || ltb (e .age) (e .deadline)) tooEarly task ⌝ }
-{
-    let by_mode = refused_unless(!(critical & (e.level != HIGH)), LOW_IN_CRITICAL, task);
-    let by_job = refused_unless(!(e.alive | (e.age < e.deadline)), TOO_EARLY, task);
-    or_else(by_mode, by_job)
 }
 
 // Rows 11 to 13.

@@ -6,32 +6,12 @@ ghost use lib.Dec.{leb};
 ghost use Rattle.sheet.specs.Rules.{within};
 ghost use Rattle.shares.specs.Totals.{typicalTotal, criticalTotal};
 ghost use Rattle.dispatcher.specs.Holds.{entriesOf, modelOf, sharesOf};
-ghost use Rattle.dispatcher.specs.Sound.{entrySound, entriesSound, isSound};
-use crate::entry::all_ended;
+ghost use Rattle.dispatcher.specs.Sound.{entriesSound, isSound};
 use crate::state::State;
-use crate::state::TaskState;
-use sheet::rules::FIGURE_LIMIT;
+use entries::sound::entry_sound;
 use sheet::rules::is_within;
-use sheet::rules::masks_lawful;
 
 pub const NOT_SOUND: u8 = 10;
-
-pub fn entry_sound(e: TaskState) -> bool
-    ensures { λ r. ⌜ r ≡ entrySound e ⌝ }
-{
-    let nodes = e.nodes;
-    if !is_within(1, 32, nodes as u32) {
-        return false;
-    }
-    let predecessors = e.predecessors;
-    (e.level <= 1)
-        & masks_lawful(predecessors, nodes)
-        & is_within(1, FIGURE_LIMIT, e.deadline)
-        & (e.threshold <= e.deadline)
-        & (e.age <= e.deadline)
-        & (e.ended <= nodes::full(nodes as u32))
-        & !(e.alive & all_ended(nodes, e.ended))
-}
 
 // Whether each of the first n entries is sound, and their shares total at most M in either mode.
 fn entries_sound(state: State) -> bool

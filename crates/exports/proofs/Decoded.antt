@@ -10,7 +10,7 @@ use lib.ListN.{set, replicate}
 use Rattle.nodes.specs.Sets.{range}
 use Rattle.sheet.specs.Format.{byteAt, cells, cellsFrom}
 use Rattle.sheet.proofs.Cells.{cells-none, cells-store}
-use Rattle.dispatcher.specs.declared.state.TaskState.{TaskState}
+use Rattle.entries.specs.declared.state.TaskState.{TaskState}
 use Rattle.dispatcher.specs.declared.state.State.{State}
 use Rattle.exports.specs.StateBytes.{isSet, entryStart, entryFrom, stateFrom}
 

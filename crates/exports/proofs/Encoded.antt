@@ -10,7 +10,7 @@ use Rattle.nodes.specs.Sets.{range}
 use Rattle.planner.specs.Enumeration.{each}
 use Rattle.planner.specs.Writing.{laid}
 use Rattle.planner.proofs.Bytes.{laid-none, laid-length, laid-more, each-next}
-use Rattle.dispatcher.specs.declared.state.TaskState.{TaskState}
+use Rattle.entries.specs.declared.state.TaskState.{TaskState}
 use Rattle.dispatcher.specs.declared.state.State.{State}
 use Rattle.exports.specs.StateBytes.{u32Bytes, shapeBytes, timeBytes, maskBytes, entryBytes, missingEntry, headBytes, entriesBytes, stateBytes, stored}
 

@@ -3,7 +3,7 @@ ghost use mathlib.Core.Path.{_≡_};
 ghost use lib.ListN.{length};
 ghost use Rattle.dispatcher.specs.Calls.{releaseOf, tickOf};
 ghost use Rattle.dispatcher.specs.Board.{boardedOf, boardOf};
-ghost use Rattle.dispatcher.specs.Start.{startOf};
+ghost use Rattle.start.specs.Start.{startOf};
 ghost use Rattle.exports.specs.Fields.{answerWord};
 ghost use Rattle.exports.specs.StateBytes.{stateFrom, stored};
 ghost use Rattle.exports.specs.Ticks.{tickWord};
@@ -33,7 +33,7 @@ pub extern "C" fn dibwunek_start(sheet: &[u8], out: &mut [u8]) -> u32
     ensures answered { λ r. ⌜ r ≡ answerWord (startOf (now (sheet .entry)) .answer) ⌝ }
     ensures written { λ _. ⌜ now (out .exit) ≡ stored (startOf (now (sheet .entry)) .state) (now (out .entry)) ⌝ }
 {
-    let started = dispatcher::start::start(sheet);
+    let started = start::start(sheet);
     let after = started.state;
     let answer = started.answer;
     write_state(after, out);

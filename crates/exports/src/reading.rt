@@ -1,6 +1,6 @@
 // The sheet reader.
 ghost use mathlib.Core.Path.{_≡_};
-ghost use Rattle.sheet.specs.Reading.{readOf};
+ghost use Rattle.reader.specs.Reading.{readOf};
 ghost use Rattle.exports.specs.Fields.{answerWord, fieldOf};
 use crate::fields::answer_word;
 use crate::fields::field_of;
@@ -10,7 +10,7 @@ use crate::fields::field_of;
 pub extern "C" fn dibwunek_read(sheet: &[u8]) -> u32
     ensures { λ r. ⌜ r ≡ answerWord (readOf (now (sheet .entry)) .answer) ⌝ }
 {
-    let reading = sheet::reader::read(sheet);
+    let reading = reader::read(sheet);
     let answer = reading.answer;
     answer_word(answer)
 }
@@ -20,7 +20,7 @@ pub extern "C" fn dibwunek_read(sheet: &[u8]) -> u32
 pub extern "C" fn dibwunek_read_field(sheet: &[u8], task: usize, field: usize) -> u32
     ensures { λ r. ⌜ r ≡ fieldOf (readOf (now (sheet .entry)) .set) task field ⌝ }
 {
-    let reading = sheet::reader::read(sheet);
+    let reading = reader::read(sheet);
     let set = reading.set;
     field_of(set, task, field)
 }

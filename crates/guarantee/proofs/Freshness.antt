@@ -26,14 +26,18 @@ use Rattle.model.specs.Row.{Row}
 use Rattle.model.specs.Step.{noRow, rowAt}
 use Rattle.model.specs.Plan.{freshRow, freshRows, fresh}
 use Rattle.model.proofs.Fresh.{fresh-length, fresh-row}
-use Rattle.dispatcher.specs.declared.state.TaskState.{TaskState}
+use Rattle.entries.specs.declared.state.TaskState.{TaskState}
 use Rattle.dispatcher.specs.declared.state.State.{State}
-use Rattle.dispatcher.specs.Holds.{fixedOf, jobOf, rowOf, entriesOf, modelOf, sharesOf}
-use Rattle.dispatcher.specs.Sound.{entrySound, entriesSound, isSound}
-use Rattle.dispatcher.specs.Start.{freshEntry, zeroEntry, entriesBelow, freshState}
+use Rattle.entries.specs.Entry.{fixedOf, jobOf, rowOf}
+use Rattle.dispatcher.specs.Holds.{entriesOf, modelOf, sharesOf}
+use Rattle.entries.specs.Sound.{entrySound}
+use Rattle.dispatcher.specs.Sound.{entriesSound, isSound}
+use Rattle.entries.specs.Fresh.{freshEntry, zeroEntry}
+use Rattle.start.specs.Start.{entriesBelow, freshState}
 use Rattle.dispatcher.proofs.Entries.{noEntry, entryAt, entries-length, entries-at}
 use Rattle.dispatcher.proofs.Rows.{model-length, model-row}
-use Rattle.dispatcher.proofs.Soundness.{sound-entry, sound-state}
+use Rattle.entries.proofs.Soundness.{sound-entry}
+use Rattle.dispatcher.proofs.Soundness.{sound-state}
 use Rattle.guarantee.proofs.Planning.{planned}
 
 -- A fresh entry is a fresh row.

@@ -9,7 +9,8 @@ use lib.Seq.{sets, length-sets}
 use Rattle.model.specs.Row.{Job, Row}
 use Rattle.model.specs.Step.{Model, release, tick}
 use Rattle.dispatcher.specs.declared.state.State.{State}
-use Rattle.dispatcher.specs.Holds.{jobOf, rowOf, entriesOf, modelOf}
+use Rattle.entries.specs.Entry.{jobOf, rowOf}
+use Rattle.dispatcher.specs.Holds.{entriesOf, modelOf}
 use Rattle.dispatcher.proofs.Entries.{entryAt, entries-length, left-next, left-none}
 use Rattle.sheet.specs.declared.answer.Answer.{Answer}
 use Rattle.sheet.specs.Answers.{numberOf, taskOf}

@@ -11,7 +11,7 @@ use Rattle.model.specs.Run.{after}
 use Rattle.dispatcher.specs.declared.state.State.{State}
 use Rattle.dispatcher.specs.Holds.{modelOf}
 use Rattle.dispatcher.specs.Sound.{isSound}
-use Rattle.dispatcher.specs.Start.{startOf}
+use Rattle.start.specs.Start.{startOf}
 use Rattle.guarantee.specs.Runs.{Said, stateOf, modelSaid}
 use Rattle.guarantee.specs.Guarantee.{modelFor, startState, Guarantee}
 use Rattle.guarantee.specs.Encoding.{callsOf}

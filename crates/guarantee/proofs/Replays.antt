@@ -14,7 +14,7 @@ use Rattle.sheet.specs.declared.answer.Answer.{Answer}
 use Rattle.sheet.specs.declared.answer.Answer.the-variants.{Accepted, Refused}
 use Rattle.sheet.specs.Answers.{noTask}
 use Rattle.sheet.specs.Format.{taskIn}
-use Rattle.sheet.specs.Reading.{readOf}
+use Rattle.reader.specs.Reading.{readOf}
 use Rattle.sheet.proofs.Cells.{cells-length}
 use Rattle.shares.specs.Totals.{shareAt}
 use Rattle.planner.specs.Plan.{chosenFor, choiceAnswer, sharesOf}
@@ -22,16 +22,17 @@ use Rattle.planner.proofs.Accepted.{both-accepted, accepted-lawful}
 use Rattle.model.specs.Row.{Row}
 use Rattle.model.specs.Step.{Call, release, tick, step}
 use Rattle.dispatcher.specs.declared.state.State.{State}
-use Rattle.dispatcher.specs.declared.state.TaskState.{TaskState}
+use Rattle.entries.specs.declared.state.TaskState.{TaskState}
 use Rattle.dispatcher.specs.declared.release.Released.{Released}
-use Rattle.dispatcher.specs.declared.start.Started.{Started}
+use Rattle.start.specs.declared.Started.{Started}
 use Rattle.dispatcher.specs.declared.tick.Ticked.{Ticked}
 use Rattle.dispatcher.specs.declared.tick.TickAnswer.the-variants.{Refused as TickRefused}
 use Rattle.dispatcher.specs.Answers.{notSound}
 use Rattle.dispatcher.specs.Holds.{modelOf, withRows, withModel}
 use Rattle.dispatcher.specs.Sound.{isSound}
 use Rattle.dispatcher.specs.Calls.{releasedBy, tickedBy, releaseOf, tickOf}
-use Rattle.dispatcher.specs.Start.{freshEntry, zeroEntry, entriesBelow, freshState, zeroState, startAnswer, startedWith, startOf}
+use Rattle.entries.specs.Fresh.{freshEntry, zeroEntry}
+use Rattle.start.specs.Start.{entriesBelow, freshState, zeroState, startAnswer, startedWith, startOf}
 use Rattle.guarantee.specs.declared.turn.Turn.{Turn}
 use Rattle.guarantee.specs.declared.replay.Replayed.the-variants.{Written, Short}
 use Rattle.guarantee.specs.Runs.{stateOf, saidOf}

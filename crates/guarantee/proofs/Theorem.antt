@@ -6,7 +6,7 @@ use mathlib.Core.Option.{some}
 use mathlib.Core.Path.{_≡_, refl, sym, ap, _∙_}
 use Rattle.sheet.specs.declared.answer.Answer.{Answer}
 use Rattle.sheet.specs.declared.answer.Answer.the-variants.{Accepted, Refused}
-use Rattle.sheet.specs.Reading.{readOf}
+use Rattle.reader.specs.Reading.{readOf}
 use Rattle.planner.specs.Lawful.{LawfulSet}
 use Rattle.planner.specs.Plan.{chosenFor, choiceAnswer}
 use Rattle.planner.proofs.Accepted.{both-accepted, accepted-lawful}
@@ -17,7 +17,7 @@ use Rattle.model.proofs.Theorem.{demand3}
 use Rattle.dispatcher.specs.declared.state.State.{State}
 use Rattle.dispatcher.specs.Holds.{modelOf}
 use Rattle.dispatcher.specs.Sound.{isSound}
-use Rattle.dispatcher.specs.Start.{freshState, startAnswer, startedWith, startOf}
+use Rattle.start.specs.Start.{freshState, startAnswer, startedWith, startOf}
 use Rattle.guarantee.specs.Runs.{allModelSaid}
 use Rattle.guarantee.specs.Guarantee.{tasksOf, sharesFor, modelFor, startState, Guaranteed, Guarantee}
 use Rattle.guarantee.proofs.Together.{run-said, run-model}

@@ -4,7 +4,7 @@ use mathlib.Core.List.{List}
 use mathlib.Core.Path.{_≡_}
 use Rattle.sheet.specs.declared.answer.Answer.the-variants.{Accepted}
 use Rattle.sheet.specs.declared.task.TaskSet.{TaskSet}
-use Rattle.sheet.specs.Reading.{readOf}
+use Rattle.reader.specs.Reading.{readOf}
 use Rattle.shares.specs.declared.share.Share.{Share}
 use Rattle.planner.specs.Plan.{chosenFor, sharesOf}
 use Rattle.model.specs.Step.{Model, Call}
@@ -13,7 +13,7 @@ use Rattle.model.specs.Plan.{fresh}
 use Rattle.model.specs.Claim.{Deadline, Capacity, Nominal}
 use Rattle.dispatcher.specs.declared.state.State.{State}
 use Rattle.dispatcher.specs.Holds.{modelOf}
-use Rattle.dispatcher.specs.Start.{startOf}
+use Rattle.start.specs.Start.{startOf}
 use Rattle.guarantee.specs.Runs.{stateAfter, allSaid, allModelSaid}
 
 -- What the sheet says.

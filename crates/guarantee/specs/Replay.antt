@@ -11,7 +11,7 @@ use Rattle.model.specs.Step.{Model, Call, step}
 use Rattle.model.specs.Run.{after}
 use Rattle.dispatcher.specs.declared.state.State.{State}
 use Rattle.dispatcher.specs.Holds.{modelOf}
-use Rattle.dispatcher.specs.Start.{startOf}
+use Rattle.start.specs.Start.{startOf}
 use Rattle.guarantee.specs.declared.replay.Replayed.{Replayed}
 use Rattle.guarantee.specs.declared.replay.Replayed.the-variants.{Written, Short}
 use Rattle.guarantee.specs.Runs.{stateOf, saidOf, modelSaid}

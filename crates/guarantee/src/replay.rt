@@ -11,9 +11,9 @@ use crate::encoding::size_at;
 use crate::record::put_answer;
 use crate::record::put_turn;
 use crate::turn::turn_at;
-use dispatcher::start::start;
 use dispatcher::state::State;
 use sheet::answer::Answer;
+use start::start;
 
 // How many bytes were written, or that the buffer is too short for them.
 pub enum Replayed {

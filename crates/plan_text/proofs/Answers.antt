@@ -13,7 +13,7 @@ use Rattle.sheet.specs.declared.answer.Answer.{Answer}
 use Rattle.sheet.specs.declared.answer.Answer.the-variants.{Accepted, Refused}
 use Rattle.sheet.specs.Answers.{noTask, refusedIf, _orElse_}
 use Rattle.sheet.specs.Format.{byteAt, countOf, taskSetOf}
-use Rattle.sheet.specs.Reading.{readOf}
+use Rattle.reader.specs.Reading.{readOf}
 use Rattle.planner.specs.Plan.{shortBuffer, chosenFor, sharesOf, choiceAnswer, planBytes, planAnswer, planned}
 use Rattle.planner.proofs.Accepted.{accepted-set, accepted-lawful}
 use Rattle.plan_text.specs.Printed.{refusalLine, linesFor, printedAnswer, textOf}

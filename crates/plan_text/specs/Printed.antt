@@ -10,7 +10,7 @@ use Rattle.sheet.specs.declared.answer.Answer.the-variants.{Accepted, Refused}
 use Rattle.sheet.specs.declared.task.TaskSet.{TaskSet}
 use Rattle.sheet.specs.Answers.{_orElse_}
 use Rattle.sheet.specs.Format.{taskIn}
-use Rattle.sheet.specs.Reading.{readOf}
+use Rattle.reader.specs.Reading.{readOf}
 use Rattle.shares.specs.declared.share.Share.{Share}
 use Rattle.shares.specs.Deadline.{virtualOf}
 use Rattle.nodes.specs.Sets.{range}

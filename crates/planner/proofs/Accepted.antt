@@ -12,8 +12,8 @@ use Rattle.sheet.specs.declared.answer.Answer.the-variants.{Accepted, Refused}
 use Rattle.sheet.specs.declared.task.Task.{Task}
 use Rattle.sheet.specs.Answers.{refusedIf, _orElse_, firstOver, badHeader, badRecord, badFigure, badMask, notHeavy, noTask}
 use Rattle.sheet.specs.Format.{processorsOf, countOf, offsetOf, lengthOf, levelAt, nodesAt, taskAt, tasksBelow, taskSetOf, taskIn, missingTask, zeroTask}
-use Rattle.sheet.specs.Rules.{within, levelLawful, shapeLawful, figuresLawful, masksLawful, isHeavy}
-use Rattle.sheet.specs.Reading.{headerLawful, headerAnswer, placeAnswer, endAnswer, shapeAnswer, taskAnswer, recordAnswer, answerOf, readingOf, readOf}
+use Rattle.sheet.specs.Rules.{within, levelLawful, shapeLawful, figuresLawful, masksLawful, isHeavy, taskAnswer}
+use Rattle.reader.specs.Reading.{headerLawful, headerAnswer, placeAnswer, endAnswer, shapeAnswer, recordAnswer, answerOf, readingOf, readOf}
 use Rattle.sheet.proofs.Cells.{cells-length}
 use Rattle.sheet.proofs.Logic.{left-true, right-true}
 use Rattle.planner.specs.Lawful.{LawfulTask, LawfulSet}

@@ -11,7 +11,7 @@ use Rattle.sheet.specs.declared.task.Task.{Task}
 use Rattle.sheet.specs.declared.task.TaskSet.{TaskSet}
 use Rattle.sheet.specs.Answers.{noTask, refusedIf, _orElse_, firstOver}
 use Rattle.sheet.specs.Format.{cells, taskIn}
-use Rattle.sheet.specs.Reading.{readOf}
+use Rattle.reader.specs.Reading.{readOf}
 use Rattle.shares.specs.declared.share.Share.{Share}
 use Rattle.shares.specs.Deadline.{virtualOf}
 use Rattle.planner.specs.declared.choice.Chosen.{Chosen}

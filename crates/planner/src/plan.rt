@@ -7,11 +7,11 @@ ghost use Rattle.shares.specs.Totals.{shareIn};
 ghost use Rattle.planner.specs.Plan.{blockBytes, virtualBytes, planBytes, planAnswer, planned};
 ghost use Rattle.planner.specs.Writing.{laid, PairsFit, BlocksFit, VirtualsFit, PlanFits};
 use crate::choice::choose;
+use reader::read;
 use shares::deadline::virtual_of;
 use shares::share::Share;
 use sheet::answer::Answer;
 use sheet::answer::NO_TASK;
-use sheet::reader::read;
 use sheet::task::TaskSet;
 
 const SHORT_BUFFER: u8 = 9;

@@ -2,6 +2,3 @@
 pub mod Logic
 pub mod Cells
 pub mod Faults
-pub mod Places
-pub mod Records
-pub mod Readings

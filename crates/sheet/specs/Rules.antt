@@ -4,7 +4,10 @@ use mathlib.Core.Bool.{Bool, true, _&&_, _||_, not}
 use mathlib.Core.List.{List}
 use lib.Dec.{leb, ltb, eqb}
 use lib.ListN.{getD}
+use Rattle.sheet.specs.declared.answer.Answer.{Answer}
 use Rattle.sheet.specs.declared.task.Figures.{Figures}
+use Rattle.sheet.specs.declared.task.Task.{Task}
+use Rattle.sheet.specs.Answers.{badFigure, badMask, notHeavy, refusedIf, _orElse_}
 
 -- Whether a number lies in low to high, both included.
 abbrev pub within : ℕ → ℕ → ℕ → Bool
@@ -66,3 +69,10 @@ masksLawful masks nodes = allBelow nodes (maskLawful masks)
 -- 01: "Heavy means CO > D."
 unfoldable pub isHeavy : Figures → Bool
 isHeavy f = ltb (f .deadline) (f .overload .work)
+
+-- Rows 4, 5 and 6, of a task with the number i.
+unfoldable pub taskAnswer : Task → ℕ → Answer
+taskAnswer t i =
+    refusedIf (not (figuresLawful (t .level) (t .figures))) badFigure i
+    orElse refusedIf (not (masksLawful (t .predecessors) (t .nodes))) badMask i
+    orElse refusedIf (not (isHeavy (t .figures))) notHeavy i

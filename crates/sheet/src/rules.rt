@@ -1,8 +1,18 @@
 // The rules that a record keeps, each a test on what the record says.
 ghost use mathlib.Core.Path.{_≡_};
 ghost use Prim.Native.Nat.{_+_, _≤_};
-ghost use Rattle.sheet.specs.Rules.{within, shapeLawful, inRange, inOrder, lowLawful, figuresLawful, masksLawful, isHeavy};
+ghost use Rattle.sheet.specs.Rules.{within, shapeLawful, inRange, inOrder, lowLawful, figuresLawful, masksLawful, isHeavy, taskAnswer};
+use crate::answer::Answer;
+use crate::answer::or_else;
+use crate::answer::refused_unless;
 use crate::task::Figures;
+use crate::task::Task;
+
+const BAD_FIGURE: u8 = 4;
+
+const BAD_MASK: u8 = 5;
+
+const NOT_HEAVY: u8 = 6;
 
 pub const FIGURE_LIMIT: u32 = 10000;
 
@@ -76,4 +86,17 @@ pub fn is_heavy(f: Figures) -> bool
     ensures { λ r. ⌜ r ≡ isHeavy f ⌝ }
 {
     f.deadline < f.overload.work
+}
+
+// Refusals 4, 5 and 6 of a task with the number i.
+pub fn task_answer(t: Task, i: u8) -> Answer
+    requires { ⌜ t .nodes ≤ 32 ⌝ }
+    ensures { λ r. ⌜ r ≡ taskAnswer t i ⌝ }
+{
+    let figures = t.figures;
+    let predecessors = t.predecessors;
+    let by_figures = refused_unless(figures_lawful(t.level, figures), BAD_FIGURE, i);
+    let by_masks = refused_unless(masks_lawful(predecessors, t.nodes), BAD_MASK, i);
+    let by_weight = refused_unless(is_heavy(figures), NOT_HEAVY, i);
+    or_else(by_figures, or_else(by_masks, by_weight))
 }

@@ -1,4 +1,6 @@
 // What a sheet says of its tasks, as structs by value.
+ghost use mathlib.Core.Path.{_≡_};
+ghost use Rattle.sheet.specs.Format.{zeroTask};
 
 // What a job may take, in ticks: its work, over all nodes (01's C), and its span, along any chain of nodes (01's L).
 pub struct Budget {
@@ -27,4 +29,21 @@ pub struct TaskSet {
     pub processors: u8,
     pub count: u8,
     pub tasks: [Task; 16],
+}
+
+// A task of zeros: what stands in the place of one that is not there.
+pub fn zero_task() -> Task
+    ensures { λ r. ⌜ r ≡ zeroTask ⌝ }
+{
+    let none = Budget { work: 0, span: 0 };
+    Task {
+        level: 0,
+        nodes: 0,
+        figures: Figures {
+            deadline: 0,
+            nominal: none,
+            overload: none,
+        },
+        predecessors: [0u32; 32],
+    }
 }

@@ -5,7 +5,8 @@ use mathlib.Core.Path.{_≡_, refl, _∙_}
 use native.Mathlib.Omega.{arith}
 use borrow.Author.Needs.{needs}
 use lib.ListN.{length, length-map}
-use Rattle.dispatcher.proofs.Soundness.{within-bounds, state-facts, few-entries, few-nodes}
+use Rattle.entries.proofs.Soundness.{within-bounds, few-nodes}
+use Rattle.dispatcher.proofs.Soundness.{state-facts, few-entries}
 use Rattle.dispatcher.proofs.Entries.{sound-at}
 use Rattle.dispatcher.proofs.Boards.{Boarding, boarding-none, boarding-room, boarding-fits, boarding-more, boarding-all}
 use Rattle.dispatcher.proofs.board.put_tasks.Statement.{statement}

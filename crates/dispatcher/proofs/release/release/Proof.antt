@@ -6,7 +6,7 @@ use native.Mathlib.Omega.{arith}
 use borrow.Author.Tests.{not-true, not-false}
 use lib.ListN.{length, length-map, set}
 use Rattle.sheet.specs.declared.answer.Answer.the-variants.{Accepted}
-use Rattle.dispatcher.specs.declared.state.TaskState.{TaskState}
+use Rattle.entries.specs.declared.state.TaskState.{TaskState}
 use Rattle.dispatcher.specs.Sound.{isSound}
 use Rattle.dispatcher.proofs.Soundness.{few-entries}
 use Rattle.dispatcher.proofs.Releases.{accepted-known, release-unsound, release-refused, release-accepted}

@@ -7,9 +7,10 @@ use native.Mathlib.Omega.{arith}
 use borrow.Author.Needs.{needs}
 use lib.ListN.{length, length-map}
 use Rattle.model.specs.Row.{switchedRow}
-use Rattle.dispatcher.specs.declared.state.TaskState.{TaskState}
+use Rattle.entries.specs.declared.state.TaskState.{TaskState}
 use Rattle.dispatcher.specs.declared.state.State.{State}
-use Rattle.dispatcher.specs.Holds.{rowOf, withJob, entriesOf, modelOf, withModel}
+use Rattle.entries.specs.Entry.{rowOf, withJob}
+use Rattle.dispatcher.specs.Holds.{entriesOf, modelOf, withModel}
 use Rattle.dispatcher.proofs.Entries.{entryAt}
 use Rattle.dispatcher.proofs.Rows.{writtenTo, written-at, written-more}
 use Rattle.dispatcher.proofs.Ticks.{switchedBelow, written-none, switched-below, switched-next, switched-whole}

@@ -12,12 +12,13 @@ use lib.ListN.{length, length-map, getD}
 use Rattle.nodes.specs.Sets.{isWithin}
 use Rattle.sheet.specs.Rules.{within}
 use Rattle.model.specs.Row.{isSubset, runningSet, tickedRow}
-use Rattle.dispatcher.specs.declared.state.TaskState.{TaskState}
+use Rattle.entries.specs.declared.state.TaskState.{TaskState}
 use Rattle.dispatcher.specs.declared.tick.TickAnswer.the-variants.{Refused}
-use Rattle.dispatcher.specs.Holds.{rowOf, withJob}
-use Rattle.dispatcher.specs.Sound.{entrySound}
-use Rattle.dispatcher.proofs.NodeSets.{within-subset}
-use Rattle.dispatcher.proofs.Soundness.{ranges-broken, count-within, few-nodes}
+use Rattle.entries.specs.Entry.{rowOf, withJob}
+use Rattle.entries.specs.Sound.{entrySound}
+use Rattle.entries.proofs.NodeSets.{within-subset}
+use Rattle.entries.proofs.Soundness.{few-nodes}
+use Rattle.dispatcher.proofs.Soundness.{ranges-broken, count-within}
 use Rattle.dispatcher.proofs.Entries.{noEntry, entryAt, Passed}
 use Rattle.dispatcher.proofs.Rows.{written-at}
 use Rattle.dispatcher.proofs.Ticks.{tickedBelow, ticked-below, late-after, Scanned, scanned-none, scanned-count, scanned-broken, scanned-more, tick-unsound, tick-miscounted, scanned-unfit, scanned-wrong, scanned-ran, scanned-switched}

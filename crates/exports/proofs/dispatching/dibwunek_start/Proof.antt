@@ -1,7 +1,7 @@
 -- `exports::dispatching::dibwunek_start` meets its contract by what `start` and `write_state` ensure. Assumes nothing.
 use mathlib.Core.Path.{ap, _∙_}
 use denote.Ref.{now}
-use Rattle.dispatcher.specs.declared.start.Started.{Started}
+use Rattle.start.specs.declared.Started.{Started}
 use Rattle.exports.specs.StateBytes.{stored}
 use Rattle.exports.specs.Fields.{answerWord}
 use borrow.Author.Needs.{needs}

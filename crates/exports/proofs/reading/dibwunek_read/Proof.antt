@@ -1,6 +1,6 @@
 -- `exports::reading::dibwunek_read` meets its contract by what `read` ensures. Assumes nothing.
 use mathlib.Core.Path.{_∙_, ap}
-use Rattle.sheet.specs.declared.reader.Reading.{Reading}
+use Rattle.reader.specs.declared.Reading.{Reading}
 use Rattle.exports.specs.Fields.{answerWord}
 use borrow.Author.Needs.{needs}
 use Rattle.exports.proofs.reading.dibwunek_read.Statement.{statement}

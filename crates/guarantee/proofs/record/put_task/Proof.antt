@@ -7,7 +7,7 @@ use borrow.Author.Needs.{needs}
 use denote.Ref.{now}
 use lib.ListN.{length, length-set}
 use lib.Seq.{sets}
-use Rattle.dispatcher.specs.Holds.{jobOf}
+use Rattle.entries.specs.Entry.{jobOf}
 use Rattle.guarantee.specs.Record.{u32Bytes}
 use Rattle.guarantee.proofs.Records.{job-stored}
 use Rattle.guarantee.proofs.record.put_task.Statement.{statement}

@@ -8,8 +8,8 @@ use mathlib.Core.Path.{_≡_, sym, ap, _∙_, subst}
 use lib.ListN.{length}
 use denote.Ref.{now}
 use Rattle.sheet.specs.declared.answer.Answer.the-variants.{Accepted}
-use Rattle.sheet.specs.declared.reader.Reading.{Reading}
-use Rattle.sheet.specs.Reading.{readOf}
+use Rattle.reader.specs.declared.Reading.{Reading}
+use Rattle.reader.specs.Reading.{readOf}
 use Rattle.planner.specs.declared.choice.Chosen.{Chosen}
 use Rattle.planner.specs.Lawful.{LawfulSet}
 use Rattle.planner.proofs.Accepted.{accepted-lawful}

@@ -1,0 +1,12 @@
+-- `entries::pass::first_of` meets its contract, by its test. Assumes nothing.
+use Rattle.entries.proofs.pass.first_of.Statement.{statement}
+use Rattle.entries.proofs.pass.first_of.Tie as tie
+
+returns : tie.Need-returns
+returns c = rw (c .if1 .taken)
+
+returns-2 : tie.Need-returns-2
+returns-2 c = rw (c .if1 .left)
+
+pub first-of-spec : {M : Type 1} → statement M
+first-of-spec = tie.close (tie.spec returns returns-2)

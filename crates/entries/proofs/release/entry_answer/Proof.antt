@@ -1,0 +1,33 @@
+-- `entries::release::entry_answer` meets its contract: each row is what its callees ensure. Assumes nothing.
+use mathlib.Core.Bool.{not, _&&_, _||_}
+use lib.Dec.{ltb}
+use Rattle.model.specs.Row.{isHigh, highLevel}
+use Rattle.model.specs.Step.{lowInCritical, tooEarly}
+use Rattle.entries.specs.Entry.{fixedOf}
+use Rattle.entries.proofs.Refusals.{two-rows}
+use borrow.Author.Needs.{needs}
+use Rattle.entries.proofs.release.entry_answer.Statement.{statement}
+use Rattle.entries.proofs.release.entry_answer.Tie as tie
+
+refused-unless-requires : tie.Need-refused-unless-requires
+refused-unless-requires c κs = search needs
+
+refused-unless-requires-2 : tie.Need-refused-unless-requires-2
+refused-unless-requires-2 c κs = search needs
+
+or-else-requires : tie.Need-or-else-requires
+or-else-requires c κs = search needs
+
+returns : tie.Need-returns
+unfolding isHigh highLevel fixedOf lowInCritical tooEarly
+returns c =
+    let args = c .before .before .before .before .before .before .args in
+    let e = args .e in
+    two-rows (args .critical && not (isHigh (fixedOf e))) (e .alive || ltb (e .age) (e .deadline)) 12 13 (args .task) _ _ _
+    (c .before .before .before .before .refused-unless .ensures)
+    (c .before .refused-unless2 .ensures)
+    (c .or-else .ensures)
+
+pub entry-answer-spec : {M : Type 1} → statement M
+entry-answer-spec =
+    tie.close (tie.spec refused-unless-requires refused-unless-requires-2 or-else-requires returns)

@@ -1,0 +1,61 @@
+-- `entries::sound::entry_sound` meets its contract: k is tested first, and each other test is the definition's. Assumes nothing.
+use mathlib.Core.Bool.{true}
+use mathlib.Core.Path.{_≡_, sym, _∙_}
+use borrow.Author.Tests.{not-true, not-false}
+use Rattle.sheet.specs.Rules.{within}
+use Rattle.entries.proofs.Soundness.{within-bounds, nodes-broken, entry-by-tests}
+use borrow.Author.Needs.{needs}
+use Rattle.entries.proofs.sound.entry_sound.Statement.{statement}
+use Rattle.entries.proofs.sound.entry_sound.Tie as tie
+
+cast-is-within : tie.Need-cast-is-within
+cast-is-within c = search needs
+
+is-within-requires : tie.Need-is-within-requires
+is-within-requires c κs = search needs
+
+returns : tie.Need-returns
+returns c = sym (nodes-broken (c .before .before .args .e) (sym (c .before .is-within .ensures) ∙ not-true _ (c .if1 .taken)))
+
+-- Past the first test k is in its range.
+nodes-kept : (c : tie.Else1) → within 1 32 (c .before .before .args .e .nodes) ≡ true
+nodes-kept c = sym (c .before .is-within .ensures) ∙ not-false _ (c .if1 .left)
+
+masks-lawful-requires : tie.Need-masks-lawful-requires
+masks-lawful-requires c κs = within-bounds 1 32 _ (nodes-kept (c .before .before)) .1
+
+is-within-requires-2 : tie.Need-is-within-requires-2
+is-within-requires-2 c κs = search needs
+
+cast-full : tie.Need-cast-full
+cast-full c = search needs
+
+full-requires : tie.Need-full-requires
+full-requires c κs = search needs
+
+all-ended-requires : tie.Need-all-ended-requires
+all-ended-requires c κs = within-bounds 1 32 _ (nodes-kept (c .before .before .before .before .before .before .before .before)) .1
+
+returns-2 : tie.Need-returns-2
+returns-2 c =
+    let e = c .before .before .before .before .before .before .before .before .before .before .before .before .args .e in
+    entry-by-tests e _ _ _ _
+    (nodes-kept (c .before .before .before .before .before .before .before .before .before .before))
+    (c .before .before .before .before .before .before .before .masks-lawful .ensures)
+    (c .before .before .before .before .before .before .is-within2 .ensures)
+    (c .before .before .before .full .ensures)
+    (c .before .all-ended .ensures)
+
+pub entry-sound-spec : {M : Type 1} → statement M
+entry-sound-spec =
+    tie.close
+    (tie.spec
+    cast-is-within
+    is-within-requires
+    returns
+    masks-lawful-requires
+    is-within-requires-2
+    cast-full
+    full-requires
+    all-ended-requires
+    returns-2)

@@ -1,0 +1,120 @@
+// One entry: its ready and running nodes, and what the calls make of it.
+ghost use mathlib.Core.Path.{_≡_};
+ghost use mathlib.Core.List.{[]};
+ghost use Prim.Native.Nat.{suc, min, _≤_, _<_};
+ghost use Rattle.nodes.specs.Sets.{keptIf, setOf};
+ghost use Rattle.shares.specs.Totals.{shareIn};
+ghost use Rattle.model.specs.Row.{isSubset, allEnded, ready, runningSet, releasedRow, tickedRow, isLate, switchedRow};
+ghost use Rattle.entries.specs.Entry.{rowOf, withJob};
+use crate::state::TaskState;
+
+pub const HIGH: u8 = 1;
+
+// Whether all nodes have ended.
+pub fn all_ended(nodes: u8, ended: u32) -> bool
+    requires { ⌜ nodes ≤ 32 ⌝ }
+    ensures { λ r. ⌜ r ≡ allEnded nodes ended ⌝ }
+{
+    nodes::is_within(nodes::full(nodes as u32), ended)
+}
+
+// Whether all predecessors of a node have ended.
+fn is_unblocked(predecessors: u32, ended: u32) -> bool
+    ensures { λ r. ⌜ r ≡ isSubset predecessors ended ⌝ }
+{
+    nodes::is_within(predecessors, ended)
+}
+
+// The set of node v, or no node.
+fn node_if(kept: bool, v: u32) -> u32
+    requires { ⌜ v < 32 ⌝ }
+    ensures { λ r. ⌜ r ≡ setOf (keptIf kept v []) ⌝ }
+{
+    if kept { 1 << v } else { 0 }
+}
+
+// The ready nodes, as a set: of an alive job those whose predecessors have all ended, less the ended ones.
+fn ready(e: TaskState) -> u32
+    requires { ⌜ e .nodes ≤ 32 ⌝ }
+    ensures { λ r. ⌜ r ≡ setOf (ready (rowOf e)) ⌝ }
+{
+    if !e.alive {
+        return 0;
+    }
+    let predecessors = e.predecessors;
+    let k = e.nodes as usize;
+    let mut set: u32 = 0;
+    let mut v: usize = 0;
+    while v < k {
+        let kept = is_unblocked(predecessors[v], e.ended);
+        set += node_if(kept, v as u32);
+        v += 1;
+    }
+    set - (set & e.ended)
+}
+
+// The share in the standing mode.
+pub fn share_in(e: TaskState, critical: bool) -> u8
+    ensures { λ r. ⌜ r ≡ shareIn critical (e .share) ⌝ }
+{
+    if critical {
+        e.share.critical
+    } else {
+        e.share.typical
+    }
+}
+
+// The running nodes, as a set.
+pub fn running(e: TaskState, critical: bool) -> u32
+    requires { ⌜ e .nodes ≤ 32 ⌝ }
+    ensures { λ r. ⌜ r ≡ runningSet critical (rowOf e) ⌝ }
+{
+    nodes::lowest(ready(e), share_in(e, critical) as u32)
+}
+
+// The entry after a Release.
+pub fn released(e: TaskState) -> TaskState
+    ensures { λ r. ⌜ r ≡ withJob e (releasedRow (rowOf e) .job) ⌝ }
+{
+    let mut next = e;
+    next.age = 0;
+    next.ended = 0;
+    next.alive = true;
+    next
+}
+
+// The age after a tick: it grows by 1, up to the deadline.
+fn older(age: u32, deadline: u32) -> u32
+    ensures { λ r. ⌜ r ≡ min (suc age) deadline ⌝ }
+{
+    if age < deadline { age + 1 } else { deadline }
+}
+
+// The entry after its part of a tick.
+pub fn ticked(e: TaskState, report: u32) -> TaskState
+    requires { ⌜ e .nodes ≤ 32 ⌝ }
+    ensures { λ r. ⌜ r ≡ withJob e (tickedRow (rowOf e) report .job) ⌝ }
+{
+    let ended = e.ended | report;
+    let mut next = e;
+    next.age = older(e.age, e.deadline);
+    next.ended = ended;
+    next.alive = e.alive & !all_ended(e.nodes, ended);
+    next
+}
+
+// Whether the entry has an alive high job that has reached its threshold.
+pub fn is_late(e: TaskState) -> bool
+    ensures { λ r. ⌜ r ≡ isLate (rowOf e) ⌝ }
+{
+    (e.level == HIGH) & e.alive & (e.threshold <= e.age)
+}
+
+// The entry after the switch.
+pub fn switched(e: TaskState) -> TaskState
+    ensures { λ r. ⌜ r ≡ withJob e (switchedRow (rowOf e) .job) ⌝ }
+{
+    let mut next = e;
+    next.alive = e.alive & (e.level == HIGH);
+    next
+}

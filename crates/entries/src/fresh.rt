@@ -1,0 +1,48 @@
+// A fresh entry, and one of zeros.
+ghost use mathlib.Core.Path.{_≡_};
+ghost use Prim.Native.Nat.{_≤_};
+ghost use Rattle.entries.specs.Fresh.{freshEntry, zeroEntry};
+use crate::state::TaskState;
+use shares::deadline::virtual_of;
+use shares::share::Share;
+use sheet::task::Task;
+
+// An entry that stands for no task.
+pub fn zero_entry() -> TaskState
+    ensures { λ r. ⌜ r ≡ zeroEntry ⌝ }
+{
+    TaskState {
+        level: 0,
+        nodes: 0,
+        predecessors: [0u32; 32],
+        deadline: 0,
+        threshold: 0,
+        share: Share {
+            typical: 0,
+            critical: 0,
+        },
+        age: 0,
+        ended: 0,
+        alive: false,
+    }
+}
+
+// The entry of a task with its shares: no job alive, no node ended, the age at D.
+pub fn fresh_entry(t: Task, s: Share) -> TaskState
+    requires { ⌜ 1 ≤ s .typical ⌝ }
+    ensures { λ r. ⌜ r ≡ freshEntry t s ⌝ }
+{
+    let figures = t.figures;
+    let predecessors = t.predecessors;
+    TaskState {
+        level: t.level,
+        nodes: t.nodes,
+        predecessors,
+        deadline: figures.deadline,
+        threshold: virtual_of(t, s.typical),
+        share: s,
+        age: figures.deadline,
+        ended: 0,
+        alive: false,
+    }
+}

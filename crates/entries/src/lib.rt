@@ -1,0 +1,7 @@
+// One task's entry of a state: its soundness, its running nodes, and what each call makes of it.
+pub mod entry;
+pub mod fresh;
+pub mod pass;
+pub mod release;
+pub mod sound;
+pub mod state;

@@ -1,0 +1,26 @@
+// Soundness of an entry.
+ghost use mathlib.Core.Path.{_≡_};
+ghost use Rattle.entries.specs.Sound.{entrySound};
+use crate::entry::all_ended;
+use crate::state::TaskState;
+use sheet::rules::FIGURE_LIMIT;
+use sheet::rules::is_within;
+use sheet::rules::masks_lawful;
+
+// Whether the entry is sound.
+pub fn entry_sound(e: TaskState) -> bool
+    ensures { λ r. ⌜ r ≡ entrySound e ⌝ }
+{
+    let nodes = e.nodes;
+    if !is_within(1, 32, nodes as u32) {
+        return false;
+    }
+    let predecessors = e.predecessors;
+    (e.level <= 1)
+        & masks_lawful(predecessors, nodes)
+        & is_within(1, FIGURE_LIMIT, e.deadline)
+        & (e.threshold <= e.deadline)
+        & (e.age <= e.deadline)
+        & (e.ended <= nodes::full(nodes as u32))
+        & !(e.alive & all_ended(nodes, e.ended))
+}

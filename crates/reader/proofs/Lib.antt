@@ -1,0 +1,4 @@
+-- Laws that belong to no one function.
+pub mod Places
+pub mod Records
+pub mod Readings

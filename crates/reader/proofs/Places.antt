@@ -1,0 +1,38 @@
+-- The directory read pair by pair: where the next record has to start, and row 2 of the pair.
+use Prim.Native.Nat.{ℕ, _+_, _*_, _-_}
+use mathlib.Core.List.{List}
+use mathlib.Core.Path.{_≡_, refl}
+use native.Mathlib.Omega.{arith}
+use native.Mathlib.Numerals.{add-one}
+use lib.ListN.{length}
+use Rattle.sheet.specs.declared.answer.Answer.the-variants.{Accepted, Refused}
+use Rattle.sheet.specs.Format.{u16At, countOf, offsetOf, lengthOf, startOf}
+use Rattle.reader.specs.Reading.{placeAnswer, endAnswer}
+use Rattle.sheet.proofs.Faults.{kept-equal, broken-equal}
+
+module _ (s : List ℕ) where
+  pub start-first : startOf s 0 ≡ 2 + 4 * countOf s
+  unfolding startOf
+  start-first = refl
+
+  pub start-next : (i : ℕ) → startOf s (i + 1) ≡ u16At s (2 + 4 * i) + u16At s (2 + 4 * i + 2)
+  unfolding startOf offsetOf lengthOf
+  start-next i =
+      let place : 4 + 4 * i ≡ 2 + 4 * i + 2 = omega arith in
+      rw (add-one i, place)
+
+  pub place-kept : (i : ℕ) → u16At s (2 + 4 * i) ≡ startOf s i → placeAnswer s i ≡ Accepted
+  unfolding placeAnswer offsetOf
+  place-kept i e = kept-equal (u16At s (2 + 4 * i)) (startOf s i) 2 i e
+
+  pub place-broken : (i : ℕ) → (u16At s (2 + 4 * i) ≡ startOf s i → ⊥) → placeAnswer s i ≡ Refused 2 i
+  unfolding placeAnswer offsetOf
+  place-broken i n = broken-equal (u16At s (2 + 4 * i)) (startOf s i) 2 i n
+
+  pub end-kept : (n : ℕ) → n ≡ countOf s → startOf s n ≡ length s → endAnswer s ≡ Accepted
+  unfolding endAnswer
+  end-kept n c e = rw (← c) (kept-equal (startOf s n) (length s) 2 (n - 1) e)
+
+  pub end-broken : (n : ℕ) → n ≡ countOf s → (startOf s n ≡ length s → ⊥) → endAnswer s ≡ Refused 2 (n - 1)
+  unfolding endAnswer
+  end-broken n c e = rw (← c) (broken-equal (startOf s n) (length s) 2 (n - 1) e)

@@ -1,0 +1,43 @@
+-- `reader::record::task_at` meets its contract: each part is what its callee ensures. Assumes nothing.
+use native.Mathlib.Omega.{arith}
+use Rattle.sheet.specs.Format.{taskAt, levelAt, nodesAt}
+use borrow.Author.Needs.{needs}
+use Rattle.reader.proofs.record.task_at.Statement.{statement}
+use Rattle.reader.proofs.record.task_at.Tie as tie
+
+add-byte-at : tie.Need-add-byte-at
+add-byte-at c = search needs
+
+byte-at-requires : tie.Need-byte-at-requires
+byte-at-requires c κs = search needs
+
+byte-at-requires-2 : tie.Need-byte-at-requires-2
+byte-at-requires-2 c κs = search needs
+
+figures-at-requires : tie.Need-figures-at-requires
+figures-at-requires c κs = search needs
+
+masks-at-requires : tie.Need-masks-at-requires
+unfolding nodesAt
+masks-at-requires c κs = (omega arith, rw (c .before .before .byte-at .ensures) (c .before .before .before .before .pre .1))
+
+returns : tie.Need-returns
+unfolding taskAt levelAt nodesAt
+returns c =
+    rw (
+      c .masks-at .ensures,
+      c .before .figures-at .ensures,
+      c .before .before .byte-at2 .ensures,
+      c .before .before .before .byte-at .ensures,
+    )
+
+pub task-at-spec : {M : Type 1} → statement M
+task-at-spec =
+    tie.close
+    (tie.spec
+    add-byte-at
+    byte-at-requires
+    byte-at-requires-2
+    figures-at-requires
+    masks-at-requires
+    returns)

@@ -1,0 +1,101 @@
+// Rows 3 to 6: one task's record.
+ghost use mathlib.Core.Path.{_≡_};
+ghost use Prim.Native.Nat.{_<_, _≤_};
+ghost use Rattle.sheet.specs.Format.{offsetOf, levelAt, nodesAt, figuresAt, masksAt, taskAt};
+ghost use Rattle.sheet.specs.Rules.{shapeLawful};
+ghost use Rattle.reader.specs.Reading.{recordAnswer};
+ghost use Rattle.sheet.specs.declared.answer.Answer.the-variants.{Accepted};
+use sheet::answer::Answer;
+use sheet::numbers::byte_at;
+use sheet::numbers::u16_at;
+use sheet::numbers::u32_at;
+use sheet::rules::shape_lawful;
+use sheet::rules::task_answer;
+use sheet::task::Budget;
+use sheet::task::Figures;
+use sheet::task::Task;
+use sheet::task::zero_task;
+
+const BAD_RECORD: u8 = 3;
+
+// A record's answer, and its task where it was accepted.
+pub struct Record {
+    pub answer: Answer,
+    pub task: Task,
+}
+
+// A record that is too short for its level and number of nodes is not read.
+fn shape_at(s: &[u8], at: usize, bytes: u32) -> bool
+    requires { ⌜ at < 65536 ⌝ }
+    ensures { λ r. ⌜ r ≡ shapeLawful (levelAt (now (s .entry)) at) (nodesAt (now (s .entry)) at) bytes ⌝ }
+{
+    if bytes < 2 {
+        return false;
+    }
+    shape_lawful(byte_at(s, at), byte_at(s, at + 1), bytes)
+}
+
+fn figures_at(s: &[u8], at: usize) -> Figures
+    requires { ⌜ at < 65536 ⌝ }
+    ensures { λ r. ⌜ r ≡ figuresAt (now (s .entry)) at ⌝ }
+{
+    Figures {
+        deadline: u16_at(s, at + 2),
+        nominal: Budget {
+            work: u16_at(s, at + 4),
+            span: u16_at(s, at + 8),
+        },
+        overload: Budget {
+            work: u16_at(s, at + 6),
+            span: u16_at(s, at + 10),
+        },
+    }
+}
+
+fn masks_at(s: &[u8], at: usize, nodes: u8) -> [u32; 32]
+    requires { ⌜ (at < 65536) × (nodes ≤ 32) ⌝ }
+    ensures { λ r. ⌜ r ≡ masksAt (now (s .entry)) at nodes ⌝ }
+{
+    let mut masks = [0u32; 32];
+    let k = nodes as usize;
+    let mut v: usize = 0;
+    while v < k {
+        masks[v] = u32_at(s, at + 12 + 4 * v);
+        v += 1;
+    }
+    masks
+}
+
+fn task_at(s: &[u8], at: usize) -> Task
+    requires { ⌜ (at < 65536) × (nodesAt (now s) at ≤ 32) ⌝ }
+    ensures { λ r. ⌜ r ≡ taskAt (now (s .entry)) at ⌝ }
+{
+    let nodes = byte_at(s, at + 1);
+    Task {
+        level: byte_at(s, at),
+        nodes,
+        figures: figures_at(s, at),
+        predecessors: masks_at(s, at, nodes),
+    }
+}
+
+pub fn read_record(s: &[u8], i: u8) -> Record
+    requires { ⌜ i < 16 ⌝ }
+    ensures answered { λ r. ⌜ r .answer ≡ recordAnswer (now (s .entry)) i ⌝ }
+    ensures told { λ r. ⌜ (r .answer ≡ Accepted → r .task ≡ taskAt (now (s .entry)) (offsetOf (now (s .entry)) i)) ⌝ }
+{
+    let pair = 2 + 4 * (i as usize);
+    let at = u16_at(s, pair) as usize;
+    let bytes = u16_at(s, pair + 2);
+    if !shape_at(s, at, bytes) {
+        return Record {
+            answer: Answer::Refused(BAD_RECORD, i),
+            task: zero_task(),
+        };
+    }
+    let task = task_at(s, at);
+    Record {
+        answer: task_answer(task, i),
+        task,
+    }
+}

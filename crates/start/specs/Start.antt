@@ -1,0 +1,55 @@
+-- 01, Dispatch: "Start reads a sheet, plans it and returns a fresh state: typical, nothing alive, no node ended, each age = D."
+use Prim.Native.Nat.{ℕ, _≤_, _<_}
+use mathlib.Core.Bool.{false}
+use mathlib.Core.List.{List}
+use lib.ListN.{replicate}
+use Rattle.sheet.specs.declared.answer.Answer.{Answer}
+use Rattle.sheet.specs.declared.answer.Answer.the-variants.{Accepted, Refused}
+use Rattle.sheet.specs.declared.task.TaskSet.{TaskSet}
+use Rattle.sheet.specs.Answers.{_orElse_}
+use Rattle.sheet.specs.Format.{cells, taskIn}
+use Rattle.reader.specs.Reading.{readOf}
+use Rattle.shares.specs.declared.share.Share.{Share}
+use Rattle.shares.specs.Totals.{shareAt}
+use Rattle.planner.specs.Plan.{chosenFor, choiceAnswer, sharesOf}
+use Rattle.entries.specs.declared.state.TaskState.{TaskState}
+use Rattle.dispatcher.specs.declared.state.State.{State}
+use Rattle.start.specs.declared.Started.{Started}
+use Rattle.entries.specs.Fresh.{freshEntry, zeroEntry}
+
+-- The fresh entries of the first count tasks, and zeros in the place of the others.
+unfoldable pub entriesBelow : TaskSet → List Share → ℕ → List TaskState
+entriesBelow set shares count = cells 16 (λ i. freshEntry (taskIn set i) (shareAt shares i)) zeroEntry count
+
+-- The fresh state of a task set and the shares of its tasks.
+unfoldable pub freshState : TaskSet → List Share → State
+freshState set shares =
+    record {
+      processors = set .processors;
+      count = set .count;
+      critical = false;
+      entries = entriesBelow set shares (set .count);
+    }
+
+-- 01: "Start's refused state is all zeros, typical, nothing alive."
+unfoldable pub zeroState : State
+zeroState = record { processors = 0; count = 0; critical = false; entries = replicate 16 zeroEntry }
+
+-- 01: "Where reading refused, Start gives that refusal on and plans nothing"; then rows 7 and 8. "Start has no 9."
+unfoldable pub startAnswer : List ℕ → Answer
+startAnswer sheet = readOf sheet .answer orElse choiceAnswer (readOf sheet .set)
+
+-- An answer with the state that it returns: a fresh one if accepted, zeros if refused.
+abbrev pub startedWith : Answer → State → Started
+startedWith Accepted fresh = record { state = fresh; answer = Accepted }
+startedWith (Refused number task) fresh = record { state = zeroState; answer = Refused number task }
+
+-- What Start makes of a list of bytes.
+unfoldable pub startOf : List ℕ → Started
+startOf sheet =
+    startedWith (startAnswer sheet) (freshState (readOf sheet .set) (sharesOf (chosenFor (readOf sheet .set))))
+
+-- Each of a task set's tasks has a typical share.
+pub record SharesGiven (set : TaskSet) (shares : List Share) : Type 0 where
+  pub few : set .count ≤ 16
+  pub some-share : (i : ℕ) → i < set .count → 1 ≤ shareAt shares i .typical
