@@ -3,7 +3,7 @@ ghost use mathlib.Core.Path.{_≡_};
 ghost use Prim.Native.Nat.{_<_};
 ghost use Rattle.exports.specs.StateBytes.{masksFrom, entryFrom, stateFrom};
 use dispatcher::state::State;
-use dispatcher::state::TaskState;
+use entries::state::TaskState;
 use shares::share::Share;
 use sheet::numbers::byte_at;
 use sheet::numbers::u32_at;

@@ -7,7 +7,7 @@ ghost use Rattle.exports.specs.StateBytes.{shapeBytes, timeBytes, maskBy
 use crate::numbers::flag;
 use crate::numbers::put_u32;
 use dispatcher::state::State;
-use dispatcher::state::TaskState;
+use entries::state::TaskState;
 
 const STATE_SIZE: usize = 2387;
 

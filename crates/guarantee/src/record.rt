@@ -3,12 +3,12 @@ ghost use mathlib.Core.Path.{_≡_};
 ghost use Prim.Native.Nat.{_+_, _*_, _≤_};
 ghost use lib.ListN.{length};
 ghost use lib.Seq.{sets};
-ghost use Rattle.entries.specs.Entry.{jobOf}
-use Rattle.dispatcher.specs.Holds.{modelOf};
+ghost use Rattle.entries.specs.Entry.{jobOf};
+ghost use Rattle.dispatcher.specs.Holds.{modelOf};
 ghost use Rattle.guarantee.specs.Record.{answerBytes, markByte, u32Bytes, jobBytes, modelBytes, turnBytes};
 use crate::turn::Turn;
 use dispatcher::state::State;
-use dispatcher::state::TaskState;
+use entries::state::TaskState;
 use sheet::answer::Answer;
 use sheet::answer::NO_TASK;
 
