@@ -1,4 +1,4 @@
-//! The dispatcher in plain Rust, written from document 01: the state goes in by value and comes back by value.
+//! The dispatcher in plain Rust, written from the specification: the state goes in by value and comes back by value.
 use crate::planner::{choose, virtual_deadline, Share};
 use crate::sheet::{masks_lawful, read, refusal, Answer, Refusal, HIGH, NODES, NO_TASK, TASKS};
 

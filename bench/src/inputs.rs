@@ -1,7 +1,7 @@
 //! What the calls are measured on. All of it is fixed: every run has the same inputs.
 use crate::plain::{self, STATE};
 
-/// The sheet of document 01's case 14: A, B, E, M 8.
+/// The sheet of case 14 (S11.14): A, B, E, M 8.
 #[rustfmt::skip]
 const CASE_14: [u8; 62] = [
     8, 3, 14, 0, 16, 0, 30, 0, 16, 0, 46, 0, 16, 0,

@@ -1,4 +1,4 @@
-//! The planner in plain Rust, written from document 01.
+//! The planner in plain Rust, written from the specification.
 use crate::sheet::{read, refusal, Answer, Figures, Refusal, Task, TaskSet, HIGH, NO_TASK, TASKS};
 
 /// The least critical share at each typical share 1 to 64; M + 1 for none.

@@ -1,11 +1,11 @@
-//! The reader in plain Rust, written from document 01.
+//! The reader in plain Rust, written from the specification.
 
 pub const TASKS: usize = 16;
 pub const NODES: usize = 32;
 pub const NO_TASK: u8 = 255;
 pub const HIGH: u8 = 1;
 
-/// Number and task of a refusal, as in document 01's table.
+/// Number and task of a refusal, as in S9.
 #[derive(Clone, Copy, Debug, PartialEq, Eq)]
 pub struct Refusal {
     pub number: u8,

@@ -56,7 +56,7 @@ impl Tally {
     /// Compares the two readers on a sheet, and both with the answer that it must get.
     pub fn expect(&mut self, sheet: &[u8], expected: Answer) {
         let answer = self.check(sheet);
-        self.hold(sheet, "answer and the one that document 01 gives", &answer, &expected);
+        self.hold(sheet, "answer and the one that the specification gives", &answer, &expected);
     }
 
     /// Prints the counts, and asks for at least `least` of each of the numbers.

@@ -1,4 +1,4 @@
-//! The answers of document 01's table "Refusals by cause".
+//! The answers of the specification's section S9.
 
 /// The cause of a refusal; its value is the row's number.
 #[derive(Clone, Copy, Debug, PartialEq, Eq)]

@@ -17,7 +17,7 @@ pub trait Dispatcher {
     fn board(&self, state: &[u8], buffer: &mut [u8]) -> Reply;
 }
 
-/// The dispatcher written from document 01 alone.
+/// The dispatcher written from the specification's words.
 pub struct Independent;
 
 impl Dispatcher for Independent {

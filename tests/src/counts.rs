@@ -35,7 +35,7 @@ impl Counts {
     }
 }
 
-/// Holds what the proved functions gave to what document 01 gives.
+/// Holds what the proved functions gave to what the specification gives.
 pub fn hold<T: PartialEq + std::fmt::Debug>(proved: &T, expected: &T, on: impl FnOnce() -> String) {
     assert!(proved == expected, "seed {}: {proved:?}\nis not {expected:?}\non {}", random::seed(), on());
 }

@@ -1,4 +1,4 @@
-//! A dispatcher, written from document 01 alone ("Dispatch" and rows 10 to 16). Sets of nodes are rows of marks, and a
+//! A dispatcher by S7, S8 and refusals 10 to 16 of the specification. Sets of nodes are rows of marks, and a
 //! step makes a whole state out of the one before. It shares nothing with the proved one: neither code nor definitions.
 use crate::answers::{Cause, Refusal};
 use crate::planner::{self, Plan};
@@ -280,7 +280,7 @@ mod tests {
     use super::*;
     use crate::sheets::{Draft, CASE_14};
 
-    /// Task A of document 01 alone on two processors, with three nodes that nothing precedes.
+    /// Task A of S11 alone on two processors, with three nodes that nothing precedes.
     fn three_nodes() -> State {
         let mut a = CASE_14[14..26].to_vec();
         a[1] = 3;

@@ -1,4 +1,4 @@
-//! Faulty sheets, each with the answer that document 01 gives it. A fault is put into a draft whose other parts hold,
+//! Faulty sheets, each with the answer that the specification gives it. A fault is put into a draft whose other parts hold,
 //! so that one row alone has cause to refuse it.
 use crate::proved::{Answer, NODES};
 use crate::random::Random;

@@ -1,5 +1,5 @@
 //! The proved functions, called through their static library, beside an independent reader, planner and dispatcher
-//! that were written from document 01 alone, and makers of sheets, states and call lists to compare the two on.
+//! that were written from the specification's words, and makers of sheets, states and call lists to compare the two on.
 pub mod agreement;
 pub mod answers;
 pub mod boundary;

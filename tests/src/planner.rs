@@ -1,4 +1,4 @@
-//! A planner, written from document 01 alone ("Shares", rows 7 to 9, and the printed lines of case 14).
+//! A planner by S4, S5, S6 and refusals 7 to 9 of the specification.
 //! It keeps whole choices, one for each pair of totals that the tasks so far can reach, and shares nothing with the
 //! proved planner: neither code nor method.
 use crate::answers::{Cause, Refusal, Reply};

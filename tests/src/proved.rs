@@ -8,7 +8,7 @@ pub mod planning;
 #[cfg(feature = "starting")]
 pub mod starting;
 
-/// Number and task of an answer, as in document 01's table; accepted is (0, 255).
+/// Number and task of an answer, as in S9; accepted is (0, 255).
 pub type Answer = (u8, u8);
 
 /// The tasks that a task set has room for.

@@ -1,4 +1,4 @@
-//! A reader of sheets, written from document 01 alone ("The sheet" and rows 1 to 6 of "Refusals by cause").
+//! A reader of sheets by S2 and refusals 1 to 6 of the specification.
 //! It shares nothing with the proved one: neither code nor definitions.
 use crate::answers::{Cause, Refusal};
 

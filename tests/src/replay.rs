@@ -1,5 +1,5 @@
 //! Runs a list of calls from Start on a dispatcher, and holds what it answers, returns and shows on its boards to
-//! document 01's model and to what is promised of whole lists: high jobs within their overload budgets end in time,
+//! the model of S10.2 and to what is promised of whole lists: high jobs within their overload budgets end in time,
 //! nothing switches while high jobs keep their nominal ones, and no task runs on more than its share.
 use crate::answers::Reply;
 use crate::boundary::{of_bytes, to_bytes, Dispatcher};

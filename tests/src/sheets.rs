@@ -7,7 +7,7 @@ use crate::reader::{Figures, Level, Sheet, Task};
 pub const LIMIT: usize = 10_000;
 pub const PROCESSORS: usize = 64;
 
-/// The sheet of document 01's case 14: A, B, E, M 8.
+/// The sheet of case 14 (S11.14): A, B, E, M 8.
 #[rustfmt::skip]
 pub const CASE_14: [u8; 62] = [
     8, 3, 14, 0, 16, 0, 30, 0, 16, 0, 46, 0, 16, 0,

@@ -86,7 +86,7 @@ pub fn wild_lists(subject: Subject, rounds: usize) {
     counts.close(names, rounds / 10);
 }
 
-/// Document 01's case 13: A alone on two processors, three nodes that nothing precedes, which run one after the other.
+/// Case 13 (S11.13): A alone on two processors, three nodes that nothing precedes, which run one after the other.
 pub fn case_13(subject: Subject) {
     let record = [&[1, 3], &CASE_14[16..26], &[0; 12]].concat();
     let (reply, fresh) = (subject.start)(&Draft { processors: 2, records: vec![record] }.bytes());

@@ -4,7 +4,7 @@ use dibwunek_tests::proved::Answer;
 use dibwunek_tests::random::Random;
 use dibwunek_tests::sheets::{small, valid, Draft, CASE_14};
 
-/// What document 01 gives a valid sheet whose length is not its own.
+/// What the specification gives a valid sheet whose length is not its own.
 fn of_length(length: usize, count: usize) -> Answer {
     if length < 2 + 4 * count {
         (1, 255)

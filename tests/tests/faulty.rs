@@ -1,4 +1,4 @@
-//! Sheets with one fault of each kind at each task, and with several: document 01 gives each its answer.
+//! Sheets with one fault of each kind at each task, and with several: the specification gives each its answer.
 use dibwunek_tests::agreement::Tally;
 use dibwunek_tests::faults::{of_directory, of_header, of_record, one_of_record, twice_of_record, Faulty};
 use dibwunek_tests::random::Random;

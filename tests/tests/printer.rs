@@ -1,4 +1,4 @@
-//! The printing program, run as a process: what it writes is what document 01 says of its input.
+//! The printing program, run as a process: what it writes is what the specification says of its input.
 use dibwunek_tests::counts::{hold, Counts};
 use dibwunek_tests::planner::{printed, PRINTER_INPUT};
 use dibwunek_tests::random::Random;
@@ -34,7 +34,7 @@ fn run(pieces: &[&[u8]]) -> String {
     String::from_utf8(output.stdout).expect("the program writes ASCII")
 }
 
-/// Compares what is printed with what document 01 gives.
+/// Compares what is printed with what the specification gives.
 fn check(input: &[u8], counts: &mut Counts) {
     let expected = printed(input);
     hold(&run(&[input]), &expected, || format!("the {} bytes {input:?}", input.len()));

@@ -1,4 +1,4 @@
--- Sets of nodes, each kept in a number: bit v of the number stands for node v.
+-- S1.2: sets of nodes, each kept in a number: bit v of the number stands for node v.
 use Prim.Native.Nat.{ℕ, zero, suc, _+_, _/_, _%_, _^_}
 use mathlib.Core.Bool.{Bool, true, false, _&&_}
 use mathlib.Core.List.{List, [], _∷_}
@@ -37,7 +37,7 @@ abbrev pub every : (ℕ → Bool) → List ℕ → Bool
 every p [] = true
 every p (v ∷ vs) = p v && every p vs
 
--- 01, Ready: all predecessors ended. Whether every member of the set a, among the nodes below k, is a member of the set b.
+-- For S8.2, where all predecessors have ended: whether every member of the set a, among the nodes below k, is a member of the set b.
 unfoldable pub isWithin : ℕ → ℕ → ℕ → Bool
 isWithin k a b = every (has b) (members k a)
 
@@ -46,7 +46,7 @@ abbrev pub bit : Bool → ℕ
 bit true = 1
 bit false = 0
 
--- 01, Running: the lowest-numbered ready nodes. How many numbers below v pass a test.
+-- For S8.3, where the lowest ready nodes run: how many numbers below v pass a test.
 unfoldable pub count : (ℕ → Bool) → ℕ → ℕ
 count p zero = 0
 count p (suc v) = count p v + bit (p v)
