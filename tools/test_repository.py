@@ -35,7 +35,7 @@ def clauses():
 def rows():
     """The cells of each row of the reading map whose first cell names clauses."""
     for line in read(READING).splitlines():
-        cells = [cell.strip() for cell in line.strip("|").split(" | ")] if line.startswith("| ") else []
+        cells = [cell.strip() for cell in line.strip("|").split("|")] if line.startswith("| ") else []
         if cells and CLAUSE.search(cells[0]):
             yield cells
 
