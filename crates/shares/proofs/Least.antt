@@ -45,7 +45,7 @@ module _ (test : ℕ → Bool) (none : ℕ) where
 module _ (M : ℕ) (f : Figures) (a : ℕ) where
   pub least-at-most : (b : ℕ) → a ≤ b → b ≤ M → T (passes f a b) → leastCritical M f a ≤ b
   unfolding leastCritical
-  least-at-most b from within = first-at-most (passes f a) (M + 1) a (M + 1 - a) b from (omega arith)
+  least-at-most b from within passed = first-at-most (passes f a) (M + 1) _ _ b (omega arith) (omega arith) passed
 
   least-either : (leastCritical M f a ≡ M + 1) ⊎ Hit (passes f a) a (M + 1 - a) (leastCritical M f a)
   unfolding leastCritical

@@ -1,7 +1,7 @@
 -- `rows::offers_none` meets its contract. The loop's invariant: what the cells left say is what all of them say. The measure
 -- is what is left of 64.
-use lib.ListN.{length, drop}
-use Prim.Native.Nat.{_-_, _≤_}
+use lib.ListN.{length, drop, getD}
+use Prim.Native.Nat.{_-_, _≤_, _<_}
 use mathlib.Core.Path.{_≡_, refl, sym, _∙_}
 use native.Mathlib.Omega.{arith}
 use Rattle.planner.specs.Selection.{offersNone}
@@ -26,7 +26,8 @@ returns c =
     let start = c .before .before .before in
     let long : length (start .args .t1) ≡ 64 = omega arith in
     let loop = c .before .before .loop in
-    sym (sym (loop .inv .1) ∙ offers-stop (start .args .m) (start .args .t1) (loop .i) (omega arith) (c .if1 .taken))
+    let within : getD (start .args .t1) (loop .i) 0 ≤ start .args .m = omega arith in
+    sym (sym (loop .inv .1) ∙ offers-stop (start .args .m) (start .args .t1) (loop .i) (omega arith) within)
 
 add-i : tie.Need-add-i Inv-loop μ-loop
 add-i c = omega arith
@@ -39,7 +40,8 @@ loop-again c =
     let start = c .before .before .before in
     let long : length (start .args .t1) ≡ 64 = omega arith in
     let loop = c .before .before .loop in
-    (omega arith, offers-on (start .args .m) (start .args .t1) (loop .i) (omega arith) (c .if1 .left) ∙ loop .inv .1)
+    let past : start .args .m < getD (start .args .t1) (loop .i) 0 = omega arith in
+    (omega arith, offers-on (start .args .m) (start .args .t1) (loop .i) (omega arith) past ∙ loop .inv .1)
 
 returns-2 : tie.Need-returns-2 Inv-loop μ-loop
 returns-2 c =

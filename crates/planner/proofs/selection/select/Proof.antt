@@ -4,7 +4,7 @@ use Rattle.sheet.specs.Format.{cellsFrom, cells}
 use Rattle.planner.proofs.Lines.{missingTotals, best-total-within}
 use Rattle.planner.proofs.Walk.{selection-none, selection-some, first-is, total-is, Step, walk-some, walk-step, walk-done}
 use borrow.Author.Needs.{needs}
-use Prim.Native.Nat.{ℕ, _-_, _≤_}
+use Prim.Native.Nat.{ℕ, _-_, _≤_, _<_}
 use mathlib.Core.Path.{_≡_, refl, sym, ap, _∙_}
 use mathlib.Core.List.{List}
 use native.Mathlib.Omega.{arith}
@@ -78,8 +78,8 @@ returns : tie.Need-returns Inv-loop μ-loop
 returns c =
     let args = c .before .before .before .before .before .args in
     let rows = rowsUpTo (args .n) (args .t1) in
-    selection-none (args .m) rows
-    (rw (← found (c .before), ← found-total (c .before)) (c .if1 .taken))
+    let past : args .m < leastTotal (args .m) rows (c .before .first-least .result) = omega (arith, found-total (c .before)) in
+    selection-none (args .m) rows (rw (← found (c .before)) past)
 
 loop-holds : tie.Need-loop-holds Inv-loop μ-loop
 unfolding cellsFrom
@@ -88,7 +88,7 @@ loop-holds c =
     let rows = rowsUpTo (args .n) (args .t1) in (
       omega arith,
       found-to (c .before),
-      rw (← found-total (c .before)) (c .if1 .left),
+      omega (arith, found-total (c .before)),
       ap (sharesAt (args .m) rows) (sym (found (c .before))),
       refl,
     )

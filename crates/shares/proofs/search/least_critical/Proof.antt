@@ -1,6 +1,6 @@
 -- `search::least_critical` meets its contract. The loop's invariant: what the search from b gives is what it gives from a.
 -- The measure is what is left of m + 1.
-use Prim.Native.Nat.{_+_, _-_, _≤_}
+use Prim.Native.Nat.{_+_, _-_, _≤_, _<_}
 use mathlib.Core.Path.{_≡_, refl, sym, ap, _∙_}
 use native.Mathlib.Omega.{arith}
 use borrow.Author.Needs.{needs}
@@ -52,7 +52,8 @@ least-from-b c =
 returns : tie.Need-returns Inv-loop μ-loop
 returns c =
     let m = c .before .before .before .args .m in
-    sym (ap (answerOf m) (least-from-b (c .before) ∙ search-past _ m _ (c .if1 .taken)) ∙ answer-none m)
+    let past : m < c .before .loop .b = omega arith in
+    sym (ap (answerOf m) (least-from-b (c .before) ∙ search-past _ m _ past) ∙ answer-none m)
 
 returns-2 : tie.Need-returns-2 Inv-loop μ-loop
 returns-2 c =

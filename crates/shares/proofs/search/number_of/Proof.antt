@@ -1,4 +1,7 @@
 -- `search::number_of` meets its contract, by the cases of the answer.
+use Prim.Native.Nat.{_+_}
+use mathlib.Core.Path.{_≡_}
+use native.Mathlib.Omega.{arith}
 use borrow.Author.Needs.{needs}
 use Rattle.shares.specs.Search.{numberOf}
 use Rattle.shares.proofs.search.number_of.Statement.{statement}
@@ -19,7 +22,9 @@ returns c = search needs
 
 returns-2 : tie.Need-returns-2
 unfolding numberOf
-returns-2 c = cc
+returns-2 c =
+    let e : numberOf (c .before .before .args .m) (c .before .before .args .r) ≡ c .before .before .args .m + 1 = cc in
+    omega (arith, e)
 
 pub number-of-spec : {M : Type 1} → statement M
 number-of-spec = tie.close (tie.spec enum-known-r enum-told add-result returns returns-2)

@@ -1,6 +1,9 @@
 -- `test::terms_of` meets its contract, by what its callees ensure.
+use Prim.Native.Nat.{_*_, min}
+use mathlib.Core.Path.{_≡_}
 use borrow.Author.Needs.{needs}
 use native.Mathlib.Omega.{arith}
+use Rattle.shares.specs.Test.{excess}
 use Rattle.shares.specs.Terms.{termsOf}
 use Rattle.shares.proofs.test.terms_of.Statement.{statement}
 use Rattle.shares.proofs.test.terms_of.Tie as tie
@@ -35,9 +38,17 @@ cast-smaller c = search needs
 smaller-requires : tie.Need-smaller-requires
 smaller-requires c κs = search needs
 
+-- The minimum is that of LN·a and w.
+extra : (c : tie.After-smaller) →
+    c .smaller .result
+    ≡ min
+    (c .before .before .before .before .before .before .before .args .f .nominal .span * c .before .before .before .before .before .before .before .args .a)
+    (excess (c .before .before .before .before .before .before .before .args .f))
+extra c = omega arith
+
 returns : tie.Need-returns
 unfolding termsOf
-returns c = (cc, omega arith)
+returns c = let e = extra c in (cc, omega arith)
 
 pub terms-of-spec : {M : Type 1} → statement M
 terms-of-spec =
