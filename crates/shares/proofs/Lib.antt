@@ -1,4 +1,6 @@
+-- Facts at literals first, then the laws that belong to no one function.
 pub mod Cases
+pub mod Worked
 pub mod Ticks
 pub mod Ends
 pub mod Least

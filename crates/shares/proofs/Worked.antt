@@ -1,0 +1,55 @@
+-- Worked facts by computation: searches, rows and low shares of the tasks of the cases, and what stands for none.
+use Prim.Native.Nat.{ℕ}
+use mathlib.Core.Path.{_≡_, refl}
+use mathlib.Core.Bool.{false}
+use mathlib.Core.List.{[], _∷_}
+use Rattle.sheet.specs.declared.task.Task.{Task}
+use Rattle.sheet.specs.declared.task.Figures.{Figures}
+use Rattle.shares.specs.Test.{excess, demand, passes, virtualDeadline}
+use Rattle.shares.specs.Low.{isLow, ceilDiv, lowShare, hasLowShare}
+use Rattle.shares.specs.Search.{first, leastCritical}
+use Rattle.shares.specs.Row.{lowCritical, criticalAt, tabulate}
+use Rattle.shares.specs.Deadline.{virtualOf}
+use Rattle.shares.specs.Cases.{figures, taskA, taskB, lowTask}
+
+-- A task of a level, with these figures and one node.
+abbrev ofLevel : ℕ → Figures → Task
+ofLevel level f = record { level = level; nodes = 1; figures = f; predecessors = 0 ∷ [] }
+
+pub record Worked : Type 0 where
+  -- S4.3: the search begins at the typical share itself: A (2, 2) passes.
+  pub itself : leastCritical 8 taskA 2 ≡ 2
+  -- It goes on to the first that passes: A (1, 1) fails and (1, 2) passes; B (2, 5) fails and (2, 6) passes.
+  pub next : leastCritical 8 taskA 1 ≡ 2
+  pub further : leastCritical 8 taskB 2 ≡ 6
+  -- It tries M itself, and where that fails M + 1 stands for none.
+  pub last : leastCritical 6 taskB 2 ≡ 6
+  pub none : leastCritical 5 taskB 2 ≡ 6
+  pub none-at-all : leastCritical 1 taskA 1 ≡ 2
+  -- S4.4: the row of A on 3 processors, and of a low task with the share 2; the first four numbers.
+  pub high-row : tabulate (criticalAt 3 (ofLevel 1 taskA)) 1 4 ≡ 2 ∷ 2 ∷ 3 ∷ 4 ∷ []
+  pub low-row : tabulate (criticalAt 3 (ofLevel 0 (lowTask 30))) 1 4 ≡ 4 ∷ 0 ∷ 4 ∷ 4 ∷ []
+  -- S4.1: a share above M is none, and so is that of a task whose span is its deadline.
+  pub low-row-none : tabulate (criticalAt 1 (ofLevel 0 (lowTask 30))) 1 4 ≡ 2 ∷ 2 ∷ 2 ∷ 2 ∷ []
+  pub no-slack : hasLowShare 64 (figures 6 30 6 30 6) ≡ false
+  -- S4.5: V of a high task and of a low one.
+  pub high-virtual : virtualOf (ofLevel 1 taskB) 3 ≡ 6
+  pub low-virtual : virtualOf (ofLevel 0 (lowTask 30)) 2 ≡ 0
+
+pub worked : Worked
+unfolding excess demand passes virtualDeadline isLow ceilDiv lowShare hasLowShare first leastCritical lowCritical criticalAt tabulate virtualOf
+worked =
+    record {
+      itself = refl;
+      next = refl;
+      further = refl;
+      last = refl;
+      none = refl;
+      none-at-all = refl;
+      high-row = refl;
+      low-row = refl;
+      low-row-none = refl;
+      no-slack = refl;
+      high-virtual = refl;
+      low-virtual = refl;
+    }
