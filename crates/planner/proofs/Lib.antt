@@ -13,4 +13,5 @@ pub mod Bytes
 pub mod Parts
 pub mod Accepted
 pub mod Laws
+pub mod Blocks
 pub mod Plans

@@ -25,6 +25,7 @@ use Rattle.planner.specs.Plan.{noFit, shortBuffer, chosenFor, shareAnswe
 use Rattle.planner.specs.Lawful.{LawfulSet}
 use Rattle.planner.specs.Writing.{laid, BlocksFit, VirtualsFit, PlanFits}
 use Rattle.planner.proofs.Accepted.{both-accepted}
+use Rattle.planner.proofs.Blocks.{total-part}
 use Rattle.planner.proofs.Bytes.{laid-more}
 use Rattle.planner.proofs.Parts.{blocks-length}
 use Rattle.planner.proofs.Lines.{cells-at}
@@ -104,15 +105,6 @@ module _ (set : TaskSet) (shares : List Share) (few : length shares ≤ 16) (all
   pub plan-same : planBytes set (sixteen shares) ≡ planBytes set shares
   unfolding planBytes
   plan-same = rw (blocks-same false, blocks-same true, virtuals-same)
-
--- A part of the shares totals no more than all of them.
-total-part : (mode : Bool) (shares : List Share) (i : ℕ) → shareTotal mode (take i shares) ≤ shareTotal mode shares
-total-part false shares zero = omega arith
-total-part false [] (suc i) = omega arith
-total-part false (s ∷ shares) (suc i) = omega (arith, total-part false shares i)
-total-part true shares zero = omega arith
-total-part true [] (suc i) = omega arith
-total-part true (s ∷ shares) (suc i) = omega (arith, total-part true shares i)
 
 -- The plan of a lawful task set fits its bytes.
 module _ (set : TaskSet) (lawful : LawfulSet set) (choice : List Share) (chosen-it : chosenFor set ≡ some choice) where
