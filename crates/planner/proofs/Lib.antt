@@ -1,4 +1,5 @@
--- Laws that belong to no one function.
+-- Facts at literals first, then the laws that belong to no one function.
+pub mod Worked
 pub mod Members
 pub mod Ranks
 pub mod Firsts

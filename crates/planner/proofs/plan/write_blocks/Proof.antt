@@ -84,7 +84,7 @@ loop-again c =
     let loop = c .before .before .before .before .before .before .before .loop in (
       omega arith,
       c .before .before .put-pair .kept .0 ∙ loop .inv .1,
-      next-offset c,
+      omega (arith, next-offset c),
       c .before .before .put-pair .ensures
           ∙ ap (λ (x : ℕ). laid (args .from + 2 * loop .i) (x ∷ c .before .before .before .before .share-in .result ∷ []) (loop .buffer)) (loop .inv .2)
           ∙ ap (λ (x : ℕ). laid (args .from + 2 * loop .i) (offsetIn (args .critical) (args .t4) (loop .i) ∷ x ∷ []) (loop .buffer)) (c .before .before .before .before .share-in .ensures)
