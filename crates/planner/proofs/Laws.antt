@@ -21,13 +21,14 @@ use Rattle.shares.specs.Test.{virtualDeadline}
 use Rattle.shares.specs.Totals.{typicalTotal, criticalTotal, noProcessors}
 use Rattle.shares.proofs.Ends.{virtual-within}
 use Rattle.planner.specs.Choice.{optionsOf, choices, fits, rank, noLater, leastOf, fitting, chosen}
+use Rattle.planner.specs.Way.{LowPair, HighPair}
 use Rattle.planner.specs.Blocks.{lengthIn}
 use Rattle.planner.specs.Plan.{tasksOf, chosenFor}
 use Rattle.planner.specs.Lawful.{LawfulSet}
 use Rattle.planner.proofs.Members.{keep-has, keep-from, none-empty}
 use Rattle.planner.proofs.Ranks.{no-later-both, rank-same, least-member, least-first, least-none, least-of-none}
 use Rattle.planner.proofs.Lawfulness.{figures-kept}
-use Rattle.planner.proofs.Offers.{LowPair, HighPair, low-from, high-from, options-low, options-high, row-of}
+use Rattle.planner.proofs.Offers.{low-from, high-from, options-low, options-high, row-of}
 use Rattle.planner.proofs.Sets.{fitting-takes, fitting-option, takes-length}
 
 module _ (M : ℕ) (tasks : List Task) where

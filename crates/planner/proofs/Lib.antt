@@ -14,5 +14,6 @@ pub mod Bytes
 pub mod Parts
 pub mod Accepted
 pub mod Laws
+pub mod Ways
 pub mod Blocks
 pub mod Plans

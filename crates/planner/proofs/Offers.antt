@@ -18,6 +18,7 @@ use Rattle.shares.proofs.Least.{least-at-most, least-from, least-passes}
 use Rattle.shares.proofs.Levels.{has-below, has-within, low-critical-own, low-critical-within, critical-low, critical-high}
 use Rattle.nodes.specs.Sets.{range}
 use Rattle.planner.specs.Choice.{lowOptions, pairsWithin, highOptions, optionsOf}
+use Rattle.planner.specs.Way.{LowPair, HighPair, MayTake}
 use Rattle.planner.specs.Lawful.{LawfulTask}
 use Rattle.planner.proofs.Members.{range-has, range-within, each-has, each-from, map-has, map-from, keep-has, keep-from}
 use Rattle.planner.proofs.Lawfulness.{low-equal, heavy-work}
@@ -26,19 +27,6 @@ use Rattle.planner.proofs.Optimal.{RowOf}
 holds : (b : Bool) → T b → b ≡ true
 holds true t = refl
 holds false t = absurd t
-
--- A low task's option is its share, with critical share 0.
-pub record LowPair (M : ℕ) (f : Figures) (s : Share) : Type 0 where
-  pub has : hasLowShare M f ≡ true
-  pub typical : s .typical ≡ lowShare f
-  pub critical : s .critical ≡ 0
-
--- A high task's option is a passing pair within M.
-pub record HighPair (M : ℕ) (f : Figures) (s : Share) : Type 0 where
-  pub positive : 1 ≤ s .typical
-  pub ordered : s .typical ≤ s .critical
-  pub within : s .critical ≤ M
-  pub passing : passes f (s .typical) (s .critical) ≡ true
 
 module _ (M : ℕ) (f : Figures) where
   pub low-from : (s : Share) → List·Memᴰ s (lowOptions M f) → LowPair M f s
@@ -96,6 +84,21 @@ module _ (M : ℕ) (t : Task) where
   pub options-high : isLow t ≡ false → optionsOf M t ≡ highOptions M (t .figures)
   unfolding optionsOf
   options-high high = rw high
+
+  -- The options are what the task may take.
+  pub option-may : (s : Share) → List·Memᴰ s (optionsOf M t) → MayTake M t s
+  option-may s m =
+      record {
+        high = λ high. high-from M (t .figures) s (subst (λ (o : List Share). List·Memᴰ s o) (options-high high) m);
+        low = λ low. low-from M (t .figures) s (subst (λ (o : List Share). List·Memᴰ s o) (options-low low) m);
+      }
+
+  pub may-option : (s : Share) → MayTake M t s → List·Memᴰ s (optionsOf M t)
+  may-option s may = go (isLow t) refl
+    where
+      go : (l : Bool) → isLow t ≡ l → List·Memᴰ s (optionsOf M t)
+      go true low = rw (options-low low) (low-has M (t .figures) s (may .low low))
+      go false high = rw (options-high high) (high-has M (t .figures) s (may .high high))
 
   -- A lawful low task has a share of at least 1.
   pub low-share-positive : LawfulTask t → isLow t ≡ true → hasLowShare M (t .figures) ≡ true → 1 ≤ lowShare (t .figures)

@@ -1,16 +1,18 @@
 -- Worked facts by computation: choices, refusals and plans of small task sets and sheets.
-use Prim.Native.Nat.{ℕ}
-use mathlib.Core.Path.{_≡_, refl}
-use mathlib.Core.Bool.{true, false}
+use Prim.Native.Nat.{ℕ, zero, suc, _≤_, _<_}
+use mathlib.Core.Path.{_≡_, refl, sym}
+use mathlib.Core.Bool.{true, false, false≢true}
 use mathlib.Core.List.{List, [], _∷_}
 use mathlib.Core.Option.{none, some}
-use lib.ListN.{length, replicate}
+use native.Mathlib.Omega.{arith}
+use lib.Dec.{lit≤}
+use lib.ListN.{length, getD, replicate}
 use Rattle.sheet.specs.declared.answer.Answer.the-variants.{Accepted, Refused}
 use Rattle.sheet.specs.declared.task.Figures.{Figures}
 use Rattle.sheet.specs.declared.task.Task.{Task}
 use Rattle.sheet.specs.declared.task.TaskSet.{TaskSet}
 use Rattle.sheet.specs.Answers.{firstOver}
-use Rattle.sheet.specs.Format.{byteAt, u16At, u32At, processorsOf, countOf, offsetOf, lengthOf, startOf, cellsFrom, levelAt, nodesAt, figuresAt, masksAt, taskAt, zeroTask, tasksBelow, taskSetOf, taskIn}
+use Rattle.sheet.specs.Format.{byteAt, u16At, u32At, processorsOf, countOf, offsetOf, lengthOf, startOf, cellsFrom, levelAt, nodesAt, figuresAt, masksAt, taskAt, zeroTask, tasksBelow, taskSetOf, taskIn, missingTask}
 use Rattle.sheet.specs.Rules.{levelLawful, shapeLawful, inRange, inOrder, lowLawful, figuresLawful, maskLawful, allBelow, masksLawful, isHeavy, taskAnswer}
 use Rattle.reader.specs.Reading.{headerLawful, headerAnswer, placeAnswer, endAnswer, shapeAnswer, recordAnswer, answerOf, readOf}
 use Rattle.shares.specs.declared.share.Share.{Share}
@@ -18,8 +20,10 @@ use Rattle.shares.specs.Cases.{figures, taskA, taskB, lowTask}
 use Rattle.shares.specs.Deadline.{virtualOf}
 use Rattle.shares.specs.Low.{isLow, ceilDiv, lowShare, hasLowShare}
 use Rattle.shares.specs.Test.{excess, demand, passes, virtualDeadline}
+use Rattle.shares.specs.Totals.{noProcessors, shareAt}
 use Rattle.nodes.specs.Sets.{range}
 use Rattle.planner.specs.Choice.{lowOptions, pairsWithin, highOptions, optionsOf, fits, leastOf, fitting, chosen}
+use Rattle.planner.specs.Way.{MayTake, FittingWay}
 use Rattle.planner.specs.Blocks.{offsetIn, lengthIn}
 use Rattle.planner.specs.Plan.{chosenFor, shareAnswer, choiceAnswer, sharesOf, blockBytes, wordBytes, virtualBytes, planBytes, planAnswer, planned}
 
@@ -58,6 +62,13 @@ sheetOn M =
 -- A and B of S11.
 abbrev pub ab : List Task
 ab = high taskA ∷ high taskB ∷ []
+
+-- E of S11, and A, B and E.
+abbrev pub taskE : Figures
+taskE = figures 18 66 6 66 6
+
+abbrev pub abe : List Task
+abe = high taskA ∷ high taskB ∷ low taskE ∷ []
 
 -- S11.14: the sheet of A, B and E on 8 processors, a node each.
 abbrev pub sheetABE : List ℕ
@@ -108,7 +119,7 @@ pub record Worked : Type 0 where
   pub on-five : choiceAnswer (on 5 ab) ≡ Refused 8 255
   pub on-three : choiceAnswer (on 3 ab) ≡ Refused 7 1
   -- S11.12: A, B and E on 7 processors.
-  pub with-low : choiceAnswer (on 7 (high taskA ∷ high taskB ∷ low (figures 18 66 6 66 6) ∷ [])) ≡ Refused 8 255
+  pub with-low : choiceAnswer (on 7 abe) ≡ Refused 8 255
   -- S11.14: the plan of a sheet of 62 bytes, and refusal 9 for a buffer that is a byte short.
   pub sheet-length : length sheetABE ≡ 62
   pub sheet-plan : planned sheetABE (replicate 18 255)
@@ -148,3 +159,32 @@ worked =
       sheet-plan = refl;
       sheet-room = refl;
     }
+
+-- A high and a low task may take a share that is given by its numbers.
+high-may : (M : ℕ) (f : Figures) (a b : ℕ) → 1 ≤ a → a ≤ b → b ≤ M → passes f a b ≡ true → MayTake M (high f) (pair a b)
+unfolding isLow
+high-may M f a b one ordered within passing =
+    record {
+      high = λ _. record { positive = one; ordered = ordered; within = within; passing = passing };
+      low = λ e. absurd (false≢true e);
+    }
+
+low-may : (M : ℕ) (f : Figures) (a : ℕ) → hasLowShare M f ≡ true → a ≡ lowShare f → MayTake M (low f) (pair a 0)
+unfolding isLow
+low-may M f a has own =
+    record {
+      high = λ e. absurd (false≢true (sym e));
+      low = λ _. record { has = has; typical = own; critical = refl };
+    }
+
+-- There are task sets with ways that fit: A, B and E on 8 processors, as they are planned.
+pub some-way : FittingWay 8 abe (pair 1 2 ∷ pair 2 6 ∷ pair 5 0 ∷ [])
+unfolding shareAt excess demand passes ceilDiv lowShare hasLowShare
+some-way =
+    record { way = record { each = refl; takes = takes }; typical = lit≤ tt; critical = lit≤ tt }
+  where
+    takes : (i : ℕ) → i < 3 → MayTake 8 (getD abe i missingTask) (getD (pair 1 2 ∷ pair 2 6 ∷ pair 5 0 ∷ []) i noProcessors)
+    takes zero inside = high-may 8 taskA 1 2 (lit≤ tt) (lit≤ tt) (lit≤ tt) refl
+    takes (suc zero) inside = high-may 8 taskB 2 6 (lit≤ tt) (lit≤ tt) (lit≤ tt) refl
+    takes (suc (suc zero)) inside = low-may 8 taskE 5 refl refl
+    takes (suc (suc (suc i))) inside = absurd (omega arith)

@@ -1,7 +1,8 @@
--- In reading order: lists by enumeration, the choices and their order, the blocks, the plan and its answers; then what a
--- task set from an accepted reading keeps, and the totals that the selection works with.
+-- In reading order: lists by enumeration, the choices and their order, the same in plain words, the blocks, the plan and its
+-- answers; then what a task set from an accepted reading keeps, and the totals that the selection works with.
 pub mod Enumeration
 pub mod Choice
+pub mod Way
 pub mod Blocks
 pub mod Plan
 pub mod Writing
