@@ -1,4 +1,4 @@
--- What an accepted reading says: the sheet's task set, which keeps every rule, since each row of 01 let it pass.
+-- What an accepted reading says: the sheet's task set, which is lawful, since no cause of 1 to 6 holds for it.
 use Prim.Native.Nat.{ℕ, zero, suc, _+_, _≤_, _<_}
 use mathlib.Core.Path.{_≡_, refl, sym, ap, _∙_, subst}
 use mathlib.Core.Bool.{Bool, true, false, _&&_, not}
@@ -20,7 +20,7 @@ use Rattle.planner.specs.Lawful.{LawfulTask, LawfulSet}
 use Rattle.planner.proofs.Lawfulness.{within-from, within-to, all-four}
 use Rattle.planner.proofs.Lines.{cells-at}
 
--- Two rows that let pass.
+-- Two causes that let pass.
 pub both-accepted : (first later : Answer) → (first orElse later) ≡ Accepted → (first ≡ Accepted) × (later ≡ Accepted)
 both-accepted Accepted later e = (refl, e)
 both-accepted (Refused number task) later e = absurd (let z : _≡_ {A = ℕ} 0 1 = cc in omega arith)
@@ -29,7 +29,7 @@ rule-kept : (rule : Bool) (number task : ℕ) → refusedIf (not rule) number ta
 rule-kept true number task e = refl
 rule-kept false number task e = absurd (let z : _≡_ {A = ℕ} 0 1 = cc in omega arith)
 
--- A row that lets all tasks pass lets each pass.
+-- A cause that lets all tasks pass lets each pass.
 over-accepted : (row : ℕ → Answer) (first count i : ℕ) → firstOver row first count ≡ Accepted → first ≤ i → i < first + count → row i ≡ Accepted
 unfolding firstOver
 over-accepted row first zero i e from to = absurd (omega arith)

@@ -1,5 +1,5 @@
--- The plan of a sheet: the parts laid one behind the other are the plan, its numbers fit their bytes, and the answer goes row by
--- row.
+-- The plan of a sheet: the parts laid one behind the other are the plan, its numbers fit their bytes, and the answer goes refusal
+-- by refusal.
 use Prim.Native.Nat.{ℕ, zero, suc, _+_, _*_, _≤_, _<_}
 use mathlib.Core.Path.{_≡_, refl, sym, ap, _∙_}
 use mathlib.Core.Bool.{Bool, true, false}
@@ -165,7 +165,7 @@ accepted-choice set e = go (chosenFor set) (both-accepted (firstOver (shareAnswe
     go none h = absurd (let z : _≡_ {A = ℕ} 0 1 = cc in omega arith)
     go (some choice) h = refl
 
--- The answer of a plan, row by row.
+-- The answer of a plan, refusal by refusal.
 module _ (s : List ℕ) (room : ℕ) where
   pub plan-read : {number task : ℕ} → readOf s .answer ≡ Refused number task → planAnswer s room ≡ Refused number task
   unfolding planAnswer

@@ -82,7 +82,7 @@ module _ (M : ℕ) (t : Task) (small : M ≤ 64) (lawful : LawfulTask t) where
           absurd (offers-something s (subst (λ (o : List Share). List·Memᴰ s o) (sym e) (List·Memᴰ·head refl)) h)
       go (s ∷ rest) e false h = refl
 
--- A row put to tasks on which two rows agree.
+-- A cause put to tasks on which two causes agree.
 over-same : (f g : ℕ → Answer) (first count : ℕ) → ((i : ℕ) → first ≤ i → i < first + count → f i ≡ g i) →
     firstOver f first count ≡ firstOver g first count
 unfolding firstOver
@@ -164,7 +164,7 @@ module _ (set : TaskSet) (lawful : LawfulSet set) where
   unfolding chosenFor chosen fitting
   selected-chosen = select-least set-rows
 
-  -- Row 7 by the rows and by the options.
+  -- Refusal 7 by the rows and by the options.
   answer-same : (i : ℕ) → i < set .count → rowAnswer (set .processors) (rowsOf set) i ≡ shareAnswer set i
   unfolding rowAnswer shareAnswer
   answer-same i inside =

@@ -1,4 +1,4 @@
--- What the tasks of an accepted sheet keep, as facts.
+-- S2 as facts: what the tasks of an accepted sheet keep.
 use Prim.Native.Nat.{ℕ, _≤_, _<_}
 use mathlib.Core.Path.{_≡_}
 use mathlib.Core.Bool.{true}
@@ -8,7 +8,7 @@ use Rattle.sheet.specs.declared.task.TaskSet.{TaskSet}
 use Rattle.sheet.specs.Format.{taskIn}
 use Rattle.sheet.specs.Rules.{levelLawful, within, figuresLawful, masksLawful, isHeavy}
 
--- 01, "The sheet": the rules of one record.
+-- S2.7 and S2.9 to S2.13: what is asked of one task, refusals 3 to 6.
 pub record LawfulTask (t : Task) : Type 0 where
   pub level : levelLawful (t .level) ≡ true
   pub nodes : within 1 32 (t .nodes) ≡ true
@@ -16,7 +16,7 @@ pub record LawfulTask (t : Task) : Type 0 where
   pub masks : masksLawful (t .predecessors) (t .nodes) ≡ true
   pub heavy : isHeavy (t .figures) ≡ true
 
--- 01, "The sheet": M is 1 to 64, n is 1 to 16, and each of the n tasks keeps the rules.
+-- S2.1 and S2.2: the ranges of M and n; there are sixteen places for tasks, and each of the n tasks is lawful.
 pub record LawfulSet (set : TaskSet) : Type 0 where
   pub some-processors : 1 ≤ set .processors
   pub few-processors : set .processors ≤ 64

@@ -1,4 +1,4 @@
--- The plan of a task set and of a sheet: its bytes, and rows 7, 8 and 9 of "Refusals by cause" after the reader's.
+-- S5.5 and S9: the plan of a task set and of a sheet, its bytes, and refusals 7, 8 and 9 after the reader's.
 use Prim.Native.Nat.{ℕ, _*_, _/_, _%_}
 use mathlib.Core.Bool.{Bool, true, false}
 use mathlib.Core.List.{List, [], _∷_, _++_}
@@ -21,15 +21,15 @@ use Rattle.planner.specs.Choice.{optionsOf, chosen}
 use Rattle.shares.specs.Totals.{noProcessors}
 use Rattle.planner.specs.Blocks.{offsetIn, lengthIn}
 
--- Row 7: task without any share or passing pair within M.
+-- S9.7: a task may take nothing.
 abbrev pub noShare : ℕ
 noShare = 7
 
--- Row 8: no choice fits.
+-- S9.8: no choice fits.
 abbrev pub noFit : ℕ
 noFit = 8
 
--- Row 9: plan buffer under 6n.
+-- S9.9: the plan does not fit the buffer.
 abbrev pub shortBuffer : ℕ
 shortBuffer = 9
 
@@ -37,15 +37,15 @@ shortBuffer = 9
 abbrev pub tasksOf : TaskSet → List Task
 tasksOf set = take (set .count) (set .tasks)
 
--- The choice that is chosen for a task set, or none.
+-- S5.3: what is chosen for a task set, or none.
 unfoldable pub chosenFor : TaskSet → Option (List Share)
 chosenFor set = chosen (set .processors) (tasksOf set)
 
--- Row 7, of task i.
+-- S9.7: refusal 7, of task i.
 unfoldable pub shareAnswer : TaskSet → ℕ → Answer
 shareAnswer set i = refusedIf (isEmpty (optionsOf (set .processors) (taskIn set i))) noShare i
 
--- 01: "then 7 over the tasks, 8".
+-- S3.3: refusal 7 over the tasks in order, and then refusal 8.
 unfoldable pub choiceAnswer : TaskSet → Answer
 choiceAnswer set =
     firstOver (shareAnswer set) 0 (set .count)
@@ -64,36 +64,36 @@ sixteen shares = cells 16 (λ i. getD shares i noProcessors) noProcessors (lengt
 unfoldable pub choiceOf : TaskSet → Chosen
 choiceOf set = record { answer = choiceAnswer set; shares = sixteen (sharesOf (chosenFor set)) }
 
--- 01: "pairs (offset u8, length u8)", of the blocks of n tasks in a mode.
+-- S5.5: the blocks of n tasks in a mode, an offset and a length for each.
 unfoldable pub blockBytes : Bool → List Share → ℕ → List ℕ
 blockBytes mode shares n = each (range 0 n) (λ i. offsetIn mode shares i ∷ lengthIn mode shares i ∷ [])
 
--- A number of two bytes, low byte first.
+-- S1.1: a number of two bytes.
 abbrev pub wordBytes : ℕ → List ℕ
 wordBytes v = v % 256 ∷ v / 256 ∷ []
 
--- 01: "V (u16)", of n tasks with their shares.
+-- S5.5: V of n tasks with these shares, two bytes for each.
 unfoldable pub virtualBytes : TaskSet → List Share → ℕ → List ℕ
 virtualBytes set shares n = each (range 0 n) (λ i. wordBytes (virtualOf (taskIn set i) (lengthIn false shares i)))
 
--- 01: "The plan has 6n bytes: n typical pairs (offset u8, length u8), n critical pairs, n V (u16)."
+-- S5.5: the typical blocks, the critical blocks and the virtual deadlines, one behind the other: 6n bytes.
 unfoldable pub planBytes : TaskSet → List Share → List ℕ
 planBytes set shares =
     blockBytes false shares (set .count) ++ blockBytes true shares (set .count) ++ virtualBytes set shares (set .count)
 
--- 01: rows 1 to 6 of the reader, "then 7 over the tasks, 8, 9", for the bytes of a sheet and the length of the buffer.
+-- S3.3: the reader's refusals, then those of the choice, and then refusal 9, for a sheet and the length of the buffer.
 unfoldable pub planAnswer : List ℕ → ℕ → Answer
 planAnswer s room =
     readOf s .answer
     orElse choiceAnswer (readOf s .set)
     orElse refusedIf (ltb room (6 * readOf s .set .count)) shortBuffer noTask
 
--- 01: "Later bytes of the buffer stay."
+-- S5.5 and S3.4: the plan goes to the front and what is behind it stays; a refusal leaves all as it was.
 abbrev pub writtenIf : Answer → List ℕ → List ℕ → List ℕ
 writtenIf Accepted plan buffer = plan ++ drop (length plan) buffer
 writtenIf (Refused number task) plan buffer = buffer
 
--- The buffer after the call: the plan followed by what stood there; after a refusal what stood there.
+-- S5.5: the buffer after the call.
 unfoldable pub planned : List ℕ → List ℕ → List ℕ
 planned s buffer =
     writtenIf (planAnswer s (length buffer)) (planBytes (readOf s .set) (sharesOf (chosenFor (readOf s .set)))) buffer

@@ -1,5 +1,5 @@
--- The totals that the selection works with. A row says the least critical share of a task at each typical share, and M + 1
--- stands for none and for any total above M.
+-- S5.3 by totals, as the selection works. A row says the least critical share of a task at each typical share, and M + 1 stands
+-- for none and for any total above M.
 use Prim.Native.Nat.{ℕ, zero, suc, _+_, _-_, min}
 use mathlib.Core.Bool.{Bool, cond}
 use mathlib.Core.List.{List, [], _∷_, map}
@@ -82,11 +82,11 @@ selected M rows =
 abbrev pub zeroRow : Row
 zeroRow = record { cells = replicate 64 0 }
 
--- The rows of the tasks of a set.
+-- S4.4: the rows of the tasks of a set.
 unfoldable pub rowsOf : TaskSet → List Row
 rowsOf set = cells 16 (λ i. record { cells = rowOf (set .processors) (taskIn set i) }) zeroRow (set .count)
 
--- Whether a row offers nothing within M.
+-- S9.7: whether a row offers nothing within M.
 unfoldable pub offersNone : ℕ → List ℕ → Bool
 offersNone M row = all (λ b. ltb M b) row
 
@@ -94,7 +94,7 @@ offersNone M row = all (λ b. ltb M b) row
 abbrev pub missingRow : Row
 missingRow = record { cells = [] }
 
--- Row 7 of task i, by its row.
+-- S9.7: refusal 7 of task i, by its row.
 unfoldable pub rowAnswer : ℕ → List Row → ℕ → Answer
 rowAnswer M rows i = refusedIf (offersNone M (getD rows i missingRow .cells)) noShare i
 
@@ -107,7 +107,7 @@ unfoldable pub lastTotals : ℕ → List (ℕ → ℕ) → ℕ → List Totals
 lastTotals M rows n =
     cells 17 (λ k. record { cells = totalsOf M (drop (n - k) rows) }) (record { cells = totalsOf M [] }) (n + 1)
 
--- Row 8 and the shares, by the rows.
+-- S9.8: refusal 8 and the shares, by the rows.
 unfoldable pub selectionOf : ℕ → List (ℕ → ℕ) → Chosen
 selectionOf M rows =
     record {

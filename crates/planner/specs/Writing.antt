@@ -1,4 +1,4 @@
--- Bytes written into a buffer, and what the plan's parts need for their bytes to fit.
+-- S5.5: bytes written into a buffer, and what the plan's parts need for their bytes to fit.
 use Prim.Native.Nat.{ℕ, _+_, _*_, _≤_, _<_, _^_}
 use mathlib.Core.Bool.{Bool, true, false}
 use mathlib.Core.List.{List, _++_}

@@ -1,11 +1,11 @@
-// The rows of a task set, and whether a row offers anything.
+// S4.4 and S9.7: the rows of a task set, and whether a row offers anything.
 ghost use mathlib.Core.Path.{_≡_};
 ghost use Prim.Native.Nat.{_≤_};
 ghost use Rattle.planner.specs.Selection.{rowsOf, offersNone};
 use shares::row::row;
 use sheet::task::TaskSet;
 
-// The least critical share of a task at each typical share 1 to 64; m + 1 for none.
+// S4.4: the least critical share of a task at each typical share 1 to 64; m + 1 stands for none.
 pub struct Row {
     pub cells: [u8; 64],
 }
@@ -28,7 +28,7 @@ pub fn rows_of(set: TaskSet) -> [Row; 16]
     rows
 }
 
-// Whether no cell of a row is within m.
+// S9.7: whether no cell of a row is within m.
 pub fn offers_none(cells: [u8; 64], m: u8) -> bool
     ensures { λ r. ⌜ r ≡ offersNone m cells ⌝ }
 {

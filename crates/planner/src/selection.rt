@@ -1,4 +1,4 @@
-// The selection: totals over the tasks, from the last task on, and then a walk forward over the best shares.
+// S5.3: the selection. Totals over the tasks, from the last task on, and then a walk forward over the best shares.
 ghost use mathlib.Core.Path.{_≡_};
 ghost use mathlib.Core.List.{[]};
 ghost use Prim.Native.Nat.{_+_, _≤_, min};
@@ -124,7 +124,7 @@ fn first_least(totals: [u8; 65], m: u8) -> u8
     best
 }
 
-// Row 8 and the shares of n tasks with these rows.
+// Refusal 8 and the shares of n tasks with these rows.
 pub fn select(rows: [Row; 16], n: u8, m: u8) -> Chosen
     requires { ⌜ (n ≤ 16) × (m ≤ 64) ⌝ }
     ensures { λ r. ⌜ r ≡ selectionOf m (rowsUpTo n rows) ⌝ }

@@ -1,10 +1,10 @@
--- The virtual deadline of a task of either level.
+-- S4.5: the virtual deadline of a task of either level.
 use Prim.Native.Nat.{ℕ}
 use mathlib.Core.Bool.{cond}
 use Rattle.sheet.specs.declared.task.Task.{Task}
 use Rattle.shares.specs.Test.{virtualDeadline}
 use Rattle.shares.specs.Low.{isLow}
 
--- 01, Shares: the virtual deadline of a high task with typical share a; low: 0.
+-- S4.5: V of a task with typical share a; a low task has 0.
 unfoldable pub virtualOf : Task → ℕ → ℕ
 virtualOf t a = cond (isLow t) 0 (virtualDeadline (t .figures) a)

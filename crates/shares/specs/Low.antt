@@ -1,4 +1,4 @@
--- Low tasks, and the one share that such a task may have.
+-- S4.1: low tasks, and the one share that such a task may have.
 use Prim.Native.Nat.{ℕ, _+_, _-_, _/_}
 use mathlib.Core.Bool.{Bool, cond, _&&_}
 use lib.Dec.{leb, ltb, eqb}
@@ -7,7 +7,7 @@ use Rattle.sheet.specs.declared.task.Task.{Task}
 use Rattle.shares.specs.declared.search.Found.{Found}
 use Rattle.shares.specs.declared.search.Found.the-variants.{At, Nothing}
 
--- 01, The sheet: level 0 is low.
+-- S2.6: a task of level 0 is low.
 unfoldable pub isLow : Task → Bool
 isLow t = eqb (t .level) 0
 
@@ -15,11 +15,11 @@ isLow t = eqb (t .level) 0
 unfoldable pub ceilDiv : ℕ → ℕ → ℕ
 ceilDiv n d = (n + (d - 1)) / d
 
--- 01, Shares: a low task's typical share is (CN − LN) / (D − LN) rounded up (document 003, eq. 3).
+-- S4.1: the work beside the span, over the time that the deadline leaves beside it, rounded up (the paper's equation 3).
 unfoldable pub lowShare : Figures → ℕ
 lowShare f = ceilDiv (f .nominal .work - f .nominal .span) (f .deadline - f .nominal .span)
 
--- 01, Shares: if LN ≥ D, or the share exceeds M, it has none.
+-- S4.1: a low task has its share where its span is below its deadline and there are so many processors.
 unfoldable pub hasLowShare : ℕ → Figures → Bool
 hasLowShare M f = ltb (f .nominal .span) (f .deadline) && leb (lowShare f) M
 

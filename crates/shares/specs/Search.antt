@@ -1,4 +1,4 @@
--- The search for a high task's least critical share.
+-- S4.3: the search for a high task's least critical share.
 use Prim.Native.Nat.{ℕ, zero, suc, _+_, _-_}
 use mathlib.Core.Bool.{Bool, cond}
 use lib.Dec.{leb}
@@ -12,7 +12,7 @@ unfoldable pub first : (ℕ → Bool) → ℕ → ℕ → ℕ → ℕ
 first test none k zero = none
 first test none k (suc n) = cond (test k) k (first test none (suc k) n)
 
--- 01, Shares: for typical share a, the first critical share b from a up to M that passes; M + 1 if none does.
+-- S4.3: the first b from a to M with which a passes. M + 1 stands for none.
 unfoldable pub leastCritical : ℕ → Figures → ℕ → ℕ
 leastCritical M f a = first (passes f a) (M + 1) a (M + 1 - a)
 

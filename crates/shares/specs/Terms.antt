@@ -1,4 +1,4 @@
--- The pair test at one typical share, with the products that no critical share changes taken out.
+-- S4.2 at one typical share, with the products that no critical share changes taken out.
 use Prim.Native.Nat.{ℕ, _+_, _-_, _*_, _^_, _<_, min}
 use mathlib.Core.Bool.{Bool}
 use lib.Dec.{leb}
@@ -6,7 +6,7 @@ use Rattle.sheet.specs.declared.task.Figures.{Figures}
 use Rattle.shares.specs.declared.test.Terms.{Terms}
 use Rattle.shares.specs.Test.{excess}
 
--- D·a; (CN − LN) + LO·a; w·a; min(LN·a, w).
+-- The parts of S4.2 that only a decides: D·a, (CN − LN) + LO·a, w·a and min(LN·a, w).
 unfoldable pub termsOf : Figures → ℕ → Terms
 termsOf f a =
     record {
@@ -16,7 +16,7 @@ termsOf f a =
       extra = min (f .nominal .span * a) (excess f);
     }
 
--- supply·b ≥ slope·b + fixed + extra·(b − a).
+-- S4.2 by these parts: supply·b ≥ slope·b + fixed + extra·(b − a).
 unfoldable pub meets : Terms → ℕ → ℕ → Bool
 meets t a b = leb (t .slope * b + t .fixed + t .extra * (b - a)) (t .supply * b)
 

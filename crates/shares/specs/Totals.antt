@@ -1,4 +1,4 @@
--- The shares of all tasks: each one's share in a mode, and their sums.
+-- The shares of all tasks: each one's share in a mode, and their sums (S5.2).
 use Prim.Native.Nat.{ℕ, _+_}
 use mathlib.Core.Bool.{Bool, true, false, cond}
 use mathlib.Core.List.{List, [], _∷_}
@@ -13,7 +13,7 @@ noProcessors = record { typical = 0; critical = 0 }
 unfoldable pub shareAt : List Share → ℕ → Share
 shareAt shares i = getD shares i noProcessors
 
--- 01, Dispatch: "the share in the standing state": critical or typical.
+-- S8.3: a task's share in a mode, the critical one or the typical one.
 abbrev pub shareIn : Bool → Share → ℕ
 shareIn critical s = cond critical (s .critical) (s .typical)
 

@@ -1,4 +1,4 @@
-// The virtual deadline of a task.
+// S4.5: the virtual deadline of a task.
 use crate::number::less;
 use sheet::task::Figures;
 use sheet::task::Task;
@@ -7,7 +7,7 @@ ghost use Prim.Native.Nat.{_≤_};
 ghost use Rattle.shares.specs.Test.{virtualDeadline};
 ghost use Rattle.shares.specs.Deadline.{virtualOf};
 
-// 01's virtual deadline V of a high task with typical share a.
+// V of a high task with typical share a.
 pub fn virtual_deadline(f: Figures, a: u8) -> u32
     requires { ⌜ 1 ≤ a ⌝ }
     ensures { λ r. ⌜ r ≡ virtualDeadline f a ⌝ }
@@ -15,7 +15,7 @@ pub fn virtual_deadline(f: Figures, a: u8) -> u32
     f.nominal.span + less(f.nominal.work, f.nominal.span) / a as u32
 }
 
-// The virtual deadline of a task of either level: 0 for a low one.
+// V of a task of either level: a low one has 0.
 pub fn virtual_of(t: Task, a: u8) -> u32
     requires { ⌜ 1 ≤ a ⌝ }
     ensures { λ r. ⌜ r ≡ virtualOf t a ⌝ }

@@ -1,4 +1,4 @@
-// The one share that a low task may have.
+// S4.1: the one share that a low task may have.
 use crate::number::less;
 use crate::search::Found;
 use sheet::task::Figures;
@@ -14,7 +14,7 @@ fn ceil_div(n: u32, d: u32) -> u64
     (n as u64 + (d as u64 - 1)) / d as u64
 }
 
-// The share of a low task within m, or none.
+// The share of a low task, or none where its deadline leaves no room or the share is above m.
 pub fn low_share(f: Figures, m: u8) -> Found
     ensures { λ r. ⌜ r ≡ lowAnswer m f ⌝ }
 {

@@ -1,4 +1,4 @@
-// The row of a task: the least critical share at each typical share 1 to 64, in cells 0 to 63; m + 1 for none.
+// S4.4: the row of a task. Cell a − 1 holds the least critical share at typical share a, and m + 1 where there is none.
 use crate::low::low_share;
 use crate::search::Found;
 use crate::search::least_critical;

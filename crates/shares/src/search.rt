@@ -1,4 +1,4 @@
-// The search for a high task's least critical share.
+// S4.3: the search for a high task's least critical share.
 use crate::test::meets;
 use crate::test::terms_of;
 use sheet::task::Figures;
@@ -30,7 +30,7 @@ pub fn least_critical(f: Figures, m: u8, a: u8) -> Found
     }
 }
 
-// The number that stands for an answer in a row: m + 1 for none.
+// S4.4: the number that stands for an answer in a row: m + 1 for none.
 pub fn number_of(r: Found, m: u8) -> u8
     requires { ⌜ m ≤ 64 ⌝ }
     ensures { λ n. ⌜ n ≡ numberOf m r ⌝ }

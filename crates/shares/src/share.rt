@@ -1,4 +1,4 @@
-// The processors given to one task: its share in typical and in critical mode (01's a and b).
+// S1: how many processors a task gets in the typical and in the critical mode: a and b of its pair.
 pub struct Share {
     pub typical: u8,
     pub critical: u8,

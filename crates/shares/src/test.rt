@@ -1,4 +1,4 @@
-// The pair test of a high task. Figures of 32 bits and shares of 8 bits keep every product and sum below 2^50.
+// S4.2: the pair test of a high task. Figures of 32 bits and shares of 8 bits keep every product and sum below 2^50.
 use crate::number::less;
 use crate::number::smaller;
 use crate::number::times;
@@ -17,7 +17,7 @@ pub struct Terms {
     extra: u64,
 }
 
-// 01's w.
+// w of S4.2: the overload work beyond the nominal, less what the longer span takes of it.
 fn excess(f: Figures) -> u32
     ensures { λ r. ⌜ r ≡ excess f ⌝ }
 {
