@@ -9,8 +9,8 @@ use lib.Dec.{ltb}
 use borrow.Author.Tests.{ltb-false, lt-ltb, le-ltb}
 use Rattle.plan_text.specs.Decimal.{digit, digitsWithin, decimal}
 
--- A tenth of what is at least ten is smaller.
-pub tenth : (n : ℕ) → 10 ≤ n → n / 10 < n
+-- A tenth of what is not 0 is smaller.
+pub tenth : (n : ℕ) → 1 ≤ n → n / 10 < n
 tenth n h = div-lt-self (omega arith) (omega arith)
 
 -- Any allowance of n or more gives the same digits.
@@ -26,7 +26,9 @@ same-digits (suc k) (suc j) n h g =
         cond t (digit n ∷ []) (digitsWithin k (n / 10) ++ digit (n % 10) ∷ [])
         ≡ cond t (digit n ∷ []) (digitsWithin j (n / 10) ++ digit (n % 10) ∷ [])
     go true e rest = refl
-    go false e rest = ap (λ l. l ++ digit (n % 10) ∷ []) (rest (tenth n (ltb-false n 10 e)))
+    go false e rest =
+        let more = ltb-false n 10 e in
+        ap (λ l. l ++ digit (n % 10) ∷ []) (rest (tenth n (omega arith)))
 
 pub one-digit : (n : ℕ) → n < 10 → decimal n ≡ digit n ∷ []
 unfolding decimal digitsWithin
@@ -37,5 +39,5 @@ pub more-digits : (n : ℕ) → 10 ≤ n → decimal n ≡ decimal (n / 10) ++ d
 unfolding decimal digitsWithin
 more-digits zero h = absurd (omega arith)
 more-digits (suc n) h =
-    let less = tenth (suc n) h in
+    let less = tenth (suc n) (omega arith) in
     rw (le-ltb (suc n) 10 h, same-digits n (suc n / 10) (suc n / 10) (omega arith) (omega arith))

@@ -1,5 +1,9 @@
--- `fields::fields_at` meets its contract: each field is what a call reads.
-use Rattle.sheet.specs.Format.{u16At}
+-- `fields::fields_at` meets its contract: each field is what a call reads at its place.
+use Prim.Native.Nat.{ℕ, _+_, _*_}
+use mathlib.Core.List.{List, [], _∷_}
+use mathlib.Core.Path.{_≡_}
+use denote.Ref.{now}
+use Rattle.sheet.specs.Format.{byteAt, u16At}
 use Rattle.plan_text.specs.Fields.{fieldsAt}
 use borrow.Author.Needs.{needs}
 use Rattle.plan_text.proofs.fields.fields_at.Statement.{statement}
@@ -62,9 +66,25 @@ mul-t17 c = search needs
 add-t18 : tie.Need-add-t18
 add-t18 c = search needs
 
-returns : tie.Need-returns
+-- Six bytes at their places and one more, which is the high byte of V, are the fields.
+six-fields : (plan : List ℕ) (n i : ℕ) {to tl co cl low high : ℕ} →
+    to ≡ byteAt plan (2 * i) → tl ≡ byteAt plan (2 * i + 1) →
+    co ≡ byteAt plan (2 * n + 2 * i) → cl ≡ byteAt plan (2 * n + 2 * i + 1) →
+    low ≡ byteAt plan (4 * n + 2 * i) → high ≡ byteAt plan (4 * n + 2 * i + 1) →
+    (i ∷ to ∷ tl ∷ co ∷ cl ∷ (low + 256 * high) ∷ []) ≡ fieldsAt plan n i
 unfolding fieldsAt u16At
-returns c = cc
+six-fields plan n i eto etl eco ecl elow ehigh = rw (eto, etl, eco, ecl, elow, ehigh)
+
+returns : tie.Need-returns
+returns c =
+    let args = c .before .before .before .before .before .before .before .args in
+    six-fields (now (args .plan)) (args .n) (args .i)
+    (c .before .before .before .before .before .u8-at .ensures .0)
+    (c .before .before .before .before .u8-at2 .ensures .0)
+    (c .before .before .before .u8-at3 .ensures .0)
+    (c .before .before .u8-at4 .ensures .0)
+    (c .before .u8-at5 .ensures .0)
+    (c .u8-at6 .ensures .0)
 
 pub fields-at-spec : {M : Type 1} → statement M
 fields-at-spec =

@@ -1,6 +1,6 @@
 -- `printed::refusal_line` meets its contract: the word and the line fit an empty text.
 use mathlib.Core.List.{[], _∷_, _++_}
-use mathlib.Core.Path.{ap, _∙_}
+use mathlib.Core.Path.{_≡_, ap, _∙_}
 use native.Mathlib.Omega.{arith}
 use Rattle.plan_text.specs.Lines.{line}
 use Rattle.plan_text.specs.Printed.{refusedWord, refusalLine}
@@ -26,15 +26,23 @@ slice-aggregate-with-line c = search needs
 with-line-requires : tie.Need-with-line-requires
 with-line-requires c κs = search needs
 
+-- The text after the word, and after the number and the task.
+after-word : (c : tie.After-with-bytes) → c .with-bytes .result ≡ withBytes (c .before .before .empty .result) refusedWord
+after-word c = c .with-bytes .ensures
+
+after-fields : (c : tie.After-with-line) →
+    let args = c .before .before .before .before .before .args in
+    c .with-line .result ≡ withBytes (c .before .before .with-bytes .result) (line (args .number ∷ args .task ∷ []))
+after-fields c = c .with-line .ensures
+
 returns : tie.Need-returns
 unfolding refusalLine
 returns c =
     let args = c .before .before .before .before .before .args in
     let fields = line (args .number ∷ args .task ∷ []) in
-    let word = c .before .before .with-bytes in
     holds-all (c .with-line .result) (refusedWord ++ fields) (refusal-length (args .number) (args .task) (omega arith) (omega arith))
-    (c .with-line .ensures
-    ∙ ap (λ t. withBytes t fields) (word .ensures)
+    (after-fields c
+    ∙ ap (λ t. withBytes t fields) (after-word (c .before .before))
     ∙ with-both _ refusedWord fields
     ∙ ap (λ t. withBytes t (refusedWord ++ fields)) (c .before .before .before .before .empty .ensures))
 

@@ -5,7 +5,8 @@ use borrow.Author.Needs.{needs}
 use Rattle.plan_text.specs.Decimal.{decimal, digit}
 use Rattle.plan_text.proofs.Digits.{tenth, one-digit, more-digits}
 use Rattle.plan_text.proofs.Growths.{with-both}
-use Prim.Native.Nat.{ℕ, _/_, _%_, _<_}
+use native.Mathlib.Omega.{arith}
+use Prim.Native.Nat.{ℕ, _/_, _%_, _≤_, _<_}
 use borrow.Fn.Kinds.{In}
 use borrow.Fn.PlainCycle.{Measures, is, falls, and}
 use Rattle.plan_text.proofs.text.with_number.Reads as with-number
@@ -56,7 +57,9 @@ with-number-returns : (t : ℕ) → with-number-lts.Need-returns (
   with-number-below t,
   with-number.Post,
 ) (with-number-at t) with-number.Post
-with-number-returns t c = rw (one-digit (c .before .before .args .n) (c .before .if1 .taken)) (c .with-byte .ensures)
+with-number-returns t c =
+    let less : c .before .before .args .n < 10 = omega arith in
+    rw (one-digit (c .before .before .args .n) less) (c .with-byte .ensures)
 
 with-number-with-number-requires : (t : ℕ) → with-number-lts.Need-with-number-requires (
   with-byte-reads.Asked,
@@ -65,7 +68,7 @@ with-number-with-number-requires : (t : ℕ) → with-number-lts.Need-with-numbe
   with-number.Post,
 ) (with-number-at t) with-number.Post
 with-number-with-number-requires t c κs =
-    (subst (λ (j : ℕ). c .before .args .n / 10 < j) (c .before .pre .0) (tenth (c .before .args .n) (c .if1 .left)), tt)
+    (subst (λ (j : ℕ). c .before .args .n / 10 < j) (c .before .pre .0) (tenth (c .before .args .n) (omega arith)), tt)
 
 with-number-cast-with-byte-2 : (t : ℕ) → with-number-lts.Need-cast-with-byte-2 (
   with-byte-reads.Asked,
@@ -100,7 +103,8 @@ with-number-returns-2 : (t : ℕ) → with-number-lts.Need-returns-2 (
 with-number-returns-2 t c =
     let args = c .before .before .before .args in
     let n = args .n in
-    rw (more-digits n (c .before .before .if1 .left), ← with-both (args .t) (decimal (n / 10)) (digit (n % 10) ∷ []), c .with-byte2 .ensures, c .before .with-number .ensures)
+    let more : 10 ≤ n = omega arith in
+    rw (more-digits n more, ← with-both (args .t) (decimal (n / 10)) (digit (n % 10) ∷ []), c .with-byte2 .ensures, c .before .with-number .ensures)
 
 pub +with-number-spec : {M : Type 1} → statement M
 +with-number-spec = close μ-with-number λ t. with-number-lts.spec (
