@@ -1,13 +1,15 @@
--- A number's digits: the last digit after the digits of the rest, and how many they are.
-use Prim.Native.Nat.{ℕ, zero, suc, _/_, _%_, _≤_, _<_}
-use mathlib.Core.Bool.{Bool, true, false, cond}
-use mathlib.Core.List.{[], _∷_, _++_}
-use mathlib.Core.Path.{_≡_, refl, ap}
+-- A number's digits: the last one behind those of a tenth. By that step they say the number, and the first is not `0`.
+use Prim.Native.Nat.{ℕ, zero, suc, _+_, _-_, _*_, _/_, _%_, _≤_, _<_}
+use mathlib.Core.Bool.{Bool, true, false, cond, and-eq-true-iff}
+use mathlib.Core.List.{List, [], _∷_, _++_}
+use mathlib.Core.Path.{_≡_, refl, ap, _∙_}
 use native.Mathlib.Nat.{div-lt-self}
 use native.Mathlib.Omega.{arith}
 use lib.Dec.{ltb}
-use borrow.Author.Tests.{ltb-false, lt-ltb, le-ltb}
-use Rattle.plan_text.specs.Decimal.{digit, digitsWithin, decimal}
+use lib.ListN.{getD}
+use borrow.Author.Tests.{ltb-true, ltb-false, lt-ltb, le-ltb, le-leb}
+use Rattle.nodes.specs.Sets.{every}
+use Rattle.plan_text.specs.Decimal.{digit, digitsWithin, decimal, isDigit, valueAfter, IsDecimal}
 
 -- A tenth of what is not 0 is smaller.
 pub tenth : (n : ℕ) → 1 ≤ n → n / 10 < n
@@ -41,3 +43,53 @@ more-digits zero h = absurd (omega arith)
 more-digits (suc n) h =
     let less = tenth (suc n) (omega arith) in
     rw (le-ltb (suc n) 10 h, same-digits n (suc n / 10) (suc n / 10) (omega arith) (omega arith))
+
+-- Bytes read in two steps.
+value-both : (v : ℕ) (xs ys : List ℕ) → valueAfter v (xs ++ ys) ≡ valueAfter (valueAfter v xs) ys
+value-both v [] ys = refl
+value-both v (x ∷ xs) ys = value-both (10 * v + (x - digit 0)) xs ys
+
+digits-both : (xs ys : List ℕ) → every isDigit xs ≡ true → every isDigit ys ≡ true → every isDigit (xs ++ ys) ≡ true
+digits-both [] ys h g = g
+digits-both (x ∷ xs) ys h g =
+    let both = and-eq-true-iff (isDigit x) (every isDigit xs) .0 h in
+    and-eq-true-iff (isDigit x) (every isDigit (xs ++ ys)) .1 (both .0, digits-both xs ys (both .1) g)
+
+digit-is : (d : ℕ) → d < 10 → every isDigit (digit d ∷ []) ≡ true
+unfolding isDigit
+digit-is d h = rw (le-leb (digit 0) (digit d) (omega arith), le-leb (digit d) (digit 9) (omega arith))
+
+-- What stands in front of some bytes is their first.
+front-kept : (xs ys : List ℕ) → 1 ≤ getD xs 0 0 → getD (xs ++ ys) 0 0 ≡ getD xs 0 0
+front-kept [] ys h = absurd (omega arith)
+front-kept (x ∷ xs) ys h = refl
+
+-- The three facts of a number below ten, and of one more digit behind those of a tenth.
+one-reads : (n : ℕ) → n < 10 → IsDecimal n (digit n ∷ [])
+one-reads n h =
+    record { says = omega arith; digits = digit-is n h; front = λ some. omega arith }
+
+more-reads : (n : ℕ) (bytes : List ℕ) → 10 ≤ n → IsDecimal (n / 10) bytes → IsDecimal n (bytes ++ digit (n % 10) ∷ [])
+more-reads n bytes h rest =
+    record {
+      says = value-both 0 bytes (digit (n % 10) ∷ []) ∙ rw (rest .says) (omega arith);
+      digits = digits-both bytes (digit (n % 10) ∷ []) (rest .digits) (digit-is (n % 10) (omega arith));
+      front = λ some. let first = rest .front (omega arith) in rw (front-kept bytes (digit (n % 10) ∷ []) (omega arith)) first;
+    }
+
+reads-within : (k n : ℕ) → n ≤ k → IsDecimal n (digitsWithin k n)
+unfolding digitsWithin
+reads-within zero n h = one-reads n (omega arith)
+reads-within (suc k) n h = go (ltb n 10) refl (reads-within k (n / 10))
+  where
+    go : (t : Bool) → ltb n 10 ≡ t → (n / 10 ≤ k → IsDecimal (n / 10) (digitsWithin k (n / 10))) →
+        IsDecimal n (cond t (digit n ∷ []) (digitsWithin k (n / 10) ++ digit (n % 10) ∷ []))
+    go true e rest = one-reads n (ltb-true n 10 e)
+    go false e rest =
+        let more = ltb-false n 10 e in
+        more-reads n (digitsWithin k (n / 10)) more (rest (omega (arith, tenth n (omega arith))))
+
+-- The printed decimal of a number reads back to it.
+pub decimal-reads : (n : ℕ) → IsDecimal n (decimal n)
+unfolding decimal
+decimal-reads n = reads-within n n (omega arith)
