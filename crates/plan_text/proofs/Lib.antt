@@ -5,3 +5,4 @@ pub mod Copies
 pub mod Lengths
 pub mod Places
 pub mod Answers
+pub mod Worked
