@@ -6,3 +6,4 @@ pub mod Lengths
 pub mod Places
 pub mod Answers
 pub mod Worked
+pub mod Sheets
