@@ -1,8 +1,10 @@
 // Case 13 of 01, run through Replay: A alone at (1, 2), three nodes without predecessors. A line for each call: outcome, number,
 // task, mode, alive, age and the set of ended nodes. Lengths 4, 3, 2: ended after tick 9, no switch. Lengths 4, 3, 3: switched after
 // tick 9, and ended after tick 10.
+ghost use mathlib.Core.Path.{_≡_};
 ghost use Prim.Native.Nat.{_+_, _≤_, _<_};
 ghost use lib.ListN.{length};
+ghost use Rattle.sheet.specs.Format.{byteAt, u32At};
 use guarantee::replay::Replayed;
 use guarantee::replay::replay;
 
@@ -179,13 +181,16 @@ const SWITCHED: [u8; 65] = [
 
 // The byte at a place; 0 past the end.
 fn byte_at(text: &[u8], at: usize) -> u64
-    ensures { λ r. ⌜ r < 256 ⌝ }
+    ensures value { λ r. ⌜ r ≡ byteAt (now (text .entry)) at ⌝ }
+    ensures small { λ r. ⌜ r < 256 ⌝ }
 {
     if at < text.len() { text[at] as u64 } else { 0 }
 }
 
+// A number of four bytes at a place.
 fn u32_at(text: &[u8], at: usize) -> u64
     requires { ⌜ at < length (now text) + 12 ⌝ }
+    ensures { λ r. ⌜ r ≡ u32At (now (text .entry)) at ⌝ }
 {
     byte_at(text, at)
         + 256 * byte_at(text, at + 1)
