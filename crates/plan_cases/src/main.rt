@@ -1,7 +1,9 @@
-// Cases 11 and 12 of 01: plans tasks A and B, then A, B and E, and prints for each sheet the answer's number and task,
-// followed by the bytes of the plan where it is accepted.
+// S11.11 and S11.12: plans A and B on 8, 6, 5 and 3 processors, then A, B and E on 7, and prints for each sheet the answer's number
+// and task, followed by the bytes of the plan where it is accepted.
 ghost use mathlib.Core.Path.{_≡_};
-ghost use Prim.Native.Nat.{_+_, _*_, _≤_};
+ghost use mathlib.Core.List.{_∷_};
+ghost use lib.ListN.{take};
+ghost use Rattle.sheet.specs.Answers.{noTask};
 use libc::STDOUT_FILENO;
 use plan_text::line::with_line;
 use plan_text::text::empty;
@@ -9,78 +11,119 @@ use planner::plan::plan;
 use sheet::answer::Answer;
 use sheet::answer::NO_TASK;
 
-// The figures of a task, each below 256.
-struct Figures {
-    level: u8,
-    d: u8,
-    cn: u8,
-    co: u8,
-    ln: u8,
-    lo: u8,
-}
+// M 8; two tasks, at 10 and 26, with 16 bytes each: A and B, a node each.
+const TWO: [u8; 42] = [
+    8,
+    2,
+    10,
+    0,
+    16,
+    0,
+    26,
+    0,
+    16,
+    0,
+    1,
+    1,
+    45,
+    0,
+    9,
+    0,
+    52,
+    0,
+    4,
+    0,
+    20,
+    0,
+    0,
+    0,
+    0,
+    0,
+    1,
+    1,
+    54,
+    0,
+    11,
+    0,
+    80,
+    0,
+    4,
+    0,
+    42,
+    0,
+    0,
+    0,
+    0,
+    0,
+];
 
-fn task(i: usize) -> Figures {
-    match i {
-        0 => Figures {
-            level: 1,
-            d: 45,
-            cn: 9,
-            co: 52,
-            ln: 4,
-            lo: 20,
-        },
-        1 => Figures {
-            level: 1,
-            d: 54,
-            cn: 11,
-            co: 80,
-            ln: 4,
-            lo: 42,
-        },
-        _ => Figures {
-            level: 0,
-            d: 18,
-            cn: 66,
-            co: 66,
-            ln: 6,
-            lo: 6,
-        },
-    }
-}
+// M 7; three tasks, at 14, 30 and 46, with 16 bytes each: A, B and E, a node each.
+const THREE: [u8; 62] = [
+    7,
+    3,
+    14,
+    0,
+    16,
+    0,
+    30,
+    0,
+    16,
+    0,
+    46,
+    0,
+    16,
+    0,
+    1,
+    1,
+    45,
+    0,
+    9,
+    0,
+    52,
+    0,
+    4,
+    0,
+    20,
+    0,
+    0,
+    0,
+    0,
+    0,
+    1,
+    1,
+    54,
+    0,
+    11,
+    0,
+    80,
+    0,
+    4,
+    0,
+    42,
+    0,
+    0,
+    0,
+    0,
+    0,
+    0,
+    1,
+    18,
+    0,
+    66,
+    0,
+    66,
+    0,
+    6,
+    0,
+    6,
+    0,
+    0,
+    0,
+    0,
+    0,
+];
 
-// The record of a task with one node, at its place.
-fn with_record(sheet: [u8; 62], at: usize, f: Figures) -> [u8; 62]
-    requires { ⌜ at + 16 ≤ 62 ⌝ }
-{
-    let mut s = sheet;
-    s[at] = f.level;
-    s[at + 1] = 1;
-    s[at + 2] = f.d;
-    s[at + 4] = f.cn;
-    s[at + 6] = f.co;
-    s[at + 8] = f.ln;
-    s[at + 10] = f.lo;
-    s
-}
-
-// The sheet of the first n tasks on m processors, in the first 2 + 20n bytes.
-fn sheet_of(m: u8, n: usize) -> [u8; 62]
-    requires { ⌜ n ≤ 3 ⌝ }
-{
-    let mut s = [0u8; 62];
-    s[0] = m;
-    s[1] = n as u8;
-    let mut i: usize = 0;
-    while i < n {
-        let at = 2 + 4 * n + 16 * i;
-        s[2 + 4 * i] = at as u8;
-        s[4 + 4 * i] = 16;
-        s = with_record(s, at, task(i));
-        i += 1;
-    }
-    s
-}
-
+// Prints a line of these numbers.
 fn print_line(numbers: &[u16]) {
     let text = with_line(empty(), numbers);
     let len = text.len;
@@ -88,14 +131,17 @@ fn print_line(numbers: &[u16]) {
     io::write_all(STDOUT_FILENO, &bytes[..len]);
 }
 
+// A byte as a number of a line.
 fn wide(x: u8) -> u16
     ensures { λ r. ⌜ r ≡ x ⌝ }
 {
     x as u16
 }
 
-// The answer of an accepted plan of two tasks, and the plan's bytes.
-fn accepted(plan: [u8; 18]) -> [u16; 14] {
+// S3.1: 0 and 255, for an accepted plan of two tasks; then the plan's twelve bytes.
+fn accepted(plan: [u8; 18]) -> [u16; 14]
+    ensures { λ r. ⌜ r ≡ 0 ∷ noTask ∷ take 12 plan ⌝ }
+{
     let mut numbers = [0u16; 14];
     numbers[1] = wide(NO_TASK);
     let mut i: usize = 0;
@@ -106,13 +152,10 @@ fn accepted(plan: [u8; 18]) -> [u16; 14] {
     numbers
 }
 
-fn print_case(m: u8, n: usize)
-    requires { ⌜ n ≤ 3 ⌝ }
-{
-    let sheet = sheet_of(m, n);
-    let end = 2 + 20 * n;
+// Plans a sheet of at most three tasks and prints the answer, and the plan where it is one of two tasks.
+fn print_case(sheet: &[u8]) {
     let mut buffer = [0u8; 18];
-    let answer = plan(&sheet[..end], &mut buffer);
+    let answer = plan(sheet, &mut buffer);
     match answer {
         Answer::Accepted => {
             let numbers = accepted(buffer);
@@ -126,9 +169,14 @@ fn print_case(m: u8, n: usize)
 }
 
 fn main() {
-    print_case(8, 2);
-    print_case(6, 2);
-    print_case(5, 2);
-    print_case(3, 2);
-    print_case(7, 3);
+    let mut two = TWO;
+    print_case(&two);
+    two[0] = 6;
+    print_case(&two);
+    two[0] = 5;
+    print_case(&two);
+    two[0] = 3;
+    print_case(&two);
+    let three = THREE;
+    print_case(&three);
 }

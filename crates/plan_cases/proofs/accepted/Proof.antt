@@ -1,12 +1,30 @@
--- `accepted` is safe and ends. The measure is the bytes left.
-use Prim.Native.Nat.{_-_, _≤_}
+-- `accepted` meets its contract. The loop's invariant: the first bytes of the plan stand behind 0 and 255, and zeros behind them.
+-- The measure is the bytes left.
+use Prim.Native.Nat.{ℕ, suc, _+_, _-_, _≤_, _<_}
+use mathlib.Core.List.{List, _∷_, _++_, append-nil}
+use mathlib.Core.Path.{_≡_, ap, _∙_}
 use native.Mathlib.Omega.{arith}
+use lib.ListN.{length, getD, set, take, drop, replicate}
+use Rattle.sheet.specs.Answers.{noTask}
+use Rattle.plan_text.proofs.Copies.{copy-step}
 use borrow.Author.Needs.{needs}
 use Rattle.plan_cases.proofs.accepted.Statement.{statement}
 use Rattle.plan_cases.proofs.accepted.Tie as tie
 
+-- The numbers after i bytes of the plan.
+abbrev numbersAt : List ℕ → ℕ → List ℕ
+numbersAt plan i = 0 ∷ noTask ∷ (take i plan ++ drop i (replicate 12 0))
+
+one-more : (plan : List ℕ) (i : ℕ) → i < 12 → i < length plan → set (numbersAt plan i) (i + 2) (getD plan i 0) ≡ numbersAt plan (i + 1)
+one-more plan i h g =
+    let place : i + 2 ≡ suc (suc i) = omega arith in
+    rw place (ap (λ (l : List ℕ). 0 ∷ noTask ∷ l) (copy-step plan (replicate 12 0) i g h))
+
+no-more : (plan : List ℕ) (i : ℕ) → i ≡ 12 → numbersAt plan i ≡ 0 ∷ noTask ∷ take 12 plan
+no-more plan i e = rw (e, append-nil (take 12 plan))
+
 abbrev Inv-loop : tie.InvT-loop
-Inv-loop plan numbers₀ i₀ numbers i = i ≤ 12
+Inv-loop plan numbers₀ i₀ numbers i = (i ≤ 12) × (numbers ≡ numbersAt plan i)
 
 abbrev μ-loop : tie.MeasureT-loop
 μ-loop plan numbers₀ i₀ numbers i = 12 - i
@@ -18,7 +36,7 @@ array-write-numbers : tie.Need-array-write-numbers Inv-loop μ-loop
 array-write-numbers c = search needs
 
 loop-holds : tie.Need-loop-holds Inv-loop μ-loop
-loop-holds c = search needs
+loop-holds c = (omega arith, rw (c .wide .ensures))
 
 array-read-wide : tie.Need-array-read-wide Inv-loop μ-loop
 array-read-wide c = search needs
@@ -42,10 +60,15 @@ loop-less : tie.Need-loop-less Inv-loop μ-loop
 loop-less c = omega arith
 
 loop-again : tie.Need-loop-again Inv-loop μ-loop
-loop-again c = search needs
+loop-again c =
+    let loop = c .before .before .loop in
+    let plan = c .before .before .before .before .args .t1 in
+    let long : 18 ≡ length plan = search needs in
+    (omega arith, rw (c .wide2 .ensures, loop .inv .1) (one-more plan (loop .i) (omega arith) (omega arith)))
 
 returns : tie.Need-returns Inv-loop μ-loop
-returns c = search needs
+returns c =
+    c .before .loop .inv .1 ∙ no-more (c .before .before .before .args .t1) (c .before .loop .i) (omega arith)
 
 pub accepted-spec : {M : Type 1} → statement M
 accepted-spec =
