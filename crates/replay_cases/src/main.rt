@@ -1,12 +1,12 @@
 // Case 13 of 01, run through Replay: A alone at (1, 2), three nodes without predecessors. A line for each call: outcome, number,
 // task, mode, alive, age and the set of ended nodes. Lengths 4, 3, 2: ended after tick 9, no switch. Lengths 4, 3, 3: switched after
 // tick 9, and ended after tick 10.
-ghost use mathlib.Core.Path.{_≡_};
-ghost use Prim.Native.Nat.{_+_, _≤_, _<_};
+ghost use Prim.Native.Nat.{_≤_, _<_};
 ghost use lib.ListN.{length};
-ghost use Rattle.sheet.specs.Format.{byteAt, u32At};
 use guarantee::replay::Replayed;
 use guarantee::replay::replay;
+use sheet::numbers::byte_at;
+use sheet::numbers::u32_at;
 
 const STDOUT: i32 = 1;
 
@@ -179,25 +179,6 @@ const SWITCHED: [u8; 65] = [
     0,
 ];
 
-// The byte at a place; 0 past the end.
-fn byte_at(text: &[u8], at: usize) -> u64
-    ensures value { λ r. ⌜ r ≡ byteAt (now (text .entry)) at ⌝ }
-    ensures small { λ r. ⌜ r < 256 ⌝ }
-{
-    if at < text.len() { text[at] as u64 } else { 0 }
-}
-
-// A number of four bytes at a place.
-fn u32_at(text: &[u8], at: usize) -> u64
-    requires { ⌜ at < length (now text) + 12 ⌝ }
-    ensures { λ r. ⌜ r ≡ u32At (now (text .entry)) at ⌝ }
-{
-    byte_at(text, at)
-        + 256 * byte_at(text, at + 1)
-        + 65536 * byte_at(text, at + 2)
-        + 16777216 * byte_at(text, at + 3)
-}
-
 fn print_field(x: u64) {
     io::write_all(STDOUT, b" ");
     io::print_decimal(STDOUT, x);
@@ -206,8 +187,8 @@ fn print_field(x: u64) {
 // Start's answer: number and task.
 fn print_start(text: &[u8]) {
     io::write_all(STDOUT, b"start");
-    print_field(byte_at(text, 0));
-    print_field(byte_at(text, 1));
+    print_field(byte_at(text, 0) as u64);
+    print_field(byte_at(text, 1) as u64);
     io::write_all(STDOUT, b"\n");
 }
 
@@ -215,13 +196,13 @@ fn print_start(text: &[u8]) {
 fn print_record(text: &[u8], at: usize)
     requires { ⌜ at < length (now text) ⌝ }
 {
-    io::print_decimal(STDOUT, byte_at(text, at));
-    print_field(byte_at(text, at + 1));
-    print_field(byte_at(text, at + 2));
-    print_field(byte_at(text, at + 3));
-    print_field(byte_at(text, at + 4));
-    print_field(u32_at(text, at + 5));
-    print_field(u32_at(text, at + 9));
+    io::print_decimal(STDOUT, byte_at(text, at) as u64);
+    print_field(byte_at(text, at + 1) as u64);
+    print_field(byte_at(text, at + 2) as u64);
+    print_field(byte_at(text, at + 3) as u64);
+    print_field(byte_at(text, at + 4) as u64);
+    print_field(u32_at(text, at + 5) as u64);
+    print_field(u32_at(text, at + 9) as u64);
     io::write_all(STDOUT, b"\n");
 }
 
