@@ -1,5 +1,5 @@
-// S11.11 and S11.12: plans A and B on 8, 6, 5 and 3 processors, then A, B and E on 7, and prints for each sheet the answer's number
-// and task, followed by the bytes of the plan where it is accepted.
+// S11.11, S11.12: plans A and B on 8, 6, 5 and 3 processors, then A, B and E on 7. A line for each sheet: the answer's number and
+// task, and the plan's bytes where it is accepted.
 ghost use mathlib.Core.Path.{_≡_};
 ghost use mathlib.Core.List.{_∷_};
 ghost use lib.ListN.{take};
@@ -11,7 +11,7 @@ use planner::plan::plan;
 use sheet::answer::Answer;
 use sheet::answer::NO_TASK;
 
-// M 8; two tasks, at 10 and 26, with 16 bytes each: A and B, a node each.
+// S2: M 8; two tasks, at 10 and 26, with 16 bytes each: A and B, a node each.
 const TWO: [u8; 42] = [
     8,
     2,
@@ -57,7 +57,7 @@ const TWO: [u8; 42] = [
     0,
 ];
 
-// M 7; three tasks, at 14, 30 and 46, with 16 bytes each: A, B and E, a node each.
+// S2: M 7; three tasks, at 14, 30 and 46, with 16 bytes each: A, B and E, a node each.
 const THREE: [u8; 62] = [
     7,
     3,

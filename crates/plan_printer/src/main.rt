@@ -1,4 +1,5 @@
-// The plan printer: takes at most 4,096 bytes of standard input as a sheet, and prints the lines of its plan or of its refusal.
+// The plan printer. S6.4: the sheet is the first 4,096 bytes of standard input, which is what a buffer of `io` takes, or all of
+// them where there are fewer. What is printed is S6.1 to S6.3.
 use libc::STDIN_FILENO;
 use libc::STDOUT_FILENO;
 use plan_text::printed::write_plan;

@@ -20,12 +20,12 @@ use Rattle.plan_text.specs.Printed.{refusalLine, linesFor, printedAnswer
 use Rattle.plan_text.specs.Fields.{linesAt}
 use Rattle.plan_text.proofs.Places.{lines-back}
 
--- Where two rows accept, so does the first.
+-- Where two answers in order accept, so does the first.
 first-accepted : (first later : Answer) → (first orElse later) ≡ Accepted → first ≡ Accepted
 first-accepted Accepted later e = refl
 first-accepted (Refused number task) later e = e
 
--- Row 9 has no cause.
+-- Refusal 9 without its cause changes nothing.
 room-left : (a : Answer) (short : Bool) → short ≡ false → (a orElse refusedIf short shortBuffer noTask) ≡ a
 room-left Accepted short e = rw e
 room-left (Refused number task) short e = refl

@@ -30,7 +30,7 @@ sheetOn M =
 pub record Sheets : Type 0 where
   -- S6.2: a sheet of no bytes is `refused 1 255`.
   pub no-bytes : textOf [] ≡ 114 ∷ 101 ∷ 102 ∷ 117 ∷ 115 ∷ 101 ∷ 100 ∷ 32 ∷ 49 ∷ 32 ∷ 50 ∷ 53 ∷ 53 ∷ 10 ∷ []
-  -- S11.14: `0 0 1 0 2 9`, `1 1 2 2 6 7`, `2 3 5 8 0 0`.
+  -- S11.14: the three lines.
   pub printed : textOf (sheetOn 8)
       ≡ 48 ∷ 32 ∷ 48 ∷ 32 ∷ 49 ∷ 32 ∷ 48 ∷ 32 ∷ 50 ∷ 32 ∷ 57 ∷ 10
       ∷ 49 ∷ 32 ∷ 49 ∷ 32 ∷ 50 ∷ 32 ∷ 50 ∷ 32 ∷ 54 ∷ 32 ∷ 55 ∷ 10

@@ -1,4 +1,4 @@
--- Worked facts by computation: numbers, lines and the text of small sheets, byte by byte.
+-- Worked facts by computation: numbers, lines, the fields of a task and a refusal, byte by byte.
 use Prim.Native.Nat.{ℕ}
 use mathlib.Core.Path.{_≡_, refl}
 use mathlib.Core.List.{List, [], _∷_}

@@ -1,4 +1,4 @@
--- What the bytes of a plan say. 01: "The plan has 6n bytes: n typical pairs (offset u8, length u8), n critical pairs, n V (u16)."
+-- S5.5, read the other way: what the bytes of a plan say of its tasks.
 use Prim.Native.Nat.{ℕ, _+_, _*_}
 use mathlib.Core.List.{List, [], _∷_}
 use Rattle.sheet.specs.Format.{byteAt, u16At}
@@ -6,7 +6,8 @@ use Rattle.nodes.specs.Sets.{range}
 use Rattle.planner.specs.Enumeration.{each}
 use Rattle.plan_text.specs.Lines.{line}
 
--- The fields of task i in a plan of n tasks.
+-- S5.5, S6.1: the six numbers of task i in a plan of n tasks. The typical pairs stand first, the critical ones from byte 2n on,
+-- and the numbers V from byte 4n on.
 unfoldable pub fieldsAt : List ℕ → ℕ → ℕ → List ℕ
 fieldsAt plan n i =
     i
@@ -17,6 +18,6 @@ fieldsAt plan n i =
     ∷ u16At plan (4 * n + 2 * i)
     ∷ []
 
--- The lines of a plan of n tasks.
+-- S6.1: the lines of a plan of n tasks.
 unfoldable pub linesAt : List ℕ → ℕ → List ℕ
 linesAt plan n = each (range 0 n) (λ i. line (fieldsAt plan n i))

@@ -1,4 +1,5 @@
--- A text that grows at its end, in an array of 416 bytes: sixteen lines of 26 bytes.
+-- A text that grows at its end, in an array of 416 bytes. That is sixteen lines (S2.2) of six numbers, five of at most three
+-- digits and one of at most five, each with a byte behind it: 26 bytes.
 use Prim.Native.Nat.{ℕ, _+_, _-_, _≤_}
 use mathlib.Core.Path.{_≡_}
 use mathlib.Core.Bool.{cond}
@@ -7,7 +8,7 @@ use lib.Dec.{ltb}
 use lib.ListN.{length, set, replicate}
 use Rattle.plan_text.specs.declared.text.Text.{Text}
 
--- The room of a text.
+-- The room of a text, in bytes.
 abbrev pub room : ℕ
 room = 416
 
@@ -24,7 +25,7 @@ pub record Holds (t : Text) (bytes : List ℕ) : Type 0 where
 unfoldable pub withByte : Text → ℕ → Text
 withByte t b = cond (ltb (t .len) room) (record { bytes = set (t .bytes) (t .len) b; len = t .len + 1 }) t
 
--- A text with these bytes after its own.
+-- A text with these bytes behind its own.
 abbrev pub withBytes : Text → List ℕ → Text
 withBytes t [] = t
 withBytes t (b ∷ bytes) = withBytes (withByte t b) bytes

@@ -1,4 +1,4 @@
--- Lines of numbers.
+-- S6.3: lines of numbers.
 use Prim.Native.Nat.{ℕ, zero, suc}
 use mathlib.Core.List.{List, [], _∷_, _++_}
 use lib.ListN.{length}
@@ -12,12 +12,12 @@ blank = 32
 abbrev pub newline : ℕ
 newline = 10
 
--- The byte after a number of a line, by how many numbers follow it.
+-- The byte behind a number of a line, by how many numbers follow it.
 abbrev pub mark : ℕ → ℕ
 mark zero = newline
 mark (suc left) = blank
 
--- 01: numbers on a line "with single blanks"; the last one is followed by the end of the line.
+-- S6.3: the numbers of a line in decimal, a blank between two of them, and a newline behind the last.
 abbrev pub line : List ℕ → List ℕ
 line [] = []
 line (n ∷ rest) = decimal n ++ mark (length rest) ∷ line rest

@@ -1,5 +1,4 @@
--- What is printed for a sheet. 01, case 14: "Fields: task, typical offset and length, critical offset and length, V. A refusal
--- prints one line: `refused`, number, task, with single blanks."
+-- S6.1, S6.2: what is printed for a sheet, a line for each task or the line of a refusal.
 use Prim.Native.Nat.{ℕ}
 use mathlib.Core.Bool.{true, false, cond}
 use mathlib.Core.List.{List, [], _∷_, _++_}
@@ -19,7 +18,8 @@ use Rattle.planner.specs.Blocks.{offsetIn, lengthIn}
 use Rattle.planner.specs.Plan.{chosenFor, sharesOf, choiceAnswer}
 use Rattle.plan_text.specs.Lines.{blank, line}
 
--- 01: "Fields: task, typical offset and length, critical offset and length, V", of task i.
+-- S6.1: the six numbers of task i: itself, its block in the typical and in the critical mode (where it begins, and its
+-- length; S5.4), and V (S4.5).
 unfoldable pub fieldsOf : TaskSet → List Share → ℕ → List ℕ
 fieldsOf set shares i =
     i
@@ -30,28 +30,28 @@ fieldsOf set shares i =
     ∷ virtualOf (taskIn set i) (lengthIn false shares i)
     ∷ []
 
--- A line for each task.
+-- S6.1: a line for each task, in their order.
 unfoldable pub planLines : TaskSet → List Share → List ℕ
 planLines set shares = each (range 0 (set .count)) (λ i. line (fieldsOf set shares i))
 
--- The bytes of `refused` and of a blank.
+-- S6.2: the bytes of `refused` and of a blank.
 abbrev pub refusedWord : List ℕ
 refusedWord = 114 ∷ 101 ∷ 102 ∷ 117 ∷ 115 ∷ 101 ∷ 100 ∷ blank ∷ []
 
--- 01: "A refusal prints one line: `refused`, number, task, with single blanks."
+-- S6.2: the word, and then the number and the task of a refusal.
 unfoldable pub refusalLine : ℕ → ℕ → List ℕ
 refusalLine number task = refusedWord ++ line (number ∷ task ∷ [])
 
--- The lines of the plan that is chosen, or the line of a refusal.
+-- S6.1, S6.2: the lines of the plan that is chosen (S5.3), or the line of the refusal.
 abbrev pub linesFor : Answer → TaskSet → List ℕ
 linesFor Accepted set = planLines set (sharesOf (chosenFor set))
 linesFor (Refused number task) set = refusalLine number task
 
--- Rows 1 to 8 of "Refusals by cause". Row 9 has no cause here, since a printed plan is not bound to a buffer of the caller's.
+-- S6.2, S3.3: the first cause of 1 to 8. Refusal 9 has none here: a printed plan is written to no buffer of the caller's.
 unfoldable pub printedAnswer : List ℕ → Answer
 printedAnswer s = readOf s .answer orElse choiceAnswer (readOf s .set)
 
--- What is printed for the bytes of a sheet.
+-- S6.1, S6.2: what is printed for the bytes of a sheet.
 unfoldable pub textOf : List ℕ → List ℕ
 textOf s = linesFor (printedAnswer s) (readOf s .set)
 

@@ -1,4 +1,4 @@
-// The fields of a plan's bytes.
+// The numbers of a line, from a plan's bytes (S5.5).
 ghost use mathlib.Core.Path.{_≡_};
 ghost use Prim.Native.Nat.{_*_, _≤_, _<_};
 ghost use lib.ListN.{length};
@@ -18,7 +18,7 @@ fn u8_at(plan: &[u8], at: usize) -> u16
     plan[at] as u16
 }
 
-// Task i, its typical offset and length, its critical offset and length, and V.
+// S6.1: task i, its typical offset and length, its critical offset and length, and V.
 fn fields_at(plan: &[u8], n: usize, i: usize) -> [u16; 6]
     requires { ⌜ (i < n) × (n ≤ 16) × (6 * n ≤ length (now plan)) ⌝ }
     ensures { λ r. ⌜ r ≡ fieldsAt (now (plan .entry)) n i ⌝ }
@@ -36,7 +36,7 @@ fn fields_at(plan: &[u8], n: usize, i: usize) -> [u16; 6]
     ]
 }
 
-// A line for each of the n tasks of a plan.
+// S6.1: a line for each of the n tasks of a plan.
 pub fn lines_at(plan: &[u8], n: usize) -> Text
     requires { ⌜ (n ≤ 16) × (6 * n ≤ length (now plan)) ⌝ }
     ensures { λ r. ⌜ Holds r (linesAt (now (plan .entry)) n) ⌝ }

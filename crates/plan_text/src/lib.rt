@@ -1,4 +1,4 @@
-// The plan of a sheet as printed lines.
+// S6: the plan of a sheet as printed lines.
 mod fields;
 pub mod line;
 pub mod printed;

@@ -1,4 +1,4 @@
-// Lines of numbers.
+// S6.3: lines of numbers.
 ghost use mathlib.Core.Path.{_≡_};
 ghost use Rattle.plan_text.specs.Growth.{withBytes};
 ghost use Rattle.plan_text.specs.Lines.{line, mark};
@@ -10,7 +10,7 @@ const BLANK: u8 = 32;
 
 const NEWLINE: u8 = 10;
 
-// The byte that stands before the numbers that are left of a line: a blank, or the line's end where none is left.
+// S6.3: the byte before the numbers that are left of a line: a blank, or a newline where none is left.
 fn mark_before(left: usize) -> u8
     ensures { λ r. ⌜ r ≡ mark left ⌝ }
 {

@@ -1,4 +1,4 @@
-// What is printed for a sheet.
+// S6.1, S6.2: what is printed for a sheet.
 ghost use mathlib.Core.Path.{_≡_};
 ghost use mathlib.Core.List.{_++_};
 ghost use Prim.Native.Nat.{_≤_};
@@ -13,7 +13,7 @@ use crate::text::with_bytes;
 use planner::plan::plan;
 use sheet::answer::Answer;
 
-// The text of a refusal.
+// S6.2: the text of a refusal.
 fn refusal_line(number: u8, task: u8) -> Text
     ensures { λ r. ⌜ Holds r (refusalLine number task) ⌝ }
 {
@@ -22,7 +22,7 @@ fn refusal_line(number: u8, task: u8) -> Text
     with_line(with_bytes(empty(), &word), &fields)
 }
 
-// The text of a sheet. The buffer has room for the plan of sixteen tasks.
+// S6.1, S6.2: the text of a sheet. The buffer has room for the plan of sixteen tasks, so that refusal 9 has no cause.
 fn text_of(sheet: &[u8]) -> Text
     ensures { λ r. ⌜ Holds r (textOf (now (sheet .entry))) ⌝ }
 {
@@ -46,8 +46,8 @@ fn copy(bytes: &[u8], len: usize, out: &mut [u8])
     }
 }
 
-// Writes the lines of a sheet's plan, or the line of its refusal, to the front of out, and answers the number of their
-// bytes, 416 at most. Where they do not fit, out stays as it is.
+// S6.1, S6.2: writes the lines of a sheet's plan, or the line of its refusal, to the front of out, and answers the number of
+// their bytes, 416 at most. Where they do not fit, out stays as it is.
 pub fn write_plan(sheet: &[u8], out: &mut [u8]) -> usize
     ensures counted { λ r. ⌜ r ≡ length (textOf (now (sheet .entry))) ⌝ }
     ensures written { λ _. ⌜ now (out .exit) ≡ writtenTo (now (out .entry)) (textOf (now (sheet .entry))) ⌝ }

@@ -4,6 +4,7 @@ ghost use mathlib.Core.List.{[]};
 ghost use Rattle.plan_text.specs.Decimal.{decimal};
 ghost use Rattle.plan_text.specs.Growth.{holding, withByte, withBytes};
 
+// Sixteen lines of 26 bytes.
 const ROOM: usize = 416;
 
 // The bytes of a text, and how many of them it has.
@@ -30,13 +31,13 @@ pub fn with_byte(t: Text, b: u8) -> Text
     if ROOM <= at {
         return t;
     }
-    let mut next = t;
-    next.bytes[at] = b;
-    next.len = at + 1;
-    next
+    let mut longer = t;
+    longer.bytes[at] = b;
+    longer.len = at + 1;
+    longer
 }
 
-// The text with these bytes after its own.
+// The text with these bytes behind its own.
 pub fn with_bytes(t: Text, bytes: &[u8]) -> Text
     ensures { λ r. ⌜ r ≡ withBytes t (now (bytes .entry)) ⌝ }
 {
@@ -49,7 +50,7 @@ pub fn with_bytes(t: Text, bytes: &[u8]) -> Text
     text
 }
 
-// The text with the digits of n after its own bytes.
+// S6.3: the text with the digits of n behind its own bytes.
 pub fn with_number(t: Text, n: u16) -> Text
     ensures { λ r. ⌜ r ≡ withBytes t (decimal n) ⌝ }
 {

@@ -1,6 +1,6 @@
-// Case 13 of 01, run through Replay: A alone at (1, 2), three nodes without predecessors. A line for each call: outcome, number,
-// task, mode, alive, age and the set of ended nodes. Lengths 4, 3, 2: ended after tick 9, no switch. Lengths 4, 3, 3: switched after
-// tick 9, and ended after tick 10.
+// S11.13, run through Replay (S12): A alone with shares (1, 2) and three nodes without predecessors. Start's answer is a line,
+// and so is each call's record: outcome, number, task, mode, alive, age, ended set. Lengths 4, 3, 2: ended with tick 9, no switch.
+// Lengths 4, 3, 3: tick 9 switches, and the job has ended with tick 10.
 ghost use Prim.Native.Nat.{_≤_, _<_};
 ghost use lib.ListN.{length};
 use guarantee::replay::Replayed;
@@ -10,10 +10,10 @@ use sheet::numbers::u32_at;
 
 const STDOUT: i32 = 1;
 
-// The bytes of a record of one task.
+// S12.2: the bytes of a record of one task, 4 + 9.
 const RECORD: usize = 13;
 
-// M 2; one task, at 6, with 24 bytes: high, 3 nodes, D 45, CN 9, CO 52, LN 4, LO 20, and three masks.
+// S2: M 2; one task, at 6, with 24 bytes: high, 3 nodes, D 45, CN 9, CO 52, LN 4, LO 20, and three masks.
 const SHEET: [u8; 30] = [
     2,
     1,
@@ -47,7 +47,7 @@ const SHEET: [u8; 30] = [
     0,
 ];
 
-// Release of task 0, then a tick for each report: node 0 ends with tick 4, node 1 with tick 7, node 2 with tick 9.
+// S12.1: Release of task 0, then nine ticks of one report: node 0 ends with tick 4, node 1 with tick 7, node 2 with tick 9.
 const ENDED: [u8; 59] = [
     0,
     0,
@@ -110,7 +110,7 @@ const ENDED: [u8; 59] = [
     0,
 ];
 
-// The same, but node 2 ends with tick 10.
+// The same with a tenth tick, with which node 2 ends.
 const SWITCHED: [u8; 65] = [
     0,
     0,
@@ -179,12 +179,13 @@ const SWITCHED: [u8; 65] = [
     0,
 ];
 
+// A number with a blank before it.
 fn print_field(x: u64) {
     io::write_all(STDOUT, b" ");
     io::print_decimal(STDOUT, x);
 }
 
-// Start's answer: number and task.
+// S12.2: Start's number and task, a byte each.
 fn print_start(text: &[u8]) {
     io::write_all(STDOUT, b"start");
     print_field(byte_at(text, 0) as u64);
@@ -192,7 +193,7 @@ fn print_start(text: &[u8]) {
     io::write_all(STDOUT, b"\n");
 }
 
-// A record of one task, as a line.
+// S12.2: a record of one task, as a line.
 fn print_record(text: &[u8], at: usize)
     requires { ⌜ at < length (now text) ⌝ }
 {
@@ -206,6 +207,7 @@ fn print_record(text: &[u8], at: usize)
     io::write_all(STDOUT, b"\n");
 }
 
+// The records of the first n bytes, which begin behind Start's answer.
 fn print_records(text: &[u8], n: usize)
     requires { ⌜ n ≤ length (now text) ⌝ }
 {
@@ -216,6 +218,7 @@ fn print_records(text: &[u8], n: usize)
     }
 }
 
+// Runs the calls of a log and prints what Replay writes.
 fn show(calls: &[u8]) {
     let sheet = SHEET;
     let mut out = [0u8; 256];

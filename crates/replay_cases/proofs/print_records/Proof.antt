@@ -1,4 +1,4 @@
--- `replay_cases::print_records` is safe and ends. The loop's measure is what is left of the text. Assumes nothing.
+-- `print_records` is safe and ends. The measure is what is left of the text.
 use Prim.Native.Nat.{_-_}
 use native.Mathlib.Omega.{arith}
 use borrow.Author.Needs.{needs}

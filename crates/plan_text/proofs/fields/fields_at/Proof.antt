@@ -66,7 +66,7 @@ mul-t17 c = search needs
 add-t18 : tie.Need-add-t18
 add-t18 c = search needs
 
--- Six bytes at their places and one more, which is the high byte of V, are the fields.
+-- The task and six bytes at their places, of which the last two are V, are the fields.
 six-fields : (plan : List ℕ) (n i : ℕ) {to tl co cl low high : ℕ} →
     to ≡ byteAt plan (2 * i) → tl ≡ byteAt plan (2 * i + 1) →
     co ≡ byteAt plan (2 * n + 2 * i) → cl ≡ byteAt plan (2 * n + 2 * i + 1) →

@@ -9,15 +9,15 @@ returns : tie.Need-returns
 unfolding withByte
 returns c = rw (le-ltb (c .before .args .t .len) room (c .if1 .taken))
 
-element-write-next : tie.Need-element-write-next
-element-write-next c = search needs
+element-write-longer : tie.Need-element-write-longer
+element-write-longer c = search needs
 
-add-next : tie.Need-add-next
-add-next c = search needs
+add-longer : tie.Need-add-longer
+add-longer c = search needs
 
 returns-2 : tie.Need-returns-2
 unfolding withByte
 returns-2 c = rw (lt-ltb (c .before .args .t .len) room (c .if1 .left))
 
 pub with-byte-spec : {M : Type 1} → statement M
-with-byte-spec = tie.close (tie.spec returns element-write-next add-next returns-2)
+with-byte-spec = tie.close (tie.spec returns element-write-longer add-longer returns-2)
