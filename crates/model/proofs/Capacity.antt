@@ -11,11 +11,11 @@ use Rattle.sheet.specs.declared.task.Task.{Task}
 use Rattle.sheet.specs.declared.task.TaskSet.{TaskSet}
 use Rattle.shares.specs.declared.share.Share.{Share}
 use Rattle.shares.specs.Totals.{shareIn, shareAt, shareTotal}
-use Rattle.model.specs.Row.{Fixed, Row, ready, running}
+use Rattle.model.specs.Row.{Fixed, Row, fixedOf, ready, running}
 use Rattle.model.specs.Step.{Call, rowAt, noRow}
 use Rattle.model.specs.Run.{after}
 use Rattle.model.specs.Plan.{freshRow, freshRows, fresh, Planned}
-use Rattle.model.specs.Claim.{totalOf, runningCount, Capacity, fixedOf}
+use Rattle.model.specs.Claim.{totalOf, runningCount, Capacity}
 use Rattle.model.proofs.Lasting.{fixed-after, no-row}
 use Rattle.model.proofs.Fresh.{fixed-at, rows-after}
 

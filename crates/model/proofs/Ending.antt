@@ -21,6 +21,7 @@ use Rattle.model.proofs.Lasting.{fixed-step, same-fixed, length-step}
 use Rattle.model.proofs.Fresh.{rows-after}
 use Rattle.model.proofs.Job.{Live, Over}
 use Rattle.model.proofs.Released.{plannedFixed, known-task, live-at-release, since-release, fixed-begun, over-ended}
+use Rattle.model.proofs.Apart.{alone-since, ticks-since}
 use Rattle.model.proofs.Course.{TrueFrom, true-from-start, ranAfter, true-from-next, count-zero, over-after, Moved, rests, works, ended, live-step}
 
 -- What every call keeps: of the model, the calls to come, the ticks since the release, and the full ones in typical mode among them.
@@ -92,7 +93,8 @@ module _ (ts : TaskSet) (shares : List Share) (planned : Planned ts shares) (cal
       (run-out i kept (job .since) (begun job) (λ _. 0) 0
       (rw (length-step (after (fresh ts shares) (job .before)) (release i), rows-after ts shares planned (job .before)) known)
       live (good known fixed (live .full₁) (omega (arith, live .ticks)))
-      (true-from-start i lengths (begun job) (job .since) reports) (passed .last) (rw fixed (omega (arith, passed .ticks)))))
+      (true-from-start i lengths (begun job) (job .since) reports) (alone-since ts shares planned i job passed)
+      (rw fixed (omega (arith, ticks-since ts shares planned i job passed)))))
     where
       live : Live lengths (b .work) (b .span) (rowAt (begun job) i) (begun job .critical) (λ _. 0) 0
       live = live-at-release ts shares planned (job .before) i b lengths (job .accepted) keeps

@@ -18,7 +18,7 @@ use Rattle.model.specs.Run.{after}
 use Rattle.shares.specs.Totals.{noProcessors, shareAt}
 use Rattle.sheet.specs.Format.{missingTask, taskIn}
 use Rattle.model.specs.Plan.{freshRow, freshRows, fresh, Planned}
-use Rattle.model.specs.Claim.{SoundRow, Lasting}
+use Rattle.model.specs.Beside.{SoundRow, Lasting}
 use Rattle.model.proofs.Lasting.{fixed-after, same-fixed, length-after, no-row, KeptSound, sound-after, sound-noRow}
 
 length-fresh : (tasks : List Task) (shares : List Share) → length (freshRows tasks shares) ≡ min (length tasks) (length shares)

@@ -12,10 +12,10 @@ use lib.ListN.{length, getD, length-map, List·getD-map, List·getD-eq-default}
 use lib.Pow.{pow-pos}
 use lib.Seq.{map-set-same}
 use Rattle.nodes.proofs.Bits.{has-zero}
-use Rattle.model.specs.Row.{Fixed, Row, isSubset, allEnded, runningSet, releasedRow, joined, tickedRow, switchedRow}
+use Rattle.model.specs.Row.{Fixed, Row, fixedOf, isSubset, allEnded, runningSet, releasedRow, joined, tickedRow, switchedRow}
 use Rattle.model.specs.Step.{Model, Call, release, tick, Step, rowAt, noRow, released, tickedRows, lowestLate, switchedTo, switching, ticked}
 use Rattle.model.specs.Run.{after, isAccepted, isReleaseOf}
-use Rattle.model.specs.Claim.{SoundRow, fixedOf}
+use Rattle.model.specs.Beside.{SoundRow}
 use Rattle.model.proofs.Nodes.{running-below, subset-below, all-ended-at}
 use Rattle.model.proofs.Steps.{next, Turn, same, begins, ticks, Settled, stays-critical, stays-typical, turns, turn, release-of, accepted-step, refused-step}
 

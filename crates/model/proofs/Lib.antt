@@ -3,6 +3,7 @@ pub mod Chains
 pub mod JobTick
 pub mod Progress
 pub mod Nodes
+pub mod Starts
 pub mod Steps
 pub mod Lasting
 pub mod Fresh
@@ -10,6 +11,7 @@ pub mod Capacity
 pub mod Job
 pub mod Course
 pub mod Released
+pub mod Apart
 pub mod Ending
 pub mod Deadline
 pub mod Low

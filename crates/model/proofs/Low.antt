@@ -16,7 +16,8 @@ use Rattle.model.specs.Run.{after}
 use Rattle.sheet.specs.Format.{taskIn}
 use Rattle.shares.specs.Totals.{shareAt}
 use Rattle.model.specs.Plan.{freshRow, Planned}
-use Rattle.model.specs.Claim.{EndInTime, LowDeadline}
+use Rattle.model.specs.Claim.{EndInTime}
+use Rattle.model.specs.Beside.{LowDeadline}
 use Rattle.model.proofs.Steps.{next, typical-before}
 use Rattle.model.proofs.Lasting.{fixed-step, same-fixed}
 use Rattle.model.proofs.Job.{TypicalBelow, typical-below}

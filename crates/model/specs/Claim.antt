@@ -1,16 +1,17 @@
 -- Demand 3 of document 01, read off the model: what holds of a task set, its allocation and a list of calls that starts fresh.
-use Prim.Native.Nat.{ℕ, _+_, _≤_, _<_, _^_}
+use Prim.Native.Nat.{ℕ, _+_, _≤_}
 use mathlib.Core.Path.{_≡_}
 use mathlib.Core.Bool.{Bool, true, false, cond}
-use mathlib.Core.List.{List, [], _∷_, _++_, map}
+use mathlib.Core.List.{List, [], _∷_, _++_}
 use lib.ListN.{length}
 use Rattle.sheet.specs.declared.task.Budget.{Budget}
 use Rattle.sheet.specs.declared.task.Task.{Task}
 use Rattle.sheet.specs.declared.task.TaskSet.{TaskSet}
 use Rattle.shares.specs.declared.share.Share.{Share}
 use Rattle.shares.specs.Totals.{shareIn, shareAt}
-use Rattle.model.specs.Row.{Fixed, Row, lowLevel, highLevel, precedes, allEnded, running}
-use Rattle.model.specs.Step.{Model, Call, release, Answer, accepted, ran, switched, refused, step, rowAt}
+use Rattle.model.specs.Row.{Row, highLevel, precedes, allEnded, running}
+pub use Rattle.model.specs.Row.{fixedOf}
+use Rattle.model.specs.Step.{Model, Call, release, tick, Answer, accepted, ran, switched, refused, step, rowAt}
 use Rattle.model.specs.Run.{after, answers, isAccepted, ticksIn, releasesIn, TrueReports}
 use Rattle.model.specs.Budget.{Keeps}
 use Rattle.sheet.specs.Format.{taskIn}
@@ -36,11 +37,16 @@ pub record Ended (t : Task) (r : Row) : Type 0 where
   pub nodes : allEnded (t .nodes) (r .job .ended) ≡ true
   pub gone : r .job .alive ≡ false
 
--- D accepted ticks have followed the release that left the model m, and no other Release of task i was accepted since. (A job that is
--- not the last of its task in a list is so in a shorter list.)
+-- S10.7: with the D-th accepted tick after the release that left the model m the deadline is reached, and no Release of task i is
+-- accepted later in the list. (Before that tick none can be: `ReleasesApart`.)
 pub record DeadlinePassed (t : Task) (i : ℕ) (m : Model) (since : List Call) : Type 0 where
-  pub last : releasesIn i m since ≡ 0
-  pub ticks : t .figures .deadline ≤ ticksIn m since
+  pub before : List Call
+  pub reports : List ℕ
+  pub later : List Call
+  pub list : since ≡ before ++ tick reports ∷ later
+  pub accepted : isAccepted (after m before) (tick reports) ≡ true
+  pub ticks : ticksIn m before + 1 ≡ t .figures .deadline
+  pub unreleased : releasesIn i (after m (before ++ tick reports ∷ [])) later ≡ 0
 
 -- Each job of a task of this level whose lengths keep this budget, with true reports, has ended once D accepted ticks have
 -- followed its release, whatever the other tasks do.
@@ -57,12 +63,6 @@ EndInTime level budget ts shares calls =
 -- have followed its release, whatever the other tasks do.
 unfoldable pub Deadline : TaskSet → List Share → List Call → Type 0
 Deadline ts shares calls = EndInTime highLevel (λ t. t .figures .overload) ts shares calls
-
--- The same of each low job that keeps its budgets, if the state stayed typical: it is so after the list, and the critical state
--- lasts.
-unfoldable pub LowDeadline : TaskSet → List Share → List Call → Type 0
-LowDeadline ts shares calls =
-    after (fresh ts shares) calls .critical ≡ false → EndInTime lowLevel (λ t. t .figures .nominal) ts shares calls
 
 -- The sum of a number over the rows.
 abbrev pub totalOf : (Row → ℕ) → List Row → ℕ
@@ -109,21 +109,6 @@ Nominal ts shares calls =
     ((i : ℕ) (job : ReleaseIn (fresh ts shares) i calls) →
     taskIn ts i .level ≡ highLevel → NominalJob (taskIn ts i) i (begun job) (job .since)) →
     StaysTypical (fresh ts shares) calls
-
--- What soundness says of one task's job: age ≤ D; the ended set names only nodes below k; an alive job has a node not ended.
-pub record SoundRow (r : Row) : Type 0 where
-  pub age : r .job .age ≤ r .fixed .deadline
-  pub ended : r .job .ended < 2 ^ r .fixed .nodes
-  pub alive : r .job .alive ≡ true → allEnded (r .fixed .nodes) (r .job .ended) ≡ false
-
--- What is fixed of a row.
-abbrev pub fixedOf : Row → Fixed
-fixedOf r = r .fixed
-
--- What no call changes stays: levels, k, predecessors, deadlines, V and shares. And each row stays sound.
-pub record Lasting (ts : TaskSet) (shares : List Share) (m : Model) : Type 0 where
-  pub fixed : map fixedOf (m .rows) ≡ map fixedOf (fresh ts shares .rows)
-  pub sound : (i : ℕ) → SoundRow (rowAt m i)
 
 -- Demand 3 over one list of calls. Every prefix of the list is a list, so this speaks of every moment.
 pub record Demand3 (ts : TaskSet) (shares : List Share) (calls : List Call) : Type 0 where

@@ -4,3 +4,4 @@ pub mod Run
 pub mod Budget
 pub mod Plan
 pub mod Claim
+pub mod Beside

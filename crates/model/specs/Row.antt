@@ -29,6 +29,10 @@ pub record Row : Type 0 where
   pub fixed : Fixed
   pub job : Job
 
+-- What is fixed of a row.
+abbrev pub fixedOf : Row → Fixed
+fixedOf r = r .fixed
+
 -- 01, The sheet: level 0 is low.
 unfoldable pub lowLevel : ℕ
 lowLevel = 0

@@ -1,0 +1,120 @@
+-- A node starts only when each of its predecessors has ended: the test of `isReady` by sets, read bit by bit.
+use Prim.Native.Nat.{ℕ, _+_, _≤_, _<_, min}
+use mathlib.Core.Path.{_≡_, sym, ap, ap₂, subst, _∙_}
+use mathlib.Core.Bool.{Bool, true, not, _&&_, and-eq-true-iff}
+use mathlib.Core.List.{List·Memᴰ}
+use native.Mathlib.Omega.{arith}
+use borrow.Author.Tests.{eqb-true, eq-eqb, not-true, ltb-true, lt-ltb}
+use lib.Bits.{bitAnd}
+use lib.Dec.{ltb}
+use lib.ListN.{length, length-take}
+use Rattle.nodes.specs.Sets.{has, range, keep, count}
+use Rattle.nodes.proofs.Bits.{has-and, within-and, within-antisymm}
+use Rattle.nodes.proofs.Lists.{mem-range, range-mem, mem-keep, keep-mem}
+use Rattle.nodes.proofs.Counts.{count-mono, keep-lowest}
+use Rattle.shares.specs.Totals.{shareIn}
+use Rattle.model.specs.Row.{Row, isSubset, predecessorsOf, precedes, isReady, ready, running}
+use Rattle.model.specs.Beside.{MayStart, Startable}
+
+-- A set is within another just where each of its members is in the other.
+subset-member : (a b v : ℕ) → isSubset a b ≡ true → has a v ≡ true → has b v ≡ true
+unfolding isSubset
+subset-member a b v e h =
+    and-eq-true-iff (has a v) (has b v) .0 (sym (has-and a b v) ∙ ap (λ (n : ℕ). has n v) (eqb-true (bitAnd a b) a e) ∙ h) .1
+
+subset-intro : (a b : ℕ) → ((v : ℕ) → has a v ≡ true → has b v ≡ true) → isSubset a b ≡ true
+unfolding isSubset
+subset-intro a b h =
+    eq-eqb (bitAnd a b) a
+    (within-antisymm (bitAnd a b) a (within-and a b) (λ v e. has-and a b v ∙ ap₂ _&&_ e (h v e)))
+
+may-start : (r : Row) (v : ℕ) → isReady r v ≡ true → v < r .fixed .nodes → MayStart r v
+unfolding isReady precedes
+may-start r v e below =
+    record {
+      node = below;
+      alive = first .0;
+      left = not-true (has (r .job .ended) v) (first .1);
+      predecessors = λ j. subset-member mask (r .job .ended) j (all .1);
+    }
+  where
+    mask : ℕ
+    mask = predecessorsOf (r .fixed .predecessors) v
+
+    all : ((r .job .alive && not (has (r .job .ended) v)) ≡ true) × (isSubset mask (r .job .ended) ≡ true)
+    all = and-eq-true-iff (r .job .alive && not (has (r .job .ended) v)) (isSubset mask (r .job .ended)) .0 e
+
+    first : (r .job .alive ≡ true) × (not (has (r .job .ended) v) ≡ true)
+    first = and-eq-true-iff (r .job .alive) (not (has (r .job .ended) v)) .0 (all .0)
+
+ready-start : (r : Row) (v : ℕ) → MayStart r v → isReady r v ≡ true
+unfolding isReady precedes
+ready-start r v s =
+    ap₂ _&&_ (ap₂ _&&_ (s .alive) (ap not (s .left)))
+    (subset-intro (predecessorsOf (r .fixed .predecessors) v) (r .job .ended) (s .predecessors))
+
+-- A node among the first of the ready ones is ready, and fewer than the share are ready below it.
+runs-first : Bool → Row → ℕ → Bool
+runs-first critical r v = isReady r v && ltb (count (isReady r) v) (shareIn critical (r .fixed .share))
+
+running-is : (critical : Bool) (r : Row) → running critical r ≡ keep (runs-first critical r) (range 0 (r .fixed .nodes))
+unfolding running ready runs-first
+running-is critical r = sym (keep-lowest (isReady r) (shareIn critical (r .fixed .share)) (r .fixed .nodes))
+
+record First (critical : Bool) (r : Row) (v : ℕ) : Type 0 where
+  pub node : v < r .fixed .nodes
+  pub ready : isReady r v ≡ true
+  pub few : count (isReady r) v < shareIn critical (r .fixed .share)
+
+running-first : (critical : Bool) (r : Row) (v : ℕ) → List·Memᴰ v (running critical r) → First critical r v
+unfolding runs-first
+running-first critical r v m =
+    record { node = omega (arith, below); ready = both .0; few = ltb-true _ _ (both .1) }
+  where
+    kept : (runs-first critical r v ≡ true) × List·Memᴰ v (range 0 (r .fixed .nodes))
+    kept = keep-mem (runs-first critical r) (range 0 (r .fixed .nodes)) v (subst (List·Memᴰ v) (running-is critical r) m)
+
+    below : (0 ≤ v) × (v < 0 + r .fixed .nodes)
+    below = range-mem 0 (r .fixed .nodes) v (kept .1)
+
+    both : (isReady r v ≡ true) × (ltb (count (isReady r) v) (shareIn critical (r .fixed .share)) ≡ true)
+    both = and-eq-true-iff (isReady r v) (ltb (count (isReady r) v) (shareIn critical (r .fixed .share))) .0 (kept .0)
+
+first-running : (critical : Bool) (r : Row) (v : ℕ) → First critical r v → List·Memᴰ v (running critical r)
+unfolding runs-first
+first-running critical r v f =
+    subst (List·Memᴰ v) (sym (running-is critical r))
+    (mem-keep (runs-first critical r) (range 0 (r .fixed .nodes)) v
+    (ap₂ _&&_ (f .ready) (lt-ltb (count (isReady r) v) (shareIn critical (r .fixed .share)) (f .few)))
+    (mem-range 0 (r .fixed .nodes) v (omega arith) (omega (arith, f .node))))
+
+start-ready : (r : Row) (v : ℕ) → MayStart r v → List·Memᴰ v (ready r)
+unfolding ready
+start-ready r v s =
+    mem-keep (isReady r) (range 0 (r .fixed .nodes)) v (ready-start r v s)
+    (mem-range 0 (r .fixed .nodes) v (omega arith) (omega (arith, s .node)))
+
+running-many : (critical : Bool) (r : Row) →
+    length (running critical r) ≡ min (shareIn critical (r .fixed .share)) (length (ready r))
+unfolding running
+running-many critical r = length-take (shareIn critical (r .fixed .share)) (ready r)
+
+-- S8.2 and S8.3, of every row.
+pub startable : (r : Row) → Startable r
+startable r =
+    record {
+      runs = λ critical v m. let f = running-first critical r v m in may-start r v (f .ready) (f .node);
+      waits = start-ready r;
+      lowest = lowest;
+      many = λ critical. running-many critical r;
+    }
+  where
+    lowest : (critical : Bool) (u v : ℕ) → u < v → MayStart r u → List·Memᴰ v (running critical r) → List·Memᴰ u (running critical r)
+    lowest critical u v below s m =
+        let f = running-first critical r v m in
+        first-running critical r u
+        (record {
+          node = s .node;
+          ready = ready-start r u s;
+          few = omega (arith, f .few, count-mono (isReady r) u v (omega arith));
+        })

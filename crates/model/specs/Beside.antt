@@ -1,0 +1,62 @@
+-- What is proved beside S10.7 to S10.9, of the same lists of calls: S10.10, and S8.2 and S8.3 said node by node.
+use Prim.Native.Nat.{ℕ, _≤_, _<_, _^_, min}
+use mathlib.Core.Path.{_≡_}
+use mathlib.Core.Bool.{Bool, true, false}
+use mathlib.Core.List.{List, map, List·Memᴰ}
+use lib.ListN.{length}
+use Rattle.sheet.specs.declared.task.TaskSet.{TaskSet}
+use Rattle.shares.specs.declared.share.Share.{Share}
+use Rattle.shares.specs.Totals.{shareIn}
+use Rattle.sheet.specs.Format.{taskIn}
+use Rattle.nodes.specs.Sets.{has}
+use Rattle.model.specs.Row.{Row, fixedOf, lowLevel, precedes, allEnded, ready, running}
+use Rattle.model.specs.Step.{Model, Call, release, rowAt}
+use Rattle.model.specs.Run.{after, isAccepted, ticksIn}
+use Rattle.model.specs.Plan.{fresh}
+use Rattle.model.specs.Claim.{ReleaseIn, begun, EndInTime}
+
+-- S10.10: a low job that keeps its budget, with true reports, has ended with the D-th tick after its release, if the mode is
+-- typical after the list (and so was all along: the critical mode lasts).
+unfoldable pub LowDeadline : TaskSet → List Share → List Call → Type 0
+LowDeadline ts shares calls =
+    after (fresh ts shares) calls .critical ≡ false → EndInTime lowLevel (λ t. t .figures .nominal) ts shares calls
+
+-- S10.10: a task that was released in the list can be released after it only if there were D accepted ticks in between.
+unfoldable pub ReleasesApart : TaskSet → List Share → List Call → Type 0
+ReleasesApart ts shares calls =
+    (i : ℕ) (job : ReleaseIn (fresh ts shares) i calls) →
+    isAccepted (after (fresh ts shares) calls) (release i) ≡ true →
+    taskIn ts i .figures .deadline ≤ ticksIn (begun job) (job .since)
+
+-- S7.2, of one task's job: the age is at most D, no node from k on has ended, and an alive job has a node that has not.
+pub record SoundRow (r : Row) : Type 0 where
+  pub age : r .job .age ≤ r .fixed .deadline
+  pub ended : r .job .ended < 2 ^ r .fixed .nodes
+  pub alive : r .job .alive ≡ true → allEnded (r .fixed .nodes) (r .job .ended) ≡ false
+
+-- S10.10: what the sheet and the plan fix stays as it was at the start, and each task's job stays sound.
+pub record Lasting (ts : TaskSet) (shares : List Share) (m : Model) : Type 0 where
+  pub fixed : map fixedOf (m .rows) ≡ map fixedOf (fresh ts shares .rows)
+  pub sound : (i : ℕ) → SoundRow (rowAt m i)
+
+-- S8.2, node by node: v is a node of an alive job, it has not ended, and each of its predecessors has.
+pub record MayStart (r : Row) (v : ℕ) : Type 0 where
+  pub node : v < r .fixed .nodes
+  pub alive : r .job .alive ≡ true
+  pub left : has (r .job .ended) v ≡ false
+  pub predecessors : (j : ℕ) → precedes (r .fixed .predecessors) j v ≡ true → has (r .job .ended) j ≡ true
+
+-- S8.2 and S8.3, in either mode: only such nodes run and each of them is ready; where one runs, so do those with lower numbers;
+-- and as many run as the share allows, or all that are ready.
+pub record Startable (r : Row) : Type 0 where
+  pub runs : (critical : Bool) (v : ℕ) → List·Memᴰ v (running critical r) → MayStart r v
+  pub waits : (v : ℕ) → MayStart r v → List·Memᴰ v (ready r)
+  pub lowest : (critical : Bool) (u v : ℕ) → u < v → MayStart r u → List·Memᴰ v (running critical r) → List·Memᴰ u (running critical r)
+  pub many : (critical : Bool) → length (running critical r) ≡ min (shareIn critical (r .fixed .share)) (length (ready r))
+
+-- All of it over one list of calls. Every prefix of the list is a list, so this speaks of every moment.
+pub record Beside (ts : TaskSet) (shares : List Share) (calls : List Call) : Type 0 where
+  pub low : LowDeadline ts shares calls
+  pub apart : ReleasesApart ts shares calls
+  pub lasting : Lasting ts shares (after (fresh ts shares) calls)
+  pub startable : (i : ℕ) → Startable (rowAt (after (fresh ts shares) calls) i)
