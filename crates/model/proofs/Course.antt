@@ -7,13 +7,12 @@ use mathlib.Core.Logic.{_⊎_, inl, inr}
 use native.Mathlib.Nat.{add-zero, zero-add}
 use native.Mathlib.Omega.{arith}
 use lib.Bits.{bitOr}
-use lib.Dec.{eqb}
 use lib.ListN.{length, getD}
 use Rattle.nodes.specs.Sets.{has, bit}
 use Rattle.nodes.proofs.Bits.{has-or}
 use Rattle.model.specs.Row.{Row, isHigh, runningSet, joined, tickedRow, isLate, switchedRow}
 use Rattle.model.specs.Step.{Model, Call, tick, rowAt}
-use Rattle.model.specs.Run.{after, isAccepted, isTick, isReleaseOf, releasesIn, isRunning, runsOn, runsIn, TrueReports}
+use Rattle.model.specs.Run.{after, isAccepted, isTick, isReleaseOf, releasesIn, isRunning, runsOn, runsIn, isDue, TrueReports}
 use Rattle.model.proofs.Nodes.{all-ended-at, all-ended-intro}
 use Rattle.model.proofs.Steps.{next, Turn, same, begins, ticks, TickAt, Settled, stays-critical, stays-typical, turns, turn, release-of}
 use Rattle.model.proofs.Lasting.{length-step, kept-by-call}
@@ -26,14 +25,14 @@ TrueFrom i len c m calls =
     calls ≡ before ++ tick reports ∷ rest →
     releasesIn i m before ≡ 0 →
     isAccepted (after m before) (tick reports) ≡ true →
-    (v : ℕ) → has (getD reports i 0) v ≡ (isRunning i v (after m before) && eqb (c v + runsIn i v m before + 1) (len v))
+    (v : ℕ) → has (getD reports i 0) v ≡ isDue (isRunning i v (after m before)) (c v + runsIn i v m before) (len v)
 
 pub true-from-start : (i : ℕ) (len : ℕ → ℕ) (m : Model) (calls : List Call) → TrueReports i len m calls →
     TrueFrom i len (λ _. 0) m calls
 unfolding TrueReports TrueFrom
 true-from-start i len m calls h before reports rest e z a v =
     h before reports rest e z a v
-    ∙ ap (λ (n : ℕ). isRunning i v (after m before) && eqb (n + 1) (len v)) (sym (zero-add (runsIn i v m before)))
+    ∙ ap (λ (n : ℕ). isDue (isRunning i v (after m before)) n (len v)) (sym (zero-add (runsIn i v m before)))
 
 -- What each node has run after one more call.
 abbrev pub ranAfter : ℕ → Model → Call → (ℕ → ℕ) → ℕ → ℕ
@@ -45,10 +44,10 @@ unfolding TrueFrom
 true-from-next i len c m x calls none h before reports rest e z a v =
     h (x ∷ before) reports rest (ap (λ (l : List Call). x ∷ l) e)
     (ap (λ (t : Bool). cond t 1 0 + releasesIn i (next m x) before) none ∙ omega (arith, z)) a v
-    ∙ ap (λ (n : ℕ). isRunning i v (after (next m x) before) && eqb n (len v))
+    ∙ ap (λ (n : ℕ). isDue (isRunning i v (after (next m x) before)) n (len v))
     (grouped (c v) (cond (runsOn i v m x) 1 0) (runsIn i v (next m x) before))
   where
-    grouped : (a b d : ℕ) → a + (b + d) + 1 ≡ a + b + d + 1
+    grouped : (a b d : ℕ) → a + (b + d) ≡ a + b + d
     grouped a b d = omega arith
 
 -- A count of calls that is 0 has none of its calls, neither the first nor among the rest.
@@ -180,11 +179,11 @@ module _ {len : ℕ → ℕ} {work span : ℕ} (i : ℕ) (m : Model) {c : ℕ �
 
   pub true-head : (reports : List ℕ) (calls : List Call) → isAccepted m (tick reports) ≡ true →
       TrueFrom i len c m (tick reports ∷ calls) →
-      (v : ℕ) → has (getD reports i 0) v ≡ (has (runningSet (m .critical) (rowAt m i)) v && eqb (c v + 1) (len v))
+      (v : ℕ) → has (getD reports i 0) v ≡ isDue (has (runningSet (m .critical) (rowAt m i)) v) (c v) (len v)
   unfolding TrueFrom isRunning
   true-head reports calls a h v =
       h [] reports calls refl refl a v
-      ∙ ap (λ (z : ℕ). has (runningSet (m .critical) (rowAt m i)) v && eqb (z + 1) (len v)) (add-zero (c v))
+      ∙ ap (λ (z : ℕ). isDue (has (runningSet (m .critical) (rowAt m i)) v) z (len v)) (add-zero (c v))
 
   pub ran-head : (reports : List ℕ) → isAccepted m (tick reports) ≡ true →
       (v : ℕ) → ranAfter i m (tick reports) c v ≡ c v + bit (has (runningSet (m .critical) (rowAt m i)) v)

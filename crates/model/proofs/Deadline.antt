@@ -47,8 +47,7 @@ below live early closes =
 not-late : (r : Row) → isHigh (r .fixed) ≡ true → r .job .alive ≡ true → isLate r ≡ false → r .job .age < r .fixed .virtual
 unfolding isLate
 not-late r high alive e =
-    leb-false (r .fixed .virtual) (r .job .age)
-    (sym (ap₂ (λ (x y : Bool). x && y && leb (r .fixed .virtual) (r .job .age)) high alive) ∙ e)
+    let not-past = rw (high, alive) at e in omega (arith, leb-false)
 
 -- One more tick in time.
 timely-tick : {len : ℕ → ℕ} {work span : ℕ} {r r′ : Row} {critical critical′ : Bool} {c d : ℕ → ℕ} {n : ℕ} →

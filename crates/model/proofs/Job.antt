@@ -15,6 +15,7 @@ use Rattle.nodes.proofs.Bits.{has-zero, has-above, has-and, has-or, has-ext}
 use Rattle.model.specs.Budget.{Keeps}
 use Rattle.shares.specs.Totals.{shareIn}
 use Rattle.model.specs.Row.{Fixed, Row, isSubset, allEnded, predecessorsOf, precedes, isReady, runningSet, releasedRow, joined, tickedRow}
+use Rattle.model.specs.Run.{isDue}
 use Rattle.sheet.specs.Rules.{allBelow}
 use Rattle.model.proofs.Sums.{lowest, all-at, all-intro, lowest-same}
 use Rattle.model.proofs.JobTick.{ended, ready, runs, Alive, alive-some, alive-same, runs-same, ended-next, ended-same, next}
@@ -168,18 +169,18 @@ module _ {len : ℕ → ℕ} {work span : ℕ} {r : Row} {critical : Bool} {c : 
   -- With a true report the ended nodes are again those that have run their lengths.
   done-next : (d : ℕ → ℕ) (report : ℕ) →
       ((v : ℕ) → d v ≡ c v + bit (has (runningSet critical r) v)) →
-      ((v : ℕ) → has report v ≡ (has (runningSet critical r) v && eqb (c v + 1) (len v))) →
+      ((v : ℕ) → has report v ≡ isDue (has (runningSet critical r) v) (c v) (len v)) →
       (v : ℕ) → v < r .fixed .nodes → has (joined r report) v ≡ ended len d v
-  unfolding joined runs-here
+  unfolding joined runs-here isDue
   done-next d report counts true-report v l =
       has-or (r .job .ended) report v
       ∙ ap₂ (λ (x y : Bool). x || y) (live .done v l)
-      (true-report v ∙ ap (λ (t : Bool). t && eqb (c v + 1) (len v)) (ran-is v l) ∙ one-more (runs-here v))
+      (true-report v ∙ ap (λ (t : Bool). isDue t (c v) (len v)) (ran-is v l) ∙ one-more (runs-here v))
       ∙ sym (ended-next (shareIn critical (r .fixed .share)) (r .fixed .nodes) (precedes (r .fixed .predecessors)) len c v)
       ∙ sym (ended-same len d (next (shareIn critical (r .fixed .share)) (r .fixed .nodes) (precedes (r .fixed .predecessors)) len c) v
       (counts v ∙ ap (λ (t : Bool). c v + bit t) (ran-is v l)))
     where
-      one-more : (t : Bool) → (t && eqb (c v + 1) (len v)) ≡ (t && eqb (c v + bit t) (len v))
+      one-more : (t : Bool) → isDue t (c v) (len v) ≡ (t && eqb (c v + bit t) (len v))
       one-more true = refl
       one-more false = refl
 
@@ -192,7 +193,7 @@ module _ {len : ℕ → ℕ} {work span : ℕ} {r : Row} {critical : Bool} {c : 
   pub live-tick : (d : ℕ → ℕ) (report : ℕ) →
       isSubset report (runningSet critical r) ≡ true →
       ((v : ℕ) → d v ≡ c v + bit (has (runningSet critical r) v)) →
-      ((v : ℕ) → has report v ≡ (has (runningSet critical r) v && eqb (c v + 1) (len v))) →
+      ((v : ℕ) → has report v ≡ isDue (has (runningSet critical r) v) (c v) (len v)) →
       AfterTick (tickedRow r report) d
   unfolding tickedRow
   live-tick d report named counts true-report = go (allEnded (r .fixed .nodes) (joined r report)) refl

@@ -1,3 +1,5 @@
+pub mod Worked
+pub mod Example
 pub mod Sums
 pub mod Chains
 pub mod JobTick
@@ -17,5 +19,3 @@ pub mod Deadline
 pub mod Low
 pub mod Nominal
 pub mod Theorem
-pub mod Worked
-pub mod Example

@@ -10,25 +10,23 @@ use borrow.Author.Tests.{eqb-true}
 use lib.Bits.{bitAnd, and-le-r}
 use lib.Dec.{ltb}
 use Rattle.nodes.specs.Sets.{has, range, every, setOf, count}
-use Rattle.nodes.proofs.Counts.{keep-lowest}
 use Rattle.nodes.proofs.Members.{setOf-keep-lt, has-setOf-keep}
 use Rattle.shares.specs.Totals.{shareIn}
-use Rattle.model.specs.Row.{Row, isSubset, allEnded, isReady, ready, running, runningSet}
+use Rattle.model.specs.Row.{Row, isSubset, allEnded, isReady, runningSet}
+use Rattle.model.proofs.Starts.{runs-first, running-is}
 
 -- A node runs if it is below k, ready, and fewer than the share are ready below it.
 pub runs-test : (critical : Bool) (r : Row) (v : ℕ) →
     has (runningSet critical r) v ≡
     (ltb v (r .fixed .nodes) && (isReady r v && ltb (count (isReady r) v) (shareIn critical (r .fixed .share))))
-unfolding runningSet running ready
+unfolding runningSet runs-first
 runs-test critical r v =
-    ap (λ (vs : List ℕ). has (setOf vs) v) (sym (keep-lowest (isReady r) (shareIn critical (r .fixed .share)) (r .fixed .nodes)))
-    ∙ has-setOf-keep (λ u. isReady r u && ltb (count (isReady r) u) (shareIn critical (r .fixed .share))) (r .fixed .nodes) v
+    ap (λ (vs : List ℕ). has (setOf vs) v) (running-is critical r)
+    ∙ has-setOf-keep (runs-first critical r) (r .fixed .nodes) v
 
 pub running-below : (critical : Bool) (r : Row) → runningSet critical r < 2 ^ r .fixed .nodes
-unfolding runningSet running ready
-running-below critical r =
-    rw (sym (keep-lowest (isReady r) (shareIn critical (r .fixed .share)) (r .fixed .nodes)))
-    (setOf-keep-lt (λ u. isReady r u && ltb (count (isReady r) u) (shareIn critical (r .fixed .share))) (r .fixed .nodes))
+unfolding runningSet
+running-below critical r = rw (running-is critical r) (setOf-keep-lt (runs-first critical r) (r .fixed .nodes))
 
 -- A subset is no larger as a number.
 pub subset-below : (a b n : ℕ) → isSubset a b ≡ true → b < n → a < n

@@ -1,6 +1,6 @@
 -- Nominal: while every high job keeps its nominal budget under true reports, an alive one has fewer than V ticks behind it, so that no
 -- tick switches. By induction on the calls, with what is known of each alive high job and of each Release to come.
-use Prim.Native.Nat.{ℕ, suc, _+_, _<_}
+use Prim.Native.Nat.{ℕ, suc, _+_, _≤_, _<_}
 use mathlib.Core.Path.{_≡_, refl, sym, ap, subst, _∙_}
 use mathlib.Core.Bool.{Bool, true, false, cond, not, _&&_, true≢false, and-eq-true-iff}
 use mathlib.Core.List.{List, [], _∷_}
@@ -10,6 +10,7 @@ use native.Mathlib.Omega.{arith}
 use borrow.Author.Tests.{lt-leb, eqb-true}
 use lib.Dec.{leb, eqb}
 use lib.ListN.{length, getD}
+use Rattle.sheet.specs.declared.task.Budget.{Budget}
 use Rattle.sheet.specs.declared.task.TaskSet.{TaskSet}
 use Rattle.shares.specs.declared.share.Share.{Share}
 use Rattle.shares.proofs.Ends.{nominal-ends}
@@ -19,7 +20,7 @@ use Rattle.model.specs.Run.{answers, isNone, isAccepted, isTick, isRelea
 use Rattle.sheet.specs.Format.{taskIn}
 use Rattle.shares.specs.Totals.{shareAt}
 use Rattle.model.specs.Plan.{freshRow, fresh, Planned}
-use Rattle.model.specs.Claim.{ReleaseIn, begun, NominalJob, isSwitched, noneSwitched, StaysTypical, Nominal}
+use Rattle.model.specs.Claim.{ReleaseIn, begun, KeepsBudget, NominalJob, isSwitched, noneSwitched, StaysTypical, Nominal}
 use Rattle.model.proofs.Steps.{next, accepted-step, refused-step, length-ticked, get-ticked, tick-tests, tick-at, Turn, same, begins, ticks, turn}
 use Rattle.model.proofs.Lasting.{fixed-step, same-fixed, length-step}
 use Rattle.model.proofs.Fresh.{fresh-length, fresh-row}
@@ -53,8 +54,10 @@ none-late-intro : (j : ℕ) (rows : List Row) → ((i : ℕ) → i < length rows
     lowestLate j rows ≡ none
 none-late-intro j [] h = refl
 none-late-intro j (r ∷ rows) h =
-    ap (λ (t : Bool). cond t (some j) (lowestLate (suc j) rows)) (h 0 (omega arith))
-    ∙ none-late-intro (suc j) rows (λ i b. h (suc i) (omega arith))
+    go (isLate r) _ _ (h 0 (omega arith)) (none-late-intro _ rows (λ i b. h (suc i) (omega arith)))
+  where
+    go : (t : Bool) (q : ℕ) (o : Option ℕ) → t ≡ false → o ≡ none → cond t (some q) o ≡ none
+    go t q o e n = ap (λ (b : Bool). cond b (some q) o) e ∙ n
 
 -- After its part of a tick no honest job is late.
 part-not-late : (m : Model) (reports : List ℕ) (calls : List Call) → Calm m (tick reports ∷ calls) →
@@ -223,12 +226,14 @@ calm-stays m (x ∷ calls) calm =
     }
 
 module _ (ts : TaskSet) (shares : List Share) (planned : Planned ts shares) where
-  before-high : (i : ℕ) → i < ts .count → taskIn ts i .level ≡ highLevel →
-      Before (taskIn ts i .figures .nominal .work) (taskIn ts i .figures .nominal .span) (plannedFixed ts shares i)
+  before-high : (i : ℕ) → i < ts .count → taskIn ts i .level ≡ highLevel → (b : Budget) →
+      b .span ≤ taskIn ts i .figures .nominal .span → b .work ≤ taskIn ts i .figures .nominal .work →
+      Before (b .work) (b .span) (plannedFixed ts shares i)
   unfolding freshRow
-  before-high i h level full p span work =
+  before-high i h level b less-span less-work full p span work =
       rw (high-fixed ts shares i level .1)
-      (nominal-ends (taskIn ts i .figures) (shareAt shares i .typical) full p (planned .high i h level .positive) span work)
+      (nominal-ends (taskIn ts i .figures) (shareAt shares i .typical) full p (planned .high i h level .positive)
+      (omega arith) (omega arith))
 
   level-high : (i : ℕ) → i < ts .count → isHigh (rowAt (fresh ts shares) i .fixed) ≡ true → taskIn ts i .level ≡ highLevel
   unfolding isHigh freshRow
@@ -254,20 +259,7 @@ module _ (ts : TaskSet) (shares : List Share) (planned : Planned ts shares) wher
     where
       coming : (i : ℕ) (job : ReleaseIn (fresh ts shares) i calls) → isHigh (rowAt (fresh ts shares) i .fixed) ≡ true →
           Honest i (begun job) (job .since)
-      coming i job high =
-          record {
-            len = own .lengths;
-            work = taskIn ts i .figures .nominal .work;
-            span = taskIn ts i .figures .nominal .span;
-            counts = λ _. 0;
-            passed = 0;
-            live = live-at-release ts shares planned (job .before) i (taskIn ts i .figures .nominal) (own .lengths)
-                (job .accepted) (own .keeps);
-            before =
-                subst (Before (taskIn ts i .figures .nominal .work) (taskIn ts i .figures .nominal .span))
-                (sym (fixed-begun ts shares planned (job .before) i i known)) (before-high i known level);
-            reports = true-from-start i (own .lengths) (begun job) (job .since) (own .reports);
-          }
+      coming i job high = within _ (own .keeps) (omega arith) (omega arith)
         where
           known : i < ts .count
           known = known-task ts shares planned (job .before) i (job .accepted)
@@ -277,3 +269,20 @@ module _ (ts : TaskSet) (shares : List Share) (planned : Planned ts shares) wher
 
           own : NominalJob (taskIn ts i) i (begun job) (job .since)
           own = honest i job level
+
+          -- The job's budget is within the nominal one.
+          within : (b : Budget) → KeepsBudget (taskIn ts i) b (own .lengths) → b .span ≤ taskIn ts i .figures .nominal .span →
+              b .work ≤ taskIn ts i .figures .nominal .work → Honest i (begun job) (job .since)
+          within b keeps less-span less-work =
+              record {
+                len = own .lengths;
+                work = b .work;
+                span = b .span;
+                counts = λ _. 0;
+                passed = 0;
+                live = live-at-release ts shares planned (job .before) i b (own .lengths) (job .accepted) keeps;
+                before =
+                    subst (Before (b .work) (b .span)) (sym (fixed-begun ts shares planned (job .before) i i known))
+                    (before-high i known level b less-span less-work);
+                reports = true-from-start i (own .lengths) (begun job) (job .since) (own .reports);
+              }

@@ -3,6 +3,7 @@ use Prim.Native.Nat.{ℕ, _<_}
 use mathlib.Core.Path.{_≡_, refl, sym, ap, subst, _∙_}
 use mathlib.Core.Bool.{true, cond}
 use mathlib.Core.List.{List, [], _∷_, _++_}
+use native.Mathlib.Omega.{arith}
 use borrow.Author.Tests.{eq-eqb}
 use lib.Dec.{eqb}
 use Rattle.sheet.specs.declared.task.Budget.{Budget}
@@ -38,7 +39,7 @@ pub high-fixed : (ts : TaskSet) (shares : List Share) (i : ℕ) → taskIn ts i 
 unfolding freshRow isHigh virtualOf isLow highLevel
 high-fixed ts shares i e = (
   eq-eqb (taskIn ts i .level) 1 e,
-  ap (λ (n : ℕ). cond (eqb n 0) 0 (virtualDeadline (taskIn ts i .figures) (shareAt shares i .typical))) e,
+  omega (arith, ap (λ (n : ℕ). cond (eqb n 0) 0 (virtualDeadline (taskIn ts i .figures) (shareAt shares i .typical))) e),
 )
 
 module _ (ts : TaskSet) (shares : List Share) (planned : Planned ts shares) where

@@ -53,11 +53,21 @@ ready-start r v s =
     ap₂ _&&_ (ap₂ _&&_ (s .alive) (ap not (s .left)))
     (subset-intro (predecessorsOf (r .fixed .predecessors) v) (r .job .ended) (s .predecessors))
 
+start-ready : (r : Row) (v : ℕ) → MayStart r v → List·Memᴰ v (ready r)
+unfolding ready
+start-ready r v s =
+    mem-keep (isReady r) _ v (ready-start r v s) (mem-range _ (r .fixed .nodes) v (omega arith) (omega (arith, s .node)))
+
+running-many : (critical : Bool) (r : Row) →
+    length (running critical r) ≡ min (shareIn critical (r .fixed .share)) (length (ready r))
+unfolding running
+running-many critical r = omega (arith, length-take (shareIn critical (r .fixed .share)) (ready r))
+
 -- A node among the first of the ready ones is ready, and fewer than the share are ready below it.
-runs-first : Bool → Row → ℕ → Bool
+unfoldable pub runs-first : Bool → Row → ℕ → Bool
 runs-first critical r v = isReady r v && ltb (count (isReady r) v) (shareIn critical (r .fixed .share))
 
-running-is : (critical : Bool) (r : Row) → running critical r ≡ keep (runs-first critical r) (range 0 (r .fixed .nodes))
+pub running-is : (critical : Bool) (r : Row) → running critical r ≡ keep (runs-first critical r) (range 0 (r .fixed .nodes))
 unfolding running ready runs-first
 running-is critical r = sym (keep-lowest (isReady r) (shareIn critical (r .fixed .share)) (r .fixed .nodes))
 
@@ -87,17 +97,6 @@ first-running critical r v f =
     (mem-keep (runs-first critical r) (range 0 (r .fixed .nodes)) v
     (ap₂ _&&_ (f .ready) (lt-ltb (count (isReady r) v) (shareIn critical (r .fixed .share)) (f .few)))
     (mem-range 0 (r .fixed .nodes) v (omega arith) (omega (arith, f .node))))
-
-start-ready : (r : Row) (v : ℕ) → MayStart r v → List·Memᴰ v (ready r)
-unfolding ready
-start-ready r v s =
-    mem-keep (isReady r) (range 0 (r .fixed .nodes)) v (ready-start r v s)
-    (mem-range 0 (r .fixed .nodes) v (omega arith) (omega (arith, s .node)))
-
-running-many : (critical : Bool) (r : Row) →
-    length (running critical r) ≡ min (shareIn critical (r .fixed .share)) (length (ready r))
-unfolding running
-running-many critical r = length-take (shareIn critical (r .fixed .share)) (ready r)
 
 -- S8.2 and S8.3, of every row.
 pub startable : (r : Row) → Startable r

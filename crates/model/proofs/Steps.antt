@@ -41,27 +41,26 @@ get-subset : (critical : Bool) (j : ℕ) (rows : List Row) (reports : List ℕ) 
 get-subset critical j [] reports i e l h = absurd (omega arith)
 get-subset critical j (r ∷ rows) [] i e l h = absurd (omega arith)
 get-subset critical j (r ∷ rows) (x ∷ reports) i e l h =
-    go i h (isSubset x (runningSet critical r)) refl e (λ u n b. get-subset critical (suc j) rows reports u n (omega arith) b)
+    go i h (isSubset x (runningSet critical r)) refl _ _ e (λ u n b. get-subset critical _ rows reports u n (omega arith) b)
   where
-    go : (i : ℕ) → i < suc (length rows) → (t : Bool) → isSubset x (runningSet critical r) ≡ t →
-        isNone (cond t (reportRefusal critical (suc j) rows reports) (refusal notRunning j)) ≡ true →
-        ((u : ℕ) → isNone (reportRefusal critical (suc j) rows reports) ≡ true → u < length rows →
-        isSubset (getD reports u 0) (runningSet critical (getD rows u noRow)) ≡ true) →
+    go : (i : ℕ) → i < suc (length rows) → (t : Bool) → isSubset x (runningSet critical r) ≡ t → (o : Option Refusal) (q : Refusal) →
+        isNone (cond t o (some q)) ≡ true →
+        ((u : ℕ) → isNone o ≡ true → u < length rows → isSubset (getD reports u 0) (runningSet critical (getD rows u noRow)) ≡ true) →
         isSubset (getD (x ∷ reports) i 0) (runningSet critical (getD (r ∷ rows) i noRow)) ≡ true
-    go zero b true s n rest = s
-    go (suc u) b true s n rest = rest u n (omega arith)
-    go u b false s n rest = absurd (false≢true n)
+    go zero b true s o q n rest = s
+    go (suc u) b true s o q n rest = rest u n (omega arith)
+    go u b false s o q n rest = absurd (false≢true n)
 
 none-late : (j : ℕ) (rows : List Row) (i : ℕ) → lowestLate j rows ≡ none → i < length rows → isLate (getD rows i noRow) ≡ false
 none-late j [] i e h = absurd (omega arith)
-none-late j (r ∷ rows) i e h = go i h (isLate r) refl e (none-late (suc j) rows)
+none-late j (r ∷ rows) i e h = go i h (isLate r) refl _ _ e (none-late _ rows)
   where
-    go : (i : ℕ) → i < suc (length rows) → (t : Bool) → isLate r ≡ t → cond t (some j) (lowestLate (suc j) rows) ≡ none →
-        ((u : ℕ) → lowestLate (suc j) rows ≡ none → u < length rows → isLate (getD rows u noRow) ≡ false) →
+    go : (i : ℕ) → i < suc (length rows) → (t : Bool) → isLate r ≡ t → (q : ℕ) (o : Option ℕ) → cond t (some q) o ≡ none →
+        ((u : ℕ) → o ≡ none → u < length rows → isLate (getD rows u noRow) ≡ false) →
         isLate (getD (r ∷ rows) i noRow) ≡ false
-    go i b true s n rest = let z : _≡_ {A = ℕ} 0 1 = cc in absurd (omega arith)
-    go zero b false s n rest = s
-    go (suc u) b false s n rest = rest u n (omega arith)
+    go i b true s q o n rest = let z : _≡_ {A = ℕ} 0 1 = cc in absurd (omega arith)
+    go zero b false s q o n rest = s
+    go (suc u) b false s q o n rest = rest u n (omega arith)
 
 switched-noRow : switchedRow noRow ≡ noRow
 unfolding switchedRow

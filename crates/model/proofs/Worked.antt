@@ -3,11 +3,11 @@ use Prim.Native.Nat.{ℕ}
 use mathlib.Core.Path.{_≡_, refl}
 use mathlib.Core.Bool.{true, false}
 use mathlib.Core.List.{List, [], _∷_, _++_}
-use lib.ListN.{replicate}
-use Rattle.nodes.specs.Sets.{has, range}
+use lib.ListN.{replicate, getD}
+use Rattle.nodes.specs.Sets.{has, range, keep}
 use Rattle.model.specs.Row.{Row, highLevel, isHigh, isSubset, allEnded, predecessorsOf, isReady, ready, running, runningSet, releasedRow, joined, tickedRow, isLate, switchedRow}
 use Rattle.model.specs.Step.{Model, Call, release, tick, accepted, ran, switched, refused, step, rowAt, unknownTask, lowInCritical, tooEarly, wrongCount, notRunning, releaseRefusal, tickRefusal, released, ticked}
-use Rattle.model.specs.Run.{after, answers, isAccepted, ticksIn, isRunning, runsIn}
+use Rattle.model.specs.Run.{after, answers, isAccepted, ticksIn, isRunning, runsIn, isDue}
 
 -- A row without a job: level, nodes, masks, D, V and both shares.
 abbrev pub idle : ℕ → ℕ → List ℕ → ℕ → ℕ → ℕ → ℕ → Row
@@ -25,19 +25,31 @@ idle level nodes masks deadline virtual typical critical =
       job = record { age = deadline; ended = 0; alive = false };
     }
 
--- Task A of 01's cases alone, at (1, 2): D 45, V 9, three nodes without predecessors.
+-- S11.13: task A alone, at (1, 2): D 45, V 9, three nodes without predecessors.
 abbrev pub alone : Model
 alone = record { critical = false; rows = idle 1 3 (0 ∷ 0 ∷ 0 ∷ []) 45 9 1 2 ∷ [] }
 
+-- Ticks of one task's model that report nothing.
 abbrev quiet : ℕ → List Call
 quiet n = replicate n (tick (0 ∷ []))
 
--- Lengths 4, 3, 2: the last node ends with tick 9.
+-- S11.13: with the lengths 4, 3, 2 node 0 ends with tick 4, node 1 with tick 7, node 2 with tick 9.
 abbrev endsInTime : List Call
-endsInTime =
-    release 0 ∷ quiet 3 ++ tick (1 ∷ []) ∷ quiet 2 ++ tick (2 ∷ []) ∷ quiet 1 ++ tick (4 ∷ []) ∷ []
+endsInTime = release 0 ∷ quiet 3 ++ tick (1 ∷ []) ∷ quiet 2 ++ tick (2 ∷ []) ∷ quiet 1 ++ tick (4 ∷ []) ∷ []
 
--- Two high tasks with V 2 and a low one that runs; task 0 has no job.
+-- S11.13: with the lengths 4, 3, 3 node 2 has a tick to run after tick 9.
+abbrev endsLate : List Call
+endsLate = release 0 ∷ quiet 3 ++ tick (1 ∷ []) ∷ quiet 2 ++ tick (2 ∷ []) ∷ quiet 2
+
+-- The nodes that are due after some ticks of that job, with these lengths.
+abbrev due : List ℕ → List Call → List ℕ
+due lengths calls =
+    keep
+    (λ v. isDue (isRunning 0 v (after (after alone (release 0 ∷ [])) calls)) (runsIn 0 v (after alone (release 0 ∷ [])) calls)
+    (getD lengths v 0))
+    (range 0 3)
+
+-- Three high tasks with V 2 and a low one.
 abbrev mixed : Model
 mixed =
     record {
@@ -50,7 +62,7 @@ mixed =
 abbrev silent : Call
 silent = tick (0 ∷ 0 ∷ 0 ∷ 0 ∷ [])
 
--- The jobs of tasks 1, 2 and 3 begin together.
+-- The jobs of tasks 1, 2 and 3 begin together; task 0 has none.
 abbrev three : List Call
 three = release 2 ∷ release 1 ∷ release 3 ∷ []
 
@@ -58,13 +70,29 @@ three = release 2 ∷ release 1 ∷ release 3 ∷ []
 abbrev fork : Model
 fork = record { critical = false; rows = idle 1 4 (0 ∷ 0 ∷ 1 ∷ 0 ∷ []) 30 9 2 3 ∷ [] }
 
+-- Node 1 waits for node 0, node 2 for node 1, node 3 for the nodes 0 and 2; there is a processor for each.
+abbrev ladder : Model
+ladder = record { critical = false; rows = idle 1 4 (0 ∷ 1 ∷ 2 ∷ 5 ∷ []) 30 9 4 4 ∷ [] }
+
+-- What runs of a model's task 0 after a list of calls.
+abbrev runs : Model → List Call → List ℕ
+runs m calls = running (after m calls .critical) (rowAt (after m calls) 0)
+
 pub record Worked : Type 0 where
-  -- 01, case 13, lengths 4, 3, 2: a job that ends in tick V causes no switch.
+  -- S11.13, lengths 4, 3, 2: a job that ends with tick V causes no switch.
   pub in-time : answers alone endsInTime ≡ accepted ∷ replicate 9 ran
   pub in-time-gone : rowAt (after alone endsInTime) 0 .job ≡ record { age = 9; ended = 7; alive = false }
-  -- 01, case 13, lengths 4, 3, 3: the job is alive after tick 9, which switches.
-  pub late : answers alone (release 0 ∷ quiet 9) ≡ accepted ∷ replicate 8 ran ++ switched 0 ∷ []
-  -- A refused tick ages nothing: node 1 does not run, node 3 is none, two reports are too many.
+  -- S11.13, lengths 4, 3, 3: the job is alive after tick 9, which switches.
+  pub late : answers alone endsLate ≡ accepted ∷ replicate 8 ran ++ switched 0 ∷ []
+  pub late-alive : rowAt (after alone endsLate) 0 .job ≡ record { age = 9; ended = 3; alive = true }
+  -- S10.5: a node is due with the tick that brings what it ran to its length, neither before nor after, and only if it runs.
+  pub not-due : due (4 ∷ 3 ∷ 2 ∷ []) (quiet 2) ≡ []
+  pub due-first : due (4 ∷ 3 ∷ 2 ∷ []) (quiet 3) ≡ 0 ∷ []
+  pub due-past : due (4 ∷ 3 ∷ 2 ∷ []) (quiet 4) ≡ []
+  pub due-next : due (4 ∷ 3 ∷ 2 ∷ []) (quiet 3 ++ tick (1 ∷ []) ∷ quiet 2) ≡ 1 ∷ []
+  -- S9.11 to S9.15: the numbers of the refusals.
+  pub numbers : unknownTask ∷ lowInCritical ∷ tooEarly ∷ wrongCount ∷ notRunning ∷ [] ≡ 11 ∷ 12 ∷ 13 ∷ 14 ∷ 15 ∷ []
+  -- S3.4, S9.14 and S9.15: a refused tick ages nothing: node 1 does not run, node 3 is none, two reports are too many.
   pub wrong-node : answers alone (release 0 ∷ tick (2 ∷ []) ∷ tick (8 ∷ []) ∷ tick (1 ∷ 0 ∷ []) ∷ [])
       ≡ accepted
       ∷ refused (record { number = 15; task = 0 })
@@ -73,33 +101,63 @@ pub record Worked : Type 0 where
       ∷ []
   pub no-age : after alone (release 0 ∷ tick (2 ∷ []) ∷ tick (8 ∷ []) ∷ tick (1 ∷ 0 ∷ []) ∷ []) ≡ after alone (release 0 ∷ [])
   pub no-tick : ticksIn alone (release 0 ∷ tick (2 ∷ []) ∷ tick (1 ∷ []) ∷ []) ≡ 1
-  -- The switch names the lowest such task and drops low jobs, whose ended sets stay; a low task is then refused.
+  -- S9.15: the first task at fault is named, here one with a wrong node before another, and one without a job.
+  pub first-fault : answers mixed (three ++ tick (0 ∷ 2 ∷ 2 ∷ 0 ∷ []) ∷ tick (1 ∷ 1 ∷ 2 ∷ 0 ∷ []) ∷ [])
+      ≡ accepted
+      ∷ accepted
+      ∷ accepted
+      ∷ refused (record { number = 15; task = 1 })
+      ∷ refused (record { number = 15; task = 0 })
+      ∷ []
+  -- S8.6, S8.7 and S9.12: the switch names the lowest task that is late and drops low jobs, whose ended sets stay; a low task is
+  -- then refused.
   pub lowest : answers mixed (three ++ tick (0 ∷ 0 ∷ 0 ∷ 1 ∷ []) ∷ silent ∷ release 3 ∷ [])
       ≡ accepted ∷ accepted ∷ accepted ∷ ran ∷ switched 1 ∷ refused (record { number = 12; task = 3 }) ∷ []
   pub dropped : rowAt (after mixed (three ++ tick (0 ∷ 0 ∷ 0 ∷ 1 ∷ []) ∷ silent ∷ [])) 3 .job
       ≡ record { age = 2; ended = 1; alive = false }
   pub kept : rowAt (after mixed (three ++ silent ∷ silent ∷ [])) 2 .job ≡ record { age = 2; ended = 0; alive = true }
-  -- A node that ends early lets a later one start: the lowest ready nodes run, as many as the share.
+  -- S8.3: the lowest ready nodes run, as many as the share in the mode; a node that ends lets a later one start.
   pub first-nodes : running false (rowAt (after fork (release 0 ∷ [])) 0) ≡ 0 ∷ 1 ∷ []
   pub next-nodes : running false (rowAt (after fork (release 0 ∷ tick (1 ∷ []) ∷ [])) 0) ≡ 1 ∷ 2 ∷ []
   pub in-critical : running true (rowAt (after fork (release 0 ∷ tick (1 ∷ []) ∷ [])) 0) ≡ 1 ∷ 2 ∷ 3 ∷ []
   pub counted : runsIn 0 2 fork (release 0 ∷ tick (1 ∷ []) ∷ tick (2 ∷ []) ∷ tick (0 ∷ []) ∷ []) ≡ 2
-  -- A Release is refused for an unknown task, and while a job is alive or the age is below D.
+  -- S8.2: a node waits until each of its predecessors has ended, although there is a processor for it: node 3 too, of whose
+  -- predecessors node 0 has.
+  pub level-one : runs ladder (release 0 ∷ []) ≡ 0 ∷ []
+  pub level-two : runs ladder (release 0 ∷ tick (1 ∷ []) ∷ []) ≡ 1 ∷ []
+  pub level-three : runs ladder (release 0 ∷ tick (1 ∷ []) ∷ tick (2 ∷ []) ∷ []) ≡ 2 ∷ []
+  pub level-four : runs ladder (release 0 ∷ tick (1 ∷ []) ∷ tick (2 ∷ []) ∷ tick (4 ∷ []) ∷ []) ≡ 3 ∷ []
+  -- S8.5: a node that was reported stays ended, and it is refused as a report from then on.
+  pub stays-ended : rowAt (after ladder (release 0 ∷ tick (1 ∷ []) ∷ tick (0 ∷ []) ∷ tick (2 ∷ []) ∷ [])) 0 .job
+      ≡ record { age = 3; ended = 3; alive = true }
+  pub not-again : answers ladder (release 0 ∷ tick (1 ∷ []) ∷ tick (1 ∷ []) ∷ [])
+      ≡ accepted ∷ ran ∷ refused (record { number = 15; task = 0 }) ∷ []
+  -- S9.11 and S9.13: a Release is refused for an unknown task, and while a job is alive or the age is below D.
   pub too-early : answers alone (release 1 ∷ release 0 ∷ release 0 ∷ [])
       ≡ refused (record { number = 11; task = 255 }) ∷ accepted ∷ refused (record { number = 13; task = 0 }) ∷ []
-  pub not-yet : answers (after alone endsInTime) (release 0 ∷ quiet 36 ++ release 0 ∷ [])
-      ≡ refused (record { number = 13; task = 0 }) ∷ replicate 36 ran ++ accepted ∷ []
+  pub not-yet : answers (after alone endsInTime) (release 0 ∷ quiet 35 ++ release 0 ∷ quiet 1 ++ release 0 ∷ [])
+      ≡ refused (record { number = 13; task = 0 })
+      ∷ replicate 35 ran ++ refused (record { number = 13; task = 0 }) ∷ ran ∷ accepted ∷ []
+  -- S8.4: the next job begins afresh: what the last one left as its ended set goes with the Release.
+  pub afresh : rowAt (after (after alone endsInTime) (quiet 36 ++ release 0 ∷ [])) 0 .job ≡ record { age = 0; ended = 0; alive = true }
 
 worked : Worked
-unfolding has range highLevel isHigh isSubset allEnded predecessorsOf isReady ready running runningSet releasedRow joined tickedRow isLate switchedRow step rowAt unknownTask lowInCritical tooEarly wrongCount notRunning releaseRefusal tickRefusal released ticked isAccepted isRunning
+unfolding has range highLevel isHigh isSubset allEnded predecessorsOf isReady ready running runningSet releasedRow joined tickedRow isLate switchedRow step rowAt unknownTask lowInCritical tooEarly wrongCount notRunning releaseRefusal tickRefusal released ticked isAccepted isRunning isDue
 worked =
     record {
       in-time = refl;
       in-time-gone = refl;
       late = refl;
+      late-alive = refl;
+      not-due = refl;
+      due-first = refl;
+      due-past = refl;
+      due-next = refl;
+      numbers = refl;
       wrong-node = refl;
       no-age = refl;
       no-tick = refl;
+      first-fault = refl;
       lowest = refl;
       dropped = refl;
       kept = refl;
@@ -107,6 +165,13 @@ worked =
       next-nodes = refl;
       in-critical = refl;
       counted = refl;
+      level-one = refl;
+      level-two = refl;
+      level-three = refl;
+      level-four = refl;
+      stays-ended = refl;
+      not-again = refl;
       too-early = refl;
       not-yet = refl;
+      afresh = refl;
     }

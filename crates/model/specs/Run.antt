@@ -64,13 +64,17 @@ runsOn i v m c = isTick m c && isRunning i v m
 abbrev pub runsIn : ℕ → ℕ → Model → List Call → ℕ
 runsIn i v m calls = countCalls (runsOn i v) m calls
 
--- 01, Dispatch: a node's length is run with the tick that brings the number of such ticks since the job's release up to that length.
--- The reports of the job of task i whose release left the model m are true over the calls that follow, up to the next accepted
--- Release of i: each accepted tick reports of i just the nodes that run on it and whose length is run with it.
+-- S10.5: whether a tick has to report a node that ran on so many ticks before it: the node runs on this tick too, and with it has
+-- run its length.
+unfoldable pub isDue : Bool → ℕ → ℕ → Bool
+isDue runs ran len = runs && eqb (ran + 1) len
+
+-- S10.5: the reports of the job of task i whose release left the model m are true over the calls that follow, up to the next
+-- accepted Release of i: each accepted tick reports of i just the nodes that are due.
 unfoldable pub TrueReports : ℕ → (ℕ → ℕ) → Model → List Call → Type 0
 TrueReports i lengths m calls =
     (before : List Call) (reports : List ℕ) (rest : List Call) →
     calls ≡ before ++ tick reports ∷ rest →
     releasesIn i m before ≡ 0 →
     isAccepted (after m before) (tick reports) ≡ true →
-    (v : ℕ) → has (getD reports i 0) v ≡ (isRunning i v (after m before) && eqb (runsIn i v m before + 1) (lengths v))
+    (v : ℕ) → has (getD reports i 0) v ≡ isDue (isRunning i v (after m before)) (runsIn i v m before) (lengths v)
