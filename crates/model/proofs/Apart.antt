@@ -1,5 +1,5 @@
--- Releases of a task lie D ticks apart: the age of a job is at most the number of accepted ticks since its release, and a Release
--- is accepted only at age D.
+-- S10.10: releases of a task lie D ticks apart. The age of a job is at most the number of accepted ticks since its release, and a
+-- Release is accepted only at age D.
 use Prim.Native.Nat.{ℕ, _+_, _≤_, _<_}
 use mathlib.Core.Path.{_≡_, refl, sym, ap, _∙_}
 use mathlib.Core.Bool.{Bool, true, false, cond, not, _&&_, _||_, false≢true}
@@ -7,7 +7,7 @@ use mathlib.Core.List.{List, [], _∷_, _++_}
 use mathlib.Core.Option.{none}
 use native.Mathlib.Omega.{arith}
 use borrow.Author.Tests.{ltb-false}
-use lib.Dec.{leb, ltb}
+use lib.Dec.{leb}
 use lib.ListN.{length, getD}
 use Rattle.sheet.specs.declared.task.TaskSet.{TaskSet}
 use Rattle.shares.specs.declared.share.Share.{Share}
@@ -28,9 +28,8 @@ use Rattle.model.proofs.Released.{after-append, known-task, since-relea
 release-aged : (m : Model) (i : ℕ) → isAccepted m (release i) ≡ true → rowAt m i .fixed .deadline ≤ rowAt m i .job .age
 unfolding isAccepted releaseRefusal
 release-aged m i e =
-    ltb-false (rowAt m i .job .age) (rowAt m i .fixed .deadline)
-    (go (leb (length (m .rows)) i) (m .critical && not (isHigh (rowAt m i .fixed))) (rowAt m i .job .alive)
-    (ltb (rowAt m i .job .age) (rowAt m i .fixed .deadline)) e)
+    let aged = go (leb (length (m .rows)) i) (m .critical && not (isHigh (rowAt m i .fixed))) (rowAt m i .job .alive) _ e in
+    omega (arith, ltb-false)
   where
     go : (unknown low alive early : Bool) →
         isNone (cond unknown (refusal unknownTask noTask) (cond low (refusal lowInCritical i) (cond (alive || early) (refusal tooEarly i) none)))

@@ -1,4 +1,4 @@
--- Capacity: each task runs at most its share, and the shares total at most M.
+-- S10.8, capacity: each task runs at most its share, and the shares total at most M.
 use Prim.Native.Nat.{ℕ, _+_, _≤_, _<_, zero-le}
 use mathlib.Core.Path.{_≡_, refl, ap}
 use mathlib.Core.Bool.{Bool, true, false}
@@ -51,7 +51,7 @@ none-run true = refl
 none-run false = refl
 
 module _ (ts : TaskSet) (shares : List Share) (planned : Planned ts shares) where
-  -- Demand 3, capacity.
+  -- S10.8.
   pub capacity : (calls : List Call) → Capacity ts shares (after (fresh ts shares) calls)
   unfolding fresh freshRow
   capacity calls =

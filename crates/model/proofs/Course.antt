@@ -62,8 +62,8 @@ high-switched r h =
     ap (λ (b : Bool). record { fixed = r .fixed; job = record { age = r .job .age; ended = r .job .ended; alive = b } })
     (ap (λ (t : Bool). r .job .alive && t) h ∙ and-true (r .job .alive))
 
--- A high task's row, and every row while the state stays typical, is after an accepted tick what its part of the tick makes of it;
--- and where the state is typical after the tick, it was so before and no job is late.
+-- A high task's row, and every row while the mode stays typical, is after an accepted tick what its part of the tick makes of it;
+-- and where the mode is typical after the tick, it was so before and no job is late.
 pub record PlainTick (m : Model) (i : ℕ) (reports : List ℕ) : Type 0 where
   pub row : rowAt (next m (tick reports)) i ≡ tickedRow (rowAt m i) (getD reports i 0)
   pub calm : next m (tick reports) .critical ≡ false →
@@ -227,7 +227,7 @@ module _ {len : ℕ → ℕ} {work span : ℕ} (i : ℕ) (m : Model) {c : ℕ �
           (λ f. (plain .calm f .0, ap isLate (sym (plain .row)) ∙ plain .calm f .1))
       go (ends o) = ended o
 
-  -- One call of a high task's alive job, or of any while the state stays typical.
+  -- One call of a high task's alive job, or of any while the mode stays typical.
   pub live-step : (x : Call) (calls : List Call) → i < length (m .rows) →
       (isHigh (rowAt m i .fixed) ≡ true) ⊎ (next m x .critical ≡ false) →
       isReleaseOf i m x ≡ false → TrueFrom i len c m (x ∷ calls) →

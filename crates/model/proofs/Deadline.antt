@@ -1,13 +1,13 @@
--- The deadline theorem: a high job under its overload budget ends within D accepted ticks. While it is alive, at most V of the ticks
+-- S10.7, deadline: a high job under its overload budget ends within D accepted ticks. While it is alive, at most V of the ticks
 -- behind it were full ones in typical mode, and in typical mode there are fewer than V in all.
 use Prim.Native.Nat.{ℕ, _+_, _*_, _≤_, _<_}
-use mathlib.Core.Path.{_≡_, refl, sym, ap₂, subst, subst₂, _∙_}
-use mathlib.Core.Bool.{Bool, true, false, _&&_, false≢true}
+use mathlib.Core.Path.{_≡_, refl, sym, subst, subst₂}
+use mathlib.Core.Bool.{Bool, true, false, false≢true}
 use mathlib.Core.List.{List}
 use mathlib.Core.Logic.{inl}
 use native.Mathlib.Omega.{arith}
 use borrow.Author.Tests.{leb-false}
-use lib.Dec.{T, leb}
+use lib.Dec.{T}
 use Rattle.sheet.specs.declared.task.Budget.{Budget}
 use Rattle.sheet.specs.declared.task.TaskSet.{TaskSet}
 use Rattle.shares.specs.declared.share.Share.{Share}
@@ -111,7 +111,7 @@ module _ (ts : TaskSet) (shares : List Share) (planned : Planned ts shares) wher
             (virtual-positive (taskIn ts i .figures) (shareAt shares i .typical) (planned .lawful i h .figures .span));
       }
 
-  -- Demand 3, deadline.
+  -- S10.7.
   pub deadline : (calls : List Call) → Deadline ts shares calls
   unfolding Deadline EndInTime AtModel
   deadline calls i job lengths level keeps reports passed =

@@ -1,11 +1,11 @@
--- What the theorem assumes can be met: by task A of 01's cases alone, at (1, 2), with the lengths 4, 3, 2 of case 13.
+-- What the theorems assume can be met: by task A alone, at (1, 2), with the lengths 4, 3, 2 of S11.13.
 use Prim.Native.Nat.{ℕ, zero, suc, _≤_, _<_, _^_}
 use mathlib.Core.Path.{_≡_, refl, sym, ap, _∙_}
 use mathlib.Core.Bool.{Bool, true, false, true≢false}
 use mathlib.Core.List.{List, [], _∷_}
 use native.Mathlib.Omega.{arith}
 use lib.Dec.{lit<, lit≤}
-use lib.ListN.{getD}
+use lib.ListN.{getD, replicate}
 use Rattle.sheet.specs.declared.task.TaskSet.{TaskSet}
 use Rattle.shares.specs.declared.share.Share.{Share}
 use Rattle.shares.specs.Test.{excess, demand, passes, virtualDeadline}
@@ -16,12 +16,14 @@ use Rattle.model.specs.Budget.{sumBelow, Chain, alone as single, link, a
 use Rattle.sheet.specs.Format.{taskIn}
 use Rattle.shares.specs.Totals.{shareAt, shareTotal}
 use Rattle.model.specs.Plan.{freshRow, fresh, LawfulTask, PassingPair, LowPair, Planned}
-use Rattle.model.specs.Claim.{KeepsBudget}
-use Rattle.nodes.specs.Sets.{has}
-use Rattle.model.specs.Row.{lowLevel, highLevel, precedes, predecessorsOf}
+use Rattle.model.specs.Claim.{KeepsBudget, DeadlinePassed}
+use Rattle.nodes.specs.Sets.{has, range}
+use Rattle.model.specs.Row.{lowLevel, highLevel, isHigh, isSubset, allEnded, precedes, predecessorsOf, isReady, ready, running, runningSet, releasedRow, joined, tickedRow, isLate, switchedRow}
+use Rattle.model.specs.Step.{release, tick, step, rowAt, releaseRefusal, tickRefusal, released, ticked}
+use Rattle.model.specs.Run.{after, isAccepted}
 use Rattle.model.proofs.Worked.{alone}
 
--- The sheet of task A alone, two processors, and its allocation.
+-- S11.13: the task set of A alone, on two processors, and its shares.
 abbrev sheetA : TaskSet
 sheetA =
     record {
@@ -45,12 +47,12 @@ sheetA =
 abbrev sharesA : List Share
 sharesA = record { typical = 1; critical = 2 } ∷ []
 
--- Its fresh model is the one of the worked facts.
+-- S11.2: V is 9, and its fresh model is the one of the worked facts.
 fresh-alone : fresh sheetA sharesA ≡ alone
 unfolding fresh freshRow virtualOf isLow virtualDeadline
 fresh-alone = refl
 
--- The sheet and the allocation are planned.
+-- The task set and the shares are planned.
 planned-alone : Planned sheetA sharesA
 unfolding taskIn shareAt highLevel lowLevel predecessorsOf passes demand excess
 planned-alone =
@@ -92,11 +94,11 @@ planned-alone =
     fits true = lit≤ tt
     fits false = lit≤ tt
 
--- Lengths that 01 gives a job of it.
+-- S11.13: the lengths of a job of it.
 abbrev lengthsA : ℕ → ℕ
 lengthsA v = getD (4 ∷ 3 ∷ 2 ∷ []) v 1
 
--- They keep the nominal budgets.
+-- They keep the nominal budget.
 nominal-alone : KeepsBudget (taskIn sheetA 0) (taskIn sheetA 0 .figures .nominal) lengthsA
 unfolding KeepsBudget taskIn sumBelow precedes predecessorsOf
 nominal-alone = record { positive = positive; work = lit≤ tt; span = span }
@@ -119,3 +121,17 @@ nominal-alone = record { positive = positive; work = lit≤ tt; span = span }
     span : (u : ℕ) (rest : List ℕ) → Chain 3 (precedes (0 ∷ 0 ∷ 0 ∷ [])) u rest → along lengthsA u rest ≤ 4
     span u rest (single l) = at-most u l .1
     span u rest (link {v = v} l e c) = absurd (true≢false (sym e ∙ ap (λ (n : ℕ). has n u) (none v) ∙ has-zero u))
+
+-- S10.7: the deadline of a job of it passes with the 45th tick after the release.
+passed-alone : DeadlinePassed (taskIn sheetA 0) 0 (after alone (release 0 ∷ [])) (replicate 45 (tick (0 ∷ [])))
+unfolding taskIn has range highLevel isHigh isSubset allEnded predecessorsOf isReady ready running runningSet releasedRow joined tickedRow isLate switchedRow step rowAt releaseRefusal tickRefusal released ticked isAccepted
+passed-alone =
+    record {
+      before = replicate 44 (tick (0 ∷ []));
+      reports = 0 ∷ [];
+      later = [];
+      list = refl;
+      accepted = refl;
+      ticks = refl;
+      unreleased = refl;
+    }

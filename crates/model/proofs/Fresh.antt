@@ -79,7 +79,7 @@ module _ (ts : TaskSet) (shares : List Share) (planned : Planned ts shares) wher
   kept-sound calls i h =
       sound-after (fresh ts shares) calls i (rw fresh-length h) (subst KeptSound (sym (fresh-row i h)) (sound-fresh i h))
 
-  -- Law 4: what calls can't change stays, and every row stays sound.
+  -- S10.10: what is fixed stays, and every row stays sound.
   pub lasting : (calls : List Call) → Lasting ts shares (after (fresh ts shares) calls)
   lasting calls =
       record { fixed = fixed-after (fresh ts shares) calls; sound = λ i. go i (decLt i (ts .count)) }

@@ -1,4 +1,5 @@
--- A low job under its budget in typical mode: all its full ticks are typical ones, and while it is alive fewer than D have passed.
+-- S10.10, a low job under its budget in typical mode: all its full ticks are typical ones, and while it is alive fewer than D have
+-- passed.
 use Prim.Native.Nat.{ℕ, _<_}
 use mathlib.Core.Path.{_≡_, sym, ap, subst, _∙_}
 use mathlib.Core.Bool.{false}
@@ -28,7 +29,7 @@ use Rattle.model.proofs.Ending.{Kept, ended-by-deadline}
 abbrev Ends : ℕ → ℕ → Fixed → Type 0
 Ends work span f = TypicalBelow work span f (f .deadline)
 
--- A typical state after the calls to come, and that bound: every call keeps both.
+-- A typical mode after the calls to come, and that bound: every call keeps both.
 record StillTypical (work span i : ℕ) (m : Model) (calls : List Call) (n f₁ : ℕ) : Type 0 where
   pub typical : after m calls .critical ≡ false
   pub bound : Ends work span (rowAt m i .fixed)
@@ -58,7 +59,7 @@ module _ (ts : TaskSet) (shares : List Share) (planned : Planned ts shares) wher
       (low-positive figures (omega (arith, pair .room, task .heavy, task .low level)) (pair .room))
       span (rw share at work)
 
-  -- A low job has ended once D accepted ticks have followed its release, if the state stayed typical.
+  -- S10.10: a low job has ended with the D-th accepted tick after its release, if the mode stayed typical.
   pub low-deadline : (calls : List Call) → LowDeadline ts shares calls
   unfolding LowDeadline EndInTime
   low-deadline calls typical i job lengths level keeps reports passed =

@@ -1,6 +1,6 @@
 -- The nodes of one row: which of them run, as a test; sets within others; all nodes ended, as a test of each.
 use Prim.Native.Nat.{ℕ, zero, suc, _+_, _≤_, _<_, _^_}
-use mathlib.Core.Path.{_≡_, refl, sym, ap, _∙_}
+use mathlib.Core.Path.{_≡_, refl, ap, _∙_}
 use mathlib.Core.Bool.{Bool, true, _&&_, and-eq-true-iff}
 use mathlib.Core.List.{List}
 use native.Mathlib.Nat.{le-refl}

@@ -1,5 +1,5 @@
--- Nominal: while every high job keeps its nominal budget under true reports, an alive one has fewer than V ticks behind it, so that no
--- tick switches. By induction on the calls, with what is known of each alive high job and of each Release to come.
+-- S10.9, nominal: while every high job keeps its nominal budget under true reports, an alive one has fewer than V ticks behind it, so
+-- that no tick switches. By induction on the calls, with what is known of each alive high job and of each Release to come.
 use Prim.Native.Nat.{ℕ, suc, _+_, _≤_, _<_}
 use mathlib.Core.Path.{_≡_, refl, sym, ap, subst, _∙_}
 use mathlib.Core.Bool.{Bool, true, false, cond, not, _&&_, true≢false, and-eq-true-iff}
@@ -43,7 +43,7 @@ record Honest (i : ℕ) (m : Model) (calls : List Call) : Type 0 where
   pub before : Before work span (rowAt m i .fixed)
   pub reports : TrueFrom i len counts m calls
 
--- The state is typical; every alive high job is honest, and so is every one to come.
+-- The mode is typical; every alive high job is honest, and so is every one to come.
 record Calm (m : Model) (calls : List Call) : Type 0 where
   pub typical : m .critical ≡ false
   pub alive : (i : ℕ) → i < length (m .rows) → isHigh (rowAt m i .fixed) ≡ true → rowAt m i .job .alive ≡ true →
@@ -88,7 +88,7 @@ part-not-late m reports calls calm a i known = go (isHigh (r .fixed)) refl (part
         settled (goes-on l most fixed) = lt-leb (r .fixed .virtual) (part .job .age) (omega (arith, typical-below l (calm .typical) (honest .before), l .age))
         settled (ends o) = absurd (true≢false (sym alive ∙ o .gone))
 
--- A call that leaves the state typical and does not answer that it switched.
+-- A call that leaves the mode typical and does not answer that it switched.
 record Quiet (m : Model) (x : Call) : Type 0 where
   pub typical : next m x .critical ≡ false
   pub answer : isSwitched (step m x .answer) ≡ false
@@ -245,7 +245,7 @@ module _ (ts : TaskSet) (shares : List Share) (planned : Planned ts shares) wher
   unfolding freshRow
   none-alive i h = ap (λ (r : Row). r .job .alive) (fresh-row ts shares planned i h)
 
-  -- Demand 3, nominal.
+  -- S10.9.
   pub nominal : (calls : List Call) → Nominal ts shares calls
   unfolding Nominal fresh begun
   nominal calls honest =

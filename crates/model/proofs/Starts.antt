@@ -1,4 +1,4 @@
--- A node starts only when each of its predecessors has ended: the test of `isReady` by sets, read bit by bit.
+-- S8.2 and S8.3: a node starts only when each of its predecessors has ended: the test of `isReady` by sets, read bit by bit.
 use Prim.Native.Nat.{ℕ, _+_, _≤_, _<_, min}
 use mathlib.Core.Path.{_≡_, sym, ap, ap₂, subst, _∙_}
 use mathlib.Core.Bool.{Bool, true, not, _&&_, and-eq-true-iff}
@@ -103,7 +103,7 @@ pub startable : (r : Row) → Startable r
 startable r =
     record {
       runs = λ critical v m. let f = running-first critical r v m in may-start r v (f .ready) (f .node);
-      waits = start-ready r;
+      listed = start-ready r;
       lowest = lowest;
       many = λ critical. running-many critical r;
     }

@@ -12,7 +12,7 @@ use lib.ListN.{length, getD, List·getD-map}
 use lib.Seq.{getD-set-same, getD-set-other}
 use Rattle.model.specs.Row.{Row, isSubset, runningSet, releasedRow, tickedRow, isLate, switchedRow}
 use Rattle.sheet.specs.Answers.{noTask}
-use Rattle.model.specs.Step.{Model, Call, release, tick, Refusal, refusal, unknownTask, wrongCount, notRunning, Step, step, stepBy, rowAt, noRow, releaseRefusal, reportRefusal, tickRefusal, refusalOf, released, tickedRows, lowestLate, switchedTo, switching, ticked}
+use Rattle.model.specs.Step.{Model, Call, release, tick, Refusal, refusal, unknownTask, wrongCount, Step, step, stepBy, rowAt, noRow, releaseRefusal, reportRefusal, tickRefusal, refusalOf, released, tickedRows, lowestLate, switchedTo, switching, ticked}
 use Rattle.model.specs.Run.{after, isNone, isAccepted, isTick, isReleaseOf}
 
 -- The model after one call.
@@ -119,7 +119,7 @@ refused-step m c e = go (refusalOf m c) e
     go none e = absurd (true≢false e)
     go (some r) e = refl
 
--- An accepted Release names a task: row 11 does not hold.
+-- An accepted Release names a task: refusal 11 does not hold.
 release-known : (m : Model) (i : ℕ) → isAccepted m (release i) ≡ true → i < length (m .rows)
 unfolding isAccepted releaseRefusal
 release-known m i e = leb-false (length (m .rows)) i (go (leb (length (m .rows)) i) _ e)
@@ -139,7 +139,7 @@ release-at m i e =
           ∙ getD-set-same (m .rows) i (releasedRow (rowAt m i)) noRow known;
     }
 
--- What the rows 14 and 15 leave of an accepted tick.
+-- What the refusals 14 and 15 leave of an accepted tick.
 pub tick-tests : (m : Model) (reports : List ℕ) → isAccepted m (tick reports) ≡ true →
     (length reports ≡ length (m .rows)) × (isNone (reportRefusal (m .critical) 0 (m .rows) reports) ≡ true)
 unfolding isAccepted tickRefusal
@@ -165,7 +165,7 @@ tick-at m i reports e h =
           (settle m (tickedRows (m .rows) reports) i (rw (length-ticked (m .rows) reports) h));
     }
 
--- A Release of another task leaves the row and the state.
+-- A Release of another task leaves the row and the mode.
 release-other : (m : Model) (i j : ℕ) → isAccepted m (release j) ≡ true → (i ≡ j → ⊥) →
     (next m (release j) .critical ≡ m .critical) × (rowAt (next m (release j)) i ≡ rowAt m i)
 unfolding rowAt released
@@ -200,7 +200,7 @@ turn m i (release j) h = go (isAccepted m (release j)) refl (ℕ-discrete i j)
 pub release-of : (m : Model) (i : ℕ) (x : Call) → x ≡ release i → isAccepted m x ≡ true → isReleaseOf i m x ≡ true
 release-of m i x e a = ap (isReleaseOf i m) e ∙ ap₂ _&&_ (eq-eqb i i refl) (ap (isAccepted m) (sym e) ∙ a)
 
--- The critical state lasts.
+-- S8.6: the critical mode lasts.
 critical-step : (m : Model) (c : Call) → m .critical ≡ true → next m c .critical ≡ true
 unfolding released ticked
 critical-step m c e = go (isAccepted m c) refl
@@ -219,7 +219,7 @@ critical-lasts : (m : Model) (calls : List Call) → m .critical ≡ true → af
 critical-lasts m [] e = e
 critical-lasts m (c ∷ calls) e = critical-lasts (next m c) calls (critical-step m c e)
 
--- A list of calls that ends in the typical state began in it.
+-- A list of calls that ends in typical mode began in it.
 pub typical-before : (m : Model) (calls : List Call) → after m calls .critical ≡ false → m .critical ≡ false
 typical-before m calls e = go (m .critical) refl
   where

@@ -1,5 +1,5 @@
--- The theorems, over every list of calls and for every task set with an allocation that is planned: S10.7 to S10.9, and what is
--- proved beside them. Each joins the laws of its parts.
+-- The theorems, over every list of calls and for every task set whose shares are planned: S10.7 to S10.9, and what is proved beside
+-- them. Each joins the laws of its parts.
 use mathlib.Core.List.{List}
 use Rattle.sheet.specs.declared.task.TaskSet.{TaskSet}
 use Rattle.shares.specs.declared.share.Share.{Share}

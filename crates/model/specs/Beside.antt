@@ -50,7 +50,7 @@ pub record MayStart (r : Row) (v : ℕ) : Type 0 where
 -- and as many run as the share allows, or all that are ready.
 pub record Startable (r : Row) : Type 0 where
   pub runs : (critical : Bool) (v : ℕ) → List·Memᴰ v (running critical r) → MayStart r v
-  pub waits : (v : ℕ) → MayStart r v → List·Memᴰ v (ready r)
+  pub listed : (v : ℕ) → MayStart r v → List·Memᴰ v (ready r)
   pub lowest : (critical : Bool) (u v : ℕ) → u < v → MayStart r u → List·Memᴰ v (running critical r) → List·Memᴰ u (running critical r)
   pub many : (critical : Bool) → length (running critical r) ≡ min (shareIn critical (r .fixed .share)) (length (ready r))
 

@@ -1,4 +1,4 @@
--- What the lengths of a job's nodes may come to: all together, and along every chain.
+-- S10.6: what the lengths of a job's nodes may come to, all together and along every chain.
 use Prim.Native.Nat.{ℕ, zero, suc, _+_, _≤_, _<_}
 use mathlib.Core.Path.{_≡_}
 use mathlib.Core.Bool.{Bool, true}
@@ -9,8 +9,8 @@ unfoldable pub sumBelow : ℕ → (ℕ → ℕ) → ℕ
 sumBelow zero f = 0
 sumBelow (suc k) f = sumBelow k f + f k
 
--- 01, Dispatch: "A chain is a run of nodes, each a predecessor of the next."
--- A chain is a first node and the nodes after it, all below k; precedes u v says that node u is a predecessor of node v.
+-- S10.6: a chain is a first node and the nodes after it, all below k, each a predecessor of the one behind it; precedes u v says
+-- that node u is a predecessor of node v.
 pub data Chain (k : ℕ) (precedes : ℕ → ℕ → Bool) : ℕ → List ℕ → Type 0 where
   alone : {u : ℕ} → u < k → Chain k precedes u []
   link : {u v : ℕ} {rest : List ℕ} → u < k → precedes u v ≡ true → Chain k precedes v rest → Chain k precedes u (v ∷ rest)
@@ -20,9 +20,8 @@ abbrev pub along : (ℕ → ℕ) → ℕ → List ℕ → ℕ
 along f u [] = f u
 along f u (v ∷ rest) = f u + along f v rest
 
--- 01, The sheet: "C total work, L critical-path length", and Dispatch: "A job's node lengths belong to the world".
--- The lengths of a job's k nodes keep a total work and a span: each is at least one tick, they total at most maxWork,
--- and along every chain they total at most maxSpan.
+-- S10.6: the lengths of a job's k nodes keep a work and a span: each is at least one tick, all together are at most maxWork,
+-- and along every chain they are at most maxSpan.
 pub record Keeps (k : ℕ) (precedes : ℕ → ℕ → Bool) (maxWork maxSpan : ℕ) (len : ℕ → ℕ) : Type 0 where
   pub positive : (v : ℕ) → v < k → 1 ≤ len v
   pub work : sumBelow k len ≤ maxWork

@@ -1,4 +1,4 @@
--- Demand 3 of document 01, read off the model: what holds of a task set, its allocation and a list of calls that starts fresh.
+-- The promises of S10.7 to S10.9, read off the model: what holds of a task set, its shares and a list of calls from the start.
 use Prim.Native.Nat.{ℕ, _+_, _≤_}
 use mathlib.Core.Path.{_≡_}
 use mathlib.Core.Bool.{Bool, true, false, cond}
@@ -17,7 +17,7 @@ use Rattle.model.specs.Budget.{Keeps}
 use Rattle.sheet.specs.Format.{taskIn}
 use Rattle.model.specs.Plan.{fresh}
 
--- 01, Dispatch: a job begins with an accepted Release: one of task i in a list of calls, the calls before it and those since.
+-- S10.4: a job begins with an accepted Release: one of task i in a list of calls, with the calls before it and those since.
 pub record ReleaseIn (start : Model) (i : ℕ) (calls : List Call) : Type 0 where
   pub before : List Call
   pub since : List Call
@@ -28,17 +28,17 @@ pub record ReleaseIn (start : Model) (i : ℕ) (calls : List Call) : Type 0 wher
 unfoldable pub begun : {start : Model} {i : ℕ} {calls : List Call} → ReleaseIn start i calls → Model
 begun {start} {i} r = step (after start (r .before)) (release i) .model
 
--- The lengths of the nodes of a task's job keep a budget: each is at least 1, their total keeps the work, every chain's the span.
+-- S10.6: the lengths of the nodes of a task's job keep a budget.
 unfoldable pub KeepsBudget : Task → Budget → (ℕ → ℕ) → Type 0
 KeepsBudget t b lengths = Keeps (t .nodes) (precedes (t .predecessors)) (b .work) (b .span) lengths
 
--- 01, Dispatch: a job has ended when all its nodes have; it is then no longer alive.
+-- S10.4 and S8.5: a job has ended when all its nodes have, and is then no longer alive.
 pub record Ended (t : Task) (r : Row) : Type 0 where
   pub nodes : allEnded (t .nodes) (r .job .ended) ≡ true
   pub gone : r .job .alive ≡ false
 
--- S10.7: with the D-th accepted tick after the release that left the model m the deadline is reached, and no Release of task i is
--- accepted later in the list. (Before that tick none can be: `ReleasesApart`.)
+-- S10.7: among the calls since the release that left the model m there is a D-th accepted tick, and after it no Release of task i
+-- is accepted. (Before it none can be: `ReleasesApart`.)
 pub record DeadlinePassed (t : Task) (i : ℕ) (m : Model) (since : List Call) : Type 0 where
   pub before : List Call
   pub reports : List ℕ
@@ -48,8 +48,8 @@ pub record DeadlinePassed (t : Task) (i : ℕ) (m : Model) (since : List Call) :
   pub ticks : ticksIn m before + 1 ≡ t .figures .deadline
   pub unreleased : releasesIn i (after m (before ++ tick reports ∷ [])) later ≡ 0
 
--- Each job of a task of this level whose lengths keep this budget, with true reports, has ended once D accepted ticks have
--- followed its release, whatever the other tasks do.
+-- Each job of a task of this level whose lengths keep this budget, with true reports, has ended once its deadline has passed.
+-- Nothing is asked of other tasks and their reports.
 unfoldable pub EndInTime : ℕ → (Task → Budget) → TaskSet → List Share → List Call → Type 0
 EndInTime level budget ts shares calls =
     (i : ℕ) (job : ReleaseIn (fresh ts shares) i calls) (lengths : ℕ → ℕ) →
@@ -59,8 +59,7 @@ EndInTime level budget ts shares calls =
     DeadlinePassed (taskIn ts i) i (begun job) (job .since) →
     Ended (taskIn ts i) (rowAt (after (fresh ts shares) calls) i)
 
--- Demand 3, deadline: each high job whose lengths keep its overload budgets, with true reports, has ended once D accepted ticks
--- have followed its release, whatever the other tasks do.
+-- S10.7, deadline: this holds of the high tasks and their overload budgets.
 unfoldable pub Deadline : TaskSet → List Share → List Call → Type 0
 Deadline ts shares calls = EndInTime highLevel (λ t. t .figures .overload) ts shares calls
 
@@ -69,17 +68,16 @@ abbrev pub totalOf : (Row → ℕ) → List Row → ℕ
 totalOf f [] = 0
 totalOf f (r ∷ rows) = f r + totalOf f rows
 
--- The number of running nodes of a task.
+-- How many nodes of a task run.
 unfoldable pub runningCount : Bool → Row → ℕ
 runningCount critical r = length (running critical r)
 
--- Demand 3, capacity: at every moment, so on each accepted tick, no task runs more nodes than its share, nor all together more
--- than M.
+-- S10.8, capacity: no task has more running nodes than its share in the mode, nor have all together more than M.
 pub record Capacity (ts : TaskSet) (shares : List Share) (m : Model) : Type 0 where
   pub each : (i : ℕ) → runningCount (m .critical) (rowAt m i) ≤ shareIn (m .critical) (shareAt shares i)
   pub together : totalOf (runningCount (m .critical)) (m .rows) ≤ ts .processors
 
--- A job of a task whose lengths keep its nominal budgets, with true reports.
+-- S10.9: a job whose lengths keep the nominal budget of its task, with true reports.
 pub record NominalJob (t : Task) (i : ℕ) (m : Model) (since : List Call) : Type 0 where
   pub lengths : ℕ → ℕ
   pub keeps : KeepsBudget t (t .figures .nominal) lengths
@@ -97,20 +95,20 @@ abbrev pub noneSwitched : List Answer → Bool
 noneSwitched [] = true
 noneSwitched (a ∷ answers) = cond (isSwitched a) false (noneSwitched answers)
 
--- The state is typical after the list and no answer says that a tick switched.
+-- S10.9: the mode is typical after the list, and no answer says that a tick switched.
 pub record StaysTypical (start : Model) (calls : List Call) : Type 0 where
   pub typical : after start calls .critical ≡ false
   pub answered : noneSwitched (answers start calls) ≡ true
 
--- Demand 3, nominal: if all high jobs keep their nominal budgets under true reports, the state never turns critical and no tick
--- answers that it switched, whatever the low tasks do.
+-- S10.9, nominal: if each job of a high task keeps its nominal budget, with true reports, the mode stays typical. Nothing is asked
+-- of low tasks.
 unfoldable pub Nominal : TaskSet → List Share → List Call → Type 0
 Nominal ts shares calls =
     ((i : ℕ) (job : ReleaseIn (fresh ts shares) i calls) →
     taskIn ts i .level ≡ highLevel → NominalJob (taskIn ts i) i (begun job) (job .since)) →
     StaysTypical (fresh ts shares) calls
 
--- Demand 3 over one list of calls. Every prefix of the list is a list, so this speaks of every moment.
+-- S10.7 to S10.9 over one list of calls. Every prefix of a list is a list, so this speaks of every moment.
 pub record Demand3 (ts : TaskSet) (shares : List Share) (calls : List Call) : Type 0 where
   pub deadline : Deadline ts shares calls
   pub capacity : Capacity ts shares (after (fresh ts shares) calls)

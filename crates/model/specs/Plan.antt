@@ -1,4 +1,4 @@
--- The model that a task set and an allocation make, and what the sheet's rules and the plan say of them.
+-- The model that a task set and its shares make, and what the sheet's rules and the choice say of them.
 use Prim.Native.Nat.{ℕ, _≤_, _<_, _^_}
 use mathlib.Core.Path.{_≡_}
 use mathlib.Core.Bool.{Bool, true, false}
@@ -16,7 +16,7 @@ use Rattle.shares.specs.Deadline.{virtualOf}
 use Rattle.model.specs.Row.{Row, lowLevel, highLevel, predecessorsOf}
 use Rattle.model.specs.Step.{Model}
 
--- 01, Dispatch: a fresh entry: what the sheet and the plan give the task, no job alive, no node ended, age = D.
+-- S8.1: a task at the start: what the sheet and the plan fix, no job alive, no node ended, the age at D.
 unfoldable pub freshRow : Task → Share → Row
 freshRow t s =
     record {
@@ -38,17 +38,17 @@ freshRows [] shares = []
 freshRows (t ∷ tasks) [] = []
 freshRows (t ∷ tasks) (s ∷ shares) = freshRow t s ∷ freshRows tasks shares
 
--- 01, Dispatch: the model starts as fresh: typical, no job alive, no node ended, each age = D.
+-- S10.2: the model at the start of a run: typical mode, every task as S8.1 says.
 unfoldable pub fresh : TaskSet → List Share → Model
 fresh ts shares = record { critical = false; rows = freshRows (take (ts .count) (ts .tasks)) shares }
 
--- 01, The sheet, of figures, as far as demand 3 rests on it: LN is at least 1, and LN ≤ LO.
+-- S2.9 and S2.10, as far as the theorems rest on them: LN is at least 1 and at most LO.
 pub record LawfulFigures (f : Figures) : Type 0 where
   pub span : 1 ≤ f .nominal .span
   pub spans : f .nominal .span ≤ f .overload .span
 
--- 01, The sheet: k is at least 1; the figures keep their rules; a low task has CN = CO; heavy means CO > D; of node v's
--- mask only bits j < v are allowed.
+-- S2.7, S2.11, S2.12 and S2.13: there is a node; the figures keep their rules, a low task's CN equals its CO; the task is heavy;
+-- each predecessor of a node has a lower number.
 pub record LawfulTask (t : Task) : Type 0 where
   pub nodes : 1 ≤ t .nodes
   pub figures : LawfulFigures (t .figures)
@@ -56,19 +56,19 @@ pub record LawfulTask (t : Task) : Type 0 where
   pub heavy : t .figures .deadline < t .figures .overload .work
   pub masks : (v : ℕ) → v < t .nodes → predecessorsOf (t .predecessors) v < 2 ^ v
 
--- 01, Shares: a high task has a pair (a, b), 1 ≤ a ≤ b, that passes.
+-- S4.2: a high task's pair passes, and 1 ≤ a ≤ b.
 pub record PassingPair (f : Figures) (s : Share) : Type 0 where
   pub positive : 1 ≤ s .typical
   pub ordered : s .typical ≤ s .critical
   pub passing : passes f (s .typical) (s .critical) ≡ true
 
--- 01, Shares: a low task has typical share (CN − LN) / (D − LN) rounded up, and none if LN ≥ D.
+-- S4.1: a low task has its typical share, and so LN is below D.
 pub record LowPair (f : Figures) (s : Share) : Type 0 where
   pub room : f .nominal .span < f .deadline
   pub typical : s .typical ≡ lowShare f
 
--- What is assumed of a task set and its allocation: a share for each task; each task keeps the sheet's rules; each high task's
--- pair passes, each low task has its share; and it fits: in each state the shares total at most M.
+-- S5.1 and S5.2: what is assumed of a task set and its shares. There is a pair for each task; each task keeps the sheet's rules; a
+-- high task's pair passes and a low task has its share; and in each mode the shares total at most M.
 pub record Planned (ts : TaskSet) (shares : List Share) : Type 0 where
   pub tasks : ts .count ≤ length (ts .tasks)
   pub each : length shares ≡ ts .count

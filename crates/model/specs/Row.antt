@@ -9,7 +9,7 @@ use Rattle.shares.specs.declared.share.Share.{Share}
 use Rattle.shares.specs.Totals.{shareIn}
 use Rattle.nodes.specs.Sets.{has, range, keep, every, setOf}
 
--- 01, Dispatch: an entry's level, k, masks, D, V and both shares. The sheet and the plan fix them and no call changes them.
+-- S7.1: a task's level, k, masks, D, V and shares. The sheet and the plan fix them; no call changes them.
 pub record Fixed : Type 0 where
   pub level : ℕ
   pub nodes : ℕ
@@ -18,13 +18,13 @@ pub record Fixed : Type 0 where
   pub virtual : ℕ
   pub share : Share
 
--- 01, Dispatch: an entry's age, the set of ended nodes and whether a job is alive. Calls change them.
+-- S7.1: what calls change of a task: its job's age, the set of its ended nodes, and whether it is alive.
 pub record Job : Type 0 where
   pub age : ℕ
   pub ended : ℕ
   pub alive : Bool
 
--- One task: what is fixed, and its job.
+-- S10.2: one task in the model: what is fixed of it, and its job.
 pub record Row : Type 0 where
   pub fixed : Fixed
   pub job : Job
@@ -33,11 +33,11 @@ pub record Row : Type 0 where
 abbrev pub fixedOf : Row → Fixed
 fixedOf r = r .fixed
 
--- 01, The sheet: level 0 is low.
+-- S2.6: the level of a low task.
 unfoldable pub lowLevel : ℕ
 lowLevel = 0
 
--- 01, The sheet: level 1 is high.
+-- S2.6: the level of a high task.
 unfoldable pub highLevel : ℕ
 highLevel = 1
 
@@ -45,11 +45,11 @@ highLevel = 1
 unfoldable pub isHigh : Fixed → Bool
 isHigh f = eqb (f .level) highLevel
 
--- Whether each node of one set is in the other: what both have is all of the one.
+-- S1.2: whether each node of one set is in the other: what both have is all of the one.
 unfoldable pub isSubset : ℕ → ℕ → Bool
 isSubset nodes others = eqb (bitAnd nodes others) nodes
 
--- Whether all k nodes have ended.
+-- S10.4: whether all k nodes have ended.
 unfoldable pub allEnded : ℕ → ℕ → Bool
 allEnded k ended = every (has ended) (range 0 k)
 
@@ -57,11 +57,11 @@ allEnded k ended = every (has ended) (range 0 k)
 unfoldable pub predecessorsOf : List ℕ → ℕ → ℕ
 predecessorsOf masks v = getD masks v 0
 
--- 01, The sheet: bit j of node v's mask says that node j precedes v.
+-- S2.12: whether node j is a predecessor of node v: bit j of v's mask.
 unfoldable pub precedes : List ℕ → ℕ → ℕ → Bool
 precedes masks j v = has (predecessorsOf masks v) j
 
--- 01, Dispatch: ready is a node of an alive job, not ended, all predecessors ended.
+-- S8.2: a node is ready if the job is alive, the node has not ended, and all its predecessors have.
 unfoldable pub isReady : Row → ℕ → Bool
 isReady r v =
     r .job .alive
@@ -72,7 +72,7 @@ isReady r v =
 unfoldable pub ready : Row → List ℕ
 ready r = keep (isReady r) (range 0 (r .fixed .nodes))
 
--- 01, Dispatch: running are the lowest-numbered ready nodes, as many as the share in the standing state allows.
+-- S8.3: of the ready nodes the first ones run, as many as the share in the mode allows.
 unfoldable pub running : Bool → Row → List ℕ
 running critical r = take (shareIn critical (r .fixed .share)) (ready r)
 
@@ -80,16 +80,16 @@ running critical r = take (shareIn critical (r .fixed .share)) (ready r)
 unfoldable pub runningSet : Bool → Row → ℕ
 runningSet critical r = setOf (running critical r)
 
--- 01, Dispatch: Release: job alive, no node ended, age 0.
+-- S8.4: a job begins: it is alive, no node has ended, the age is 0.
 unfoldable pub releasedRow : Row → Row
 releasedRow r = record { fixed = r .fixed; job = record { age = 0; ended = 0; alive = true } }
 
--- 01, Dispatch: the reported nodes join the ended set.
+-- S8.5: the ended set after a report: its nodes join the set.
 unfoldable pub joined : Row → ℕ → ℕ
 joined r report = bitOr (r .job .ended) report
 
--- 01, Dispatch: a tick's part of one task. The reported nodes join the ended set; a job with all nodes ended is no longer alive;
--- the age grows by 1, up to D.
+-- S8.5: what a tick does to one task. The reported nodes have ended; if all have, the job is no longer alive; the age grows by 1,
+-- but not beyond D.
 unfoldable pub tickedRow : Row → ℕ → Row
 tickedRow r report =
     record {
@@ -102,11 +102,11 @@ tickedRow r report =
           };
     }
 
--- 01, Dispatch: an alive high job with age ≥ V.
+-- S8.6: whether this is a high task with an alive job whose age is V or more.
 unfoldable pub isLate : Row → Bool
 isLate r = isHigh (r .fixed) && r .job .alive && leb (r .fixed .virtual) (r .job .age)
 
--- 01, Dispatch: with the switch low jobs are no longer alive; a dropped job keeps its ended set.
+-- S8.6: what a switch does to one task: a low job is no longer alive, and its ended set stands.
 unfoldable pub switchedRow : Row → Row
 switchedRow r =
     record {

@@ -1,4 +1,4 @@
--- A list of calls: the model after it, its answers, its accepted ticks, on which of them a node runs, and true reports.
+-- A run (S10.1): the model after a list of calls, its answers, its accepted ticks, on which of them a node runs, and true reports.
 use Prim.Native.Nat.{ℕ, _+_}
 use mathlib.Core.Path.{_≡_}
 use mathlib.Core.Bool.{Bool, true, false, cond, _&&_}
@@ -10,12 +10,12 @@ use Rattle.nodes.specs.Sets.{has}
 use Rattle.model.specs.Row.{runningSet}
 use Rattle.model.specs.Step.{Model, Call, release, tick, Answer, Refusal, step, refusalOf, rowAt}
 
--- 01, Dispatch: each call gets what the call before it returned, a refused one too: the model after a list of calls.
+-- S10.1: the model after a list of calls: each call starts from what the one before it left, accepted or refused.
 abbrev pub after : Model → List Call → Model
 after m [] = m
 after m (c ∷ calls) = after (step m c .model) calls
 
--- The answers of a list of calls.
+-- S10.3: the answers of a list of calls.
 abbrev pub answers : Model → List Call → List Answer
 answers m [] = []
 answers m (c ∷ calls) = step m c .answer ∷ answers (step m c .model) calls
@@ -25,7 +25,7 @@ abbrev pub isNone : Option Refusal → Bool
 isNone none = true
 isNone (some r) = false
 
--- Whether the call is accepted: none of its rows holds.
+-- S3.2: whether the call is accepted: none of its refusals holds.
 unfoldable pub isAccepted : Model → Call → Bool
 isAccepted m c = isNone (refusalOf m c)
 
@@ -44,7 +44,7 @@ abbrev pub countCalls : (Model → Call → Bool) → Model → List Call → �
 countCalls p m [] = 0
 countCalls p m (c ∷ calls) = cond (p m c) 1 0 + countCalls p (step m c .model) calls
 
--- 01, Dispatch: only accepted ticks count: their number in a list of calls.
+-- S10.4: the number of ticks in a list of calls: only accepted ones count.
 abbrev pub ticksIn : Model → List Call → ℕ
 ticksIn m calls = countCalls isTick m calls
 
@@ -56,7 +56,7 @@ releasesIn i m calls = countCalls (isReleaseOf i) m calls
 unfoldable pub isRunning : ℕ → ℕ → Model → Bool
 isRunning i v m = has (runningSet (m .critical) (rowAt m i)) v
 
--- 01, Dispatch: a node runs on an accepted tick if it is running just before it, by the shares of the state that then stands.
+-- S10.5: node v of task i runs on a call: the call is an accepted tick, and in the model just before it the node is running.
 abbrev pub runsOn : ℕ → ℕ → Model → Call → Bool
 runsOn i v m c = isTick m c && isRunning i v m
 

@@ -1,4 +1,4 @@
--- The model, a call, and one step: the rows 11 to 15 of the table of refusals in their order, else Release or Tick.
+-- S10.2: the model, a call, and one step: the first of the refusals 11 to 15 that holds, else Release or Tick.
 use Prim.Native.Nat.{ℕ, suc}
 use mathlib.Core.Bool.{Bool, true, false, cond, not, _&&_, _||_}
 use mathlib.Core.List.{List, [], _∷_, map}
@@ -8,22 +8,22 @@ use lib.ListN.{length, getD, set}
 use Rattle.sheet.specs.Answers.{noTask}
 use Rattle.model.specs.Row.{Row, isHigh, isSubset, runningSet, releasedRow, tickedRow, isLate, switchedRow}
 
--- 01, Dispatch: the model holds the standing state (critical or not) and, for each task, what the steps change beside what is fixed.
+-- S10.2: the model holds the mode, critical or not, and a row for each task.
 pub record Model : Type 0 where
   pub critical : Bool
   pub rows : List Row
 
--- A call: Release of a task, or Tick with the reports.
+-- S10.1: a call: Release of a task, or Tick with the reports.
 pub data Call : Type 0 where
   release : ℕ → Call
   tick : List ℕ → Call
 
--- What a refusal names: its number and a task.
+-- S3.1: what a refusal says: its number, and the task at fault.
 pub record Refusal : Type 0 where
   pub number : ℕ
   pub task : ℕ
 
--- 01: an accepted Release answers 0, 255; a tick ran or switched, with a task; a refusal has a number and a task.
+-- S3.1 and S8.7: a Release was accepted; a tick ran, or switched the mode because of a task; or the call was refused.
 pub data Answer : Type 0 where
   accepted : Answer
   ran : Answer
@@ -35,23 +35,23 @@ pub record Step : Type 0 where
   pub answer : Answer
   pub model : Model
 
--- 01, Refusals: Release: i ≥ n.
+-- S9.11: there is no such task.
 unfoldable pub unknownTask : ℕ
 unknownTask = 11
 
--- 01, Refusals: Release: low task, critical state.
+-- S9.12: a low task in critical mode.
 unfoldable pub lowInCritical : ℕ
 lowInCritical = 12
 
--- 01, Refusals: Release: job alive or age < D.
+-- S9.13: the job is alive, or its age is below D.
 unfoldable pub tooEarly : ℕ
 tooEarly = 13
 
--- 01, Refusals: Tick: not n reports.
+-- S9.14: not as many reports as tasks.
 unfoldable pub wrongCount : ℕ
 wrongCount = 14
 
--- 01, Refusals: Tick: a reported node isn't running.
+-- S9.15: a report with a node that is not running.
 unfoldable pub notRunning : ℕ
 notRunning = 15
 
@@ -79,7 +79,7 @@ noRow =
 unfoldable pub rowAt : Model → ℕ → Row
 rowAt m i = getD (m .rows) i noRow
 
--- 01, Refusals: the rows 11, 12 and 13 of Release, the first that holds.
+-- S3.2: the first of Release's refusals 11, 12 and 13 that holds.
 unfoldable pub releaseRefusal : Model → ℕ → Option Refusal
 releaseRefusal m i =
     cond (leb (length (m .rows)) i) (refusal unknownTask noTask)
@@ -87,14 +87,14 @@ releaseRefusal m i =
     (cond (rowAt m i .job .alive || ltb (rowAt m i .job .age) (rowAt m i .fixed .deadline)) (refusal tooEarly i)
     none))
 
--- 01, Refusals: row 15 over the tasks from i on: the first task whose report has a node that isn't running.
+-- S9.15, over the tasks from i on: the first task whose report has a node that is not running.
 abbrev pub reportRefusal : Bool → ℕ → List Row → List ℕ → Option Refusal
 reportRefusal critical i [] reports = none
 reportRefusal critical i (r ∷ rows) [] = none
 reportRefusal critical i (r ∷ rows) (report ∷ reports) =
     cond (isSubset report (runningSet critical r)) (reportRefusal critical (suc i) rows reports) (refusal notRunning i)
 
--- 01, Refusals: the rows 14 and 15 of Tick, the first that holds. Running is by the state before the tick.
+-- S3.2: the first of Tick's refusals 14 and 15 that holds. What runs is by the mode before the tick.
 unfoldable pub tickRefusal : Model → List ℕ → Option Refusal
 tickRefusal m reports =
     cond (eqb (length reports) (length (m .rows))) (reportRefusal (m .critical) 0 (m .rows) reports)
@@ -105,7 +105,7 @@ abbrev pub refusalOf : Model → Call → Option Refusal
 refusalOf m (release i) = releaseRefusal m i
 refusalOf m (tick reports) = tickRefusal m reports
 
--- 01, Dispatch: an accepted Release.
+-- S8.4: an accepted Release.
 unfoldable pub released : Model → ℕ → Step
 released m i =
     record {
@@ -113,28 +113,28 @@ released m i =
       model = record { critical = m .critical; rows = set (m .rows) i (releasedRow (rowAt m i)) };
     }
 
--- Each task's part of a tick, with its report.
+-- S8.5: a tick, task by task, each with its report.
 abbrev pub tickedRows : List Row → List ℕ → List Row
 tickedRows [] reports = []
 tickedRows (r ∷ rows) [] = r ∷ rows
 tickedRows (r ∷ rows) (report ∷ reports) = tickedRow r report ∷ tickedRows rows reports
 
--- The lowest task, from i on, that has an alive high job with age ≥ V.
+-- S8.7: the lowest task, from i on, that is late.
 abbrev pub lowestLate : ℕ → List Row → Option ℕ
 lowestLate i [] = none
 lowestLate i (r ∷ rows) = cond (isLate r) (some i) (lowestLate (suc i) rows)
 
--- 01, Dispatch: it turns critical and low jobs are no longer alive.
+-- S8.6: the mode turns critical and low jobs are dropped, if there is a late task.
 abbrev pub switchedTo : List Row → Option ℕ → Step
 switchedTo rows none = record { answer = ran; model = record { critical = false; rows = rows } }
 switchedTo rows (some i) = record { answer = switched i; model = record { critical = true; rows = map switchedRow rows } }
 
--- 01, Dispatch: then, if the state is typical and some alive high job has age ≥ V, the switch, with the lowest such task.
+-- S8.6: the critical mode lasts; the typical one ends where a task is late, and the lowest such task is named.
 abbrev pub switching : Bool → List Row → Step
 switching true rows = record { answer = ran; model = record { critical = true; rows = rows } }
 switching false rows = switchedTo rows (lowestLate 0 rows)
 
--- 01, Dispatch: an accepted Tick: each task's part, and then the switch.
+-- S8.5 and S8.6: an accepted Tick: first every task's part, then the switch.
 unfoldable pub ticked : Model → List ℕ → Step
 ticked m reports = switching (m .critical) (tickedRows (m .rows) reports)
 
@@ -143,7 +143,7 @@ abbrev pub acceptedStep : Model → Call → Step
 acceptedStep m (release i) = released m i
 acceptedStep m (tick reports) = ticked m reports
 
--- 01, Dispatch: if any row holds, the model answers by the first and stays as it was.
+-- S10.2: where a refusal holds, it is the answer and nothing changes.
 abbrev pub stepBy : Option Refusal → Model → Call → Step
 stepBy none m c = acceptedStep m c
 stepBy (some r) m c = record { answer = refused r; model = m }

@@ -1,1 +1,1 @@
-// The model of document 01: tasks, jobs, calls, one step, and the deadline theorem. Definitions and laws only.
+// The model of S10.2: tasks, jobs, calls, one step, and the theorems of S10.7 to S10.10. Definitions and laws only.
