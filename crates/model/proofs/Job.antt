@@ -6,7 +6,7 @@ use mathlib.Core.Bool.{Bool, true, false, cond, not, _&&_, _||_, true≢false, f
 use native.Mathlib.Nat.{lt-of-lt-of-le, lt-of-le-of-lt}
 use native.Mathlib.Omega.{arith}
 use native.Mathlib.Decide.{decLt}
-use borrow.Author.Tests.{eqb-true, eq-eqb, lt-ltb}
+use borrow.Author.Tests.{eqb-true, eqb-false, eq-eqb, ne-eqb, lt-ltb}
 use lib.Bits.{bitAnd, and-le-l}
 use lib.Dec.{eqb, ltb}
 use lib.Pow.{pow-mono}
@@ -28,6 +28,16 @@ pub bool-ext : (x y : Bool) → (x ≡ true → y ≡ true) → (y ≡ true → 
 bool-ext true y f g = sym (f refl)
 bool-ext false true f g = absurd (false≢true (g refl))
 bool-ext false false f g = refl
+
+-- A node is due just where the tick brings what it ran to its length.
+due-last : (t : Bool) (ran length : ℕ) → isDue t ran length ≡ (t && eqb (ran + bit t) length)
+unfolding isDue
+due-last true ran length = go (isDue true ran length) refl
+  where
+    go : (t : Bool) → isDue true ran length ≡ t → t ≡ eqb (ran + 1) length
+    go true e = sym (eq-eqb (ran + 1) length (omega (arith, eqb-true)))
+    go false e = sym (ne-eqb (ran + 1) length (λ same. absurd (omega (arith, eqb-false))))
+due-last false ran length = refl
 
 -- A subset, as a test of each node below k.
 subset-test : (k a b : ℕ) → a < 2 ^ k → isSubset a b ≡ allBelow k (λ u. not (has a u) || has b u)
@@ -171,18 +181,14 @@ module _ {len : ℕ → ℕ} {work span : ℕ} {r : Row} {critical : Bool} {c : 
       ((v : ℕ) → d v ≡ c v + bit (has (runningSet critical r) v)) →
       ((v : ℕ) → has report v ≡ isDue (has (runningSet critical r) v) (c v) (len v)) →
       (v : ℕ) → v < r .fixed .nodes → has (joined r report) v ≡ ended len d v
-  unfolding joined runs-here isDue
+  unfolding joined runs-here
   done-next d report counts true-report v l =
       has-or (r .job .ended) report v
       ∙ ap₂ (λ (x y : Bool). x || y) (live .done v l)
-      (true-report v ∙ ap (λ (t : Bool). isDue t (c v) (len v)) (ran-is v l) ∙ one-more (runs-here v))
+      (true-report v ∙ ap (λ (t : Bool). isDue t (c v) (len v)) (ran-is v l) ∙ due-last (runs-here v) (c v) (len v))
       ∙ sym (ended-next (shareIn critical (r .fixed .share)) (r .fixed .nodes) (precedes (r .fixed .predecessors)) len c v)
       ∙ sym (ended-same len d (next (shareIn critical (r .fixed .share)) (r .fixed .nodes) (precedes (r .fixed .predecessors)) len c) v
       (counts v ∙ ap (λ (t : Bool). c v + bit t) (ran-is v l)))
-    where
-      one-more : (t : Bool) → isDue t (c v) (len v) ≡ (t && eqb (c v + bit t) (len v))
-      one-more true = refl
-      one-more false = refl
 
   -- What an accepted tick with a true report makes of an alive job.
   pub data AfterTick (r′ : Row) (d : ℕ → ℕ) : Type 0 where

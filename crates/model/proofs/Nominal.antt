@@ -2,13 +2,13 @@
 -- that no tick switches. By induction on the calls, with what is known of each alive high job and of each Release to come.
 use Prim.Native.Nat.{ℕ, suc, _+_, _≤_, _<_}
 use mathlib.Core.Path.{_≡_, refl, sym, ap, subst, _∙_}
-use mathlib.Core.Bool.{Bool, true, false, cond, not, _&&_, true≢false, and-eq-true-iff}
+use mathlib.Core.Bool.{Bool, true, false, cond, not, true≢false, and-eq-true-iff}
 use mathlib.Core.List.{List, [], _∷_}
 use mathlib.Core.Option.{Option, none, some}
 use mathlib.Core.Logic.{inl}
 use native.Mathlib.Omega.{arith}
-use borrow.Author.Tests.{lt-leb, eqb-true}
-use lib.Dec.{leb, eqb}
+use borrow.Author.Tests.{leb-true, eqb-true}
+use lib.Dec.{eqb}
 use lib.ListN.{length, getD}
 use Rattle.sheet.specs.declared.task.Budget.{Budget}
 use Rattle.sheet.specs.declared.task.TaskSet.{TaskSet}
@@ -59,12 +59,24 @@ none-late-intro j (r ∷ rows) h =
     go : (t : Bool) (q : ℕ) (o : Option ℕ) → t ≡ false → o ≡ none → cond t (some q) o ≡ none
     go t q o e n = ap (λ (b : Bool). cond b (some q) o) e ∙ n
 
+-- No job is late if it is below V, where it is an alive one of a high task.
+below-not-late : (r : Row) → (isHigh (r .fixed) ≡ true → r .job .alive ≡ true → r .job .age < r .fixed .virtual) → isLate r ≡ false
+unfolding isLate
+below-not-late r below = go (isLate r) refl (isHigh (r .fixed)) refl (r .job .alive) refl
+  where
+    go : (t : Bool) → isLate r ≡ t → (x : Bool) → isHigh (r .fixed) ≡ x → (y : Bool) → r .job .alive ≡ y → t ≡ false
+    go false late x high y alive = refl
+    go true late true high true alive =
+        let past = rw (high, alive) at late in absurd (omega (arith, leb-true, below high alive))
+    go true late true high false alive = sym (rw (high, alive) at late)
+    go true late false high y alive = sym (rw high at late)
+
 -- After its part of a tick no honest job is late.
 part-not-late : (m : Model) (reports : List ℕ) (calls : List Call) → Calm m (tick reports ∷ calls) →
     isAccepted m (tick reports) ≡ true →
     (i : ℕ) → i < length (m .rows) → isLate (tickedRow (rowAt m i) (getD reports i 0)) ≡ false
-unfolding isLate tickedRow
-part-not-late m reports calls calm a i known = go (isHigh (r .fixed)) refl (part .job .alive) refl
+unfolding tickedRow
+part-not-late m reports calls calm a i known = below-not-late part early
   where
     r : Row
     r = rowAt m i
@@ -72,11 +84,8 @@ part-not-late m reports calls calm a i known = go (isHigh (r .fixed)) refl (part
     part : Row
     part = tickedRow r (getD reports i 0)
 
-    go : (x : Bool) → isHigh (r .fixed) ≡ x → (y : Bool) → part .job .alive ≡ y →
-        (x && y && leb (r .fixed .virtual) (part .job .age)) ≡ false
-    go false high y alive = refl
-    go true high false alive = refl
-    go true high true alive =
+    early : isHigh (r .fixed) ≡ true → part .job .alive ≡ true → part .job .age < r .fixed .virtual
+    early high alive =
         settled (part-step i m (honest .live) reports calls a (tick-at m i reports a known) (honest .reports))
       where
         honest : Honest i m (tick reports ∷ calls)
@@ -84,8 +93,8 @@ part-not-late m reports calls calm a i known = go (isHigh (r .fixed)) refl (part
             (and-eq-true-iff (r .job .alive) (not (allEnded (r .fixed .nodes) (joined r (getD reports i 0)))) .0 alive .0)
 
         settled : AfterTick (honest .live) (tickedRow r (getD reports i 0)) (ranAfter i m (tick reports) (honest .counts)) →
-            leb (r .fixed .virtual) (part .job .age) ≡ false
-        settled (goes-on l most fixed) = lt-leb (r .fixed .virtual) (part .job .age) (omega (arith, typical-below l (calm .typical) (honest .before), l .age))
+            part .job .age < r .fixed .virtual
+        settled (goes-on l most fixed) = omega (arith, typical-below l (calm .typical) (honest .before), l .age)
         settled (ends o) = absurd (true≢false (sym alive ∙ o .gone))
 
 -- A call that leaves the mode typical and does not answer that it switched.
