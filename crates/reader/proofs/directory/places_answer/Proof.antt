@@ -92,7 +92,8 @@ returns-2 c =
     let loop = c .before .before .loop in
     let all : loop .i ≡ n = omega arith in
     let places = sym (loop .inv .3) ∙ over-end (placeAnswer s) (loop .i) n (omega arith) in
-    let last : startOf s n ≡ length s = ap (startOf s) (sym all) ∙ sym (loop .inv .1) ∙ c .if2 .taken in
+    let ends : loop .start ≡ length s = omega arith in
+    let last : startOf s n ≡ length s = ap (startOf s) (sym all) ∙ sym (loop .inv .1) ∙ ends in
     sym (after-accepted _ _ places ∙ end-kept s n (c .before .before .before .before .pre .0) last)
 
 returns-3 : tie.Need-returns-3 Inv-loop μ-loop
@@ -105,7 +106,7 @@ returns-3 c =
     let start : startOf s n ≡ loop .start = ap (startOf s) (sym all) ∙ sym (loop .inv .1) in
     sym
     (after-accepted _ _ places
-    ∙ end-broken s n (c .before .before .before .before .pre .0) (λ e. c .if2 .left (sym start ∙ e)))
+    ∙ end-broken s n (c .before .before .before .before .pre .0) (λ e. let ends : loop .start ≡ length s = sym start ∙ e in omega arith))
 
 pub places-answer-spec : {M : Type 1} → statement M
 places-answer-spec =

@@ -1,5 +1,10 @@
 -- `reader::record::figures_at` meets its contract: each figure is what `u16_at` ensures. Assumes nothing.
-use Rattle.sheet.specs.Format.{figuresAt}
+use Prim.Native.Nat.{ℕ, _+_}
+use mathlib.Core.List.{List}
+use mathlib.Core.Path.{_≡_, ap, _∙_}
+use native.Mathlib.Omega.{arith}
+use denote.Ref.{now}
+use Rattle.sheet.specs.Format.{figuresAt, u16At}
 use borrow.Author.Needs.{needs}
 use Rattle.reader.proofs.record.figures_at.Statement.{statement}
 use Rattle.reader.proofs.record.figures_at.Tie as tie
@@ -34,15 +39,22 @@ add-u16-at-5 c = search needs
 u16-at-requires-5 : tie.Need-u16-at-requires-5
 u16-at-requires-5 c κs = search needs
 
+-- A figure is read at its place.
+figure : (s : List ℕ) (place : ℕ) {x at : ℕ} → x ≡ u16At s at → at ≡ place → x ≡ u16At s place
+figure s place e same = e ∙ ap (u16At s) same
+
 returns : tie.Need-returns
 unfolding figuresAt
 returns c =
+    let start = c .before .before .before .before .before .before in
+    let s = now (start .args .s) in
+    let at = start .args .at in
     rw (
-      c .u16-at5 .ensures .0,
-      c .before .u16-at4 .ensures .0,
-      c .before .before .u16-at3 .ensures .0,
-      c .before .before .before .u16-at2 .ensures .0,
-      c .before .before .before .before .u16-at .ensures .0,
+      figure s (at + 10) (c .u16-at5 .ensures .0) (omega arith),
+      figure s (at + 6) (c .before .u16-at4 .ensures .0) (omega arith),
+      figure s (at + 8) (c .before .before .u16-at3 .ensures .0) (omega arith),
+      figure s (at + 4) (c .before .before .before .u16-at2 .ensures .0) (omega arith),
+      figure s (at + 2) (c .before .before .before .before .u16-at .ensures .0) (omega arith),
     )
 
 pub figures-at-spec : {M : Type 1} → statement M

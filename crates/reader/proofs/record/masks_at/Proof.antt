@@ -2,9 +2,9 @@
 -- The measure is the nodes left. Assumes nothing.
 use native.Mathlib.Omega.{arith}
 use denote.Ref.{now}
-use Prim.Native.Nat.{_≤_, _-_}
+use Prim.Native.Nat.{_≤_, _+_, _*_, _-_}
 use mathlib.Core.Path.{_≡_, ap, _∙_}
-use Rattle.sheet.specs.Format.{masksAt}
+use Rattle.sheet.specs.Format.{masksAt, u32At}
 use Rattle.sheet.proofs.Cells.{masks-none, masks-store}
 use borrow.Author.Needs.{needs}
 use Rattle.reader.proofs.record.masks_at.Statement.{statement}
@@ -47,7 +47,8 @@ loop-again : tie.Need-loop-again Inv-loop μ-loop
 loop-again c =
     let v = c .before .before .loop .v in
     let args = c .before .before .before .before .args in
-    (omega arith, rw (c .u32-at .ensures, c .before .before .loop .inv .1) (masks-store (now (args .s)) (args .at) v (omega arith)))
+    let mask : c .u32-at .result ≡ u32At (now (args .s)) (args .at + 12 + 4 * v) = c .u32-at .ensures ∙ ap (u32At (now (args .s))) (omega arith) in
+    (omega arith, rw (mask, c .before .before .loop .inv .1) (masks-store (now (args .s)) (args .at) v (omega arith)))
 
 returns : tie.Need-returns Inv-loop μ-loop
 returns c =

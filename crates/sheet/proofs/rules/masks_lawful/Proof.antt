@@ -35,7 +35,7 @@ shr-if1 c = search needs
 
 returns : tie.Need-returns Inv-loop μ-loop
 unfolding masksLawful
-returns c = sym (all-fails _ _ (c .before .before .loop .v) (omega arith) (mask-broken _ _ (c .if1 .taken)))
+returns c = sym (all-fails _ _ (c .before .before .loop .v) (omega arith) (mask-broken _ _ (λ e. omega arith)))
 
 add-v : tie.Need-add-v Inv-loop μ-loop
 add-v c = search needs
@@ -45,7 +45,7 @@ loop-less c = search needs
 
 loop-again : tie.Need-loop-again Inv-loop μ-loop
 unfolding masksLawful
-loop-again c = (omega arith, rw (add-one (c .before .before .loop .v)) (all-more _ _ (c .before .before .loop .inv .1) (mask-kept _ _ (c .if1 .left))))
+loop-again c = (omega arith, rw (add-one (c .before .before .loop .v)) (all-more _ _ (c .before .before .loop .inv .1) (mask-kept _ _ (omega arith))))
 
 returns-2 : tie.Need-returns-2 Inv-loop μ-loop
 unfolding masksLawful
