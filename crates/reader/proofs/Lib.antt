@@ -1,4 +1,5 @@
--- Laws that belong to no one function.
+-- Laws that belong to no one function, and worked facts.
 pub mod Places
 pub mod Records
 pub mod Readings
+pub mod Worked

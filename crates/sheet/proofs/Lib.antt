@@ -1,4 +1,5 @@
--- Laws that belong to no one function.
+-- Laws that belong to no one function, and worked facts.
 pub mod Logic
 pub mod Cells
 pub mod Faults
+pub mod Worked

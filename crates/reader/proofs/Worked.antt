@@ -1,0 +1,157 @@
+-- Worked facts by computation: whole sheets of literal bytes, refused for each cause or read.
+use Prim.Native.Nat.{ℕ, zero, suc, _+_, _*_, _/_, _%_}
+use mathlib.Core.Path.{_≡_, refl}
+use mathlib.Core.Bool.{true, false}
+use mathlib.Core.List.{List, [], _∷_, _++_}
+use lib.ListN.{length, replicate}
+use Rattle.sheet.specs.declared.answer.Answer.the-variants.{Accepted, Refused}
+use Rattle.sheet.specs.declared.task.Task.{Task}
+use Rattle.sheet.specs.Answers.{firstOver}
+use Rattle.sheet.specs.Format.{byteAt, u16At, u32At, processorsOf, countOf, offsetOf, lengthOf, startOf, cellsFrom, levelAt, nodesAt, figuresAt, masksAt, taskAt, zeroTask, tasksBelow, taskSetOf, zeroTaskSet}
+use Rattle.sheet.specs.Rules.{levelLawful, shapeLawful, inRange, inOrder, lowLawful, figuresLawful, maskLawful, allBelow, masksLawful, isHeavy, taskAnswer}
+use Rattle.sheet.proofs.Worked.{figures}
+use Rattle.reader.specs.Reading.{headerLawful, headerAnswer, placeAnswer, endAnswer, shapeAnswer, recordAnswer, answerOf, readOf}
+
+-- A record of one node with small figures: level, D, CN, CO, LN, LO and the mask.
+abbrev small : ℕ → ℕ → ℕ → ℕ → ℕ → ℕ → ℕ → List ℕ
+small level d cn co ln lo mask =
+    level ∷ 1 ∷ d ∷ 0 ∷ cn ∷ 0 ∷ co ∷ 0 ∷ ln ∷ 0 ∷ lo ∷ 0 ∷ mask ∷ 0 ∷ 0 ∷ 0 ∷ []
+
+-- The tasks of S11, with a node each.
+abbrev taskA : List ℕ
+taskA = small 1 45 9 52 4 20 0
+
+abbrev taskB : List ℕ
+taskB = small 1 54 11 80 4 42 0
+
+abbrev taskE : List ℕ
+taskE = small 0 18 66 66 6 6 0
+
+-- A task of one node, as it is read.
+abbrev single : ℕ → ℕ → ℕ → ℕ → ℕ → ℕ → Task
+single level d cn co ln lo =
+    record { level = level; nodes = 1; figures = figures d cn co ln lo; predecessors = replicate 32 0 }
+
+-- A sheet of one task on 8 processors whose record has the given length, and one of two records of 16 bytes.
+abbrev alone : ℕ → List ℕ → List ℕ
+alone bytes record₀ = 8 ∷ 1 ∷ 6 ∷ 0 ∷ bytes ∷ 0 ∷ record₀
+
+abbrev both : List ℕ → List ℕ → List ℕ
+both record₀ record₁ = 8 ∷ 2 ∷ 10 ∷ 0 ∷ 16 ∷ 0 ∷ 26 ∷ 0 ∷ 16 ∷ 0 ∷ record₀ ++ record₁
+
+-- The sheet of S11.14, without its records.
+abbrev three : List ℕ
+three = 8 ∷ 3 ∷ 14 ∷ 0 ∷ 16 ∷ 0 ∷ 30 ∷ 0 ∷ 16 ∷ 0 ∷ 46 ∷ 0 ∷ 16 ∷ 0 ∷ []
+
+-- A sheet of n times the same task, on 8 processors: the directory from an offset on, and the records.
+unfoldable pub entries : ℕ → ℕ → List ℕ
+entries offset zero = []
+entries offset (suc n) = offset % 256 ∷ offset / 256 ∷ 16 ∷ 0 ∷ entries (offset + 16) n
+
+unfoldable pub copies : ℕ → List ℕ
+copies zero = []
+copies (suc n) = taskA ++ copies n
+
+abbrev many : ℕ → List ℕ
+many n = 8 ∷ n ∷ entries (2 + 4 * n) n ++ copies n
+
+pub record Worked : Type 0 where
+  -- S9.1: fewer than two bytes, and a directory that the sheet cuts short.
+  pub empty : answerOf [] ≡ Refused 1 255
+  pub one-byte : answerOf (8 ∷ []) ≡ Refused 1 255
+  pub cut-short : answerOf (8 ∷ 1 ∷ 6 ∷ 0 ∷ 16 ∷ []) ≡ Refused 1 255
+  -- S2.1: M from 1 to 64.
+  pub no-processor : answerOf (0 ∷ 1 ∷ 6 ∷ 0 ∷ 16 ∷ 0 ∷ taskA) ≡ Refused 1 255
+  pub one-processor : answerOf (1 ∷ 1 ∷ 6 ∷ 0 ∷ 16 ∷ 0 ∷ taskA) ≡ Accepted
+  pub most-processors : answerOf (64 ∷ 1 ∷ 6 ∷ 0 ∷ 16 ∷ 0 ∷ taskA) ≡ Accepted
+  pub processors-above : answerOf (65 ∷ 1 ∷ 6 ∷ 0 ∷ 16 ∷ 0 ∷ taskA) ≡ Refused 1 255
+  -- S2.2: n from 1 to 16.
+  pub no-task : answerOf (8 ∷ 0 ∷ []) ≡ Refused 1 255
+  pub one-task : answerOf (many 1) ≡ Accepted
+  pub most-tasks : answerOf (many 16) ≡ Accepted
+  pub tasks-above : answerOf (many 17) ≡ Refused 1 255
+  -- S9.2: the first record out of place, and the second.
+  pub first-place : answerOf (8 ∷ 1 ∷ 7 ∷ 0 ∷ 16 ∷ 0 ∷ 0 ∷ taskA) ≡ Refused 2 0
+  pub second-place : answerOf (8 ∷ 2 ∷ 10 ∷ 0 ∷ 16 ∷ 0 ∷ 27 ∷ 0 ∷ 16 ∷ 0 ∷ taskA ++ 0 ∷ taskB) ≡ Refused 2 1
+  -- S9.2: the last record ends before the sheet, or past it: a fault of the last task.
+  pub bytes-behind : answerOf (both taskA taskB ++ 0 ∷ []) ≡ Refused 2 1
+  pub end-past : answerOf (8 ∷ 2 ∷ 10 ∷ 0 ∷ 16 ∷ 0 ∷ 26 ∷ 0 ∷ 17 ∷ 0 ∷ taskA ++ taskB) ≡ Refused 2 1
+  -- S9.3: the level, the number of nodes, the length; a record of one byte.
+  pub level-two : answerOf (alone 16 (small 2 45 9 52 4 20 0)) ≡ Refused 3 0
+  pub no-node : answerOf (alone 12 (1 ∷ 0 ∷ 45 ∷ 0 ∷ 9 ∷ 0 ∷ 52 ∷ 0 ∷ 4 ∷ 0 ∷ 20 ∷ 0 ∷ [])) ≡ Refused 3 0
+  pub most-nodes : answerOf (alone 140 (1 ∷ 32 ∷ 45 ∷ 0 ∷ 9 ∷ 0 ∷ 52 ∷ 0 ∷ 4 ∷ 0 ∷ 20 ∷ 0 ∷ replicate 128 0)) ≡ Accepted
+  pub nodes-above : answerOf (alone 144 (1 ∷ 33 ∷ 45 ∷ 0 ∷ 9 ∷ 0 ∷ 52 ∷ 0 ∷ 4 ∷ 0 ∷ 20 ∷ 0 ∷ replicate 132 0)) ≡ Refused 3 0
+  pub length-long : answerOf (alone 17 (taskA ++ 0 ∷ [])) ≡ Refused 3 0
+  pub record-of-one-byte : answerOf (alone 1 (1 ∷ [])) ≡ Refused 3 0
+  -- S9.4: CO of 10,000 is the greatest, 10,001 is not lawful; D of 0; CN above CO; a low task with CN below CO.
+  pub figure-greatest : answerOf (alone 16 (1 ∷ 1 ∷ 15 ∷ 39 ∷ 9 ∷ 0 ∷ 16 ∷ 39 ∷ 4 ∷ 0 ∷ 20 ∷ 0 ∷ 0 ∷ 0 ∷ 0 ∷ 0 ∷ [])) ≡ Accepted
+  pub figure-above : answerOf (alone 16 (1 ∷ 1 ∷ 15 ∷ 39 ∷ 9 ∷ 0 ∷ 17 ∷ 39 ∷ 4 ∷ 0 ∷ 20 ∷ 0 ∷ 0 ∷ 0 ∷ 0 ∷ 0 ∷ [])) ≡ Refused 4 0
+  pub figure-zero : answerOf (both taskA (small 1 0 9 52 4 20 0)) ≡ Refused 4 1
+  pub figure-order : answerOf (alone 16 (small 1 45 53 52 4 20 0)) ≡ Refused 4 0
+  pub low-figures : answerOf (alone 16 (small 0 18 65 66 6 6 0)) ≡ Refused 4 0
+  -- S9.5: node 0 before itself.
+  pub own-bit : answerOf (both taskA (small 1 45 9 52 4 20 1)) ≡ Refused 5 1
+  -- S9.6: CO equal to D.
+  pub not-heavy : answerOf (both taskA (small 1 52 9 52 4 20 0)) ≡ Refused 6 1
+  -- S3.3: causes 4 and 5 in one task; causes in both tasks; a place before any record; the header before all.
+  pub lower-first : answerOf (alone 16 (small 1 0 9 52 4 20 1)) ≡ Refused 4 0
+  pub first-task : answerOf (both (small 1 52 9 52 4 20 0) (small 2 45 9 52 4 20 0)) ≡ Refused 6 0
+  pub places-first : answerOf (both (small 2 45 9 52 4 20 0) taskB ++ 0 ∷ []) ≡ Refused 2 1
+  pub header-first : answerOf (65 ∷ 1 ∷ 7 ∷ 0 ∷ 16 ∷ 0 ∷ small 2 45 9 52 4 20 0) ≡ Refused 1 255
+  -- S11.14: the sheet has 62 bytes, and this is what it says.
+  pub whole-length : length (three ++ taskA ++ taskB ++ taskE) ≡ 62
+  pub whole : readOf (three ++ taskA ++ taskB ++ taskE)
+      ≡ record {
+        answer = Accepted;
+        set =
+            record {
+              processors = 8;
+              count = 3;
+              tasks =
+                  single 1 45 9 52 4 20 ∷ single 1 54 11 80 4 42 ∷ single 0 18 66 66 6 6 ∷ replicate 13 zeroTask;
+            };
+      }
+  -- S3.5: zeros beside a refusal.
+  pub refused : readOf (both taskA (small 1 52 9 52 4 20 0))
+      ≡ record { answer = Refused 6 1; set = record { processors = 0; count = 0; tasks = replicate 16 zeroTask } }
+
+worked : Worked
+unfolding firstOver byteAt u16At u32At processorsOf countOf offsetOf lengthOf startOf cellsFrom levelAt nodesAt figuresAt masksAt taskAt tasksBelow taskSetOf zeroTaskSet levelLawful shapeLawful inRange inOrder lowLawful figuresLawful maskLawful allBelow masksLawful isHeavy taskAnswer headerLawful headerAnswer placeAnswer endAnswer shapeAnswer recordAnswer answerOf readOf entries copies
+worked =
+    record {
+      empty = refl;
+      one-byte = refl;
+      cut-short = refl;
+      no-processor = refl;
+      one-processor = refl;
+      most-processors = refl;
+      processors-above = refl;
+      no-task = refl;
+      one-task = refl;
+      most-tasks = refl;
+      tasks-above = refl;
+      first-place = refl;
+      second-place = refl;
+      bytes-behind = refl;
+      end-past = refl;
+      level-two = refl;
+      no-node = refl;
+      most-nodes = refl;
+      nodes-above = refl;
+      length-long = refl;
+      record-of-one-byte = refl;
+      figure-greatest = refl;
+      figure-above = refl;
+      figure-zero = refl;
+      figure-order = refl;
+      low-figures = refl;
+      own-bit = refl;
+      not-heavy = refl;
+      lower-first = refl;
+      first-task = refl;
+      places-first = refl;
+      header-first = refl;
+      whole-length = refl;
+      whole = refl;
+      refused = refl;
+    }
