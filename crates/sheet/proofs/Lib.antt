@@ -2,4 +2,5 @@
 pub mod Logic
 pub mod Cells
 pub mod Faults
+pub mod Masks
 pub mod Worked
