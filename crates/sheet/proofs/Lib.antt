@@ -3,4 +3,5 @@ pub mod Logic
 pub mod Cells
 pub mod Faults
 pub mod Masks
+pub mod Encoding
 pub mod Worked

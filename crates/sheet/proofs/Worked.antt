@@ -3,12 +3,15 @@ use Prim.Native.Nat.{ℕ}
 use mathlib.Core.Path.{_≡_, refl}
 use mathlib.Core.Bool.{true, false}
 use mathlib.Core.List.{List, [], _∷_, _++_}
-use lib.ListN.{replicate}
+use native.Mathlib.Omega.{arith}
+use lib.ListN.{length, replicate}
 use Rattle.sheet.specs.declared.answer.Answer.the-variants.{Accepted, Refused}
 use Rattle.sheet.specs.declared.task.Figures.{Figures}
 use Rattle.sheet.specs.declared.task.Task.{Task}
 use Rattle.sheet.specs.Answers.{numberOf, taskOf}
 use Rattle.sheet.specs.Format.{byteAt, u16At, u32At, cellsFrom, levelAt, nodesAt, figuresAt, masksAt, taskAt}
+use Rattle.sheet.specs.Encoding.{u16Bytes, u32Bytes, masksBytes, recordBytes}
+use Rattle.sheet.specs.Laws.{Encodable}
 use Rattle.sheet.specs.Rules.{levelLawful, shapeLawful, inRange, inOrder, lowLawful, figuresLawful, maskLawful, allBelow, masksLawful, isHeavy, taskAnswer}
 
 -- Figures in the order of a record: D, CN, CO, LN, LO.
@@ -41,6 +44,26 @@ abbrev threeNodes : List ℕ
 threeNodes =
     0 ∷ 3 ∷ 18 ∷ 0 ∷ 66 ∷ 0 ∷ 66 ∷ 0 ∷ 6 ∷ 0 ∷ 6 ∷ 0 ∷ 0 ∷ 0 ∷ 0 ∷ 0 ∷ 1 ∷ 0 ∷ 0 ∷ 0 ∷ 3 ∷ 0 ∷ 0 ∷ 0 ∷ []
 
+-- What it says: the task E of S11 with these masks.
+abbrev taskE : Task
+taskE = record { level = 0; nodes = 3; figures = figures 18 66 66 6 6; predecessors = 0 ∷ 1 ∷ 3 ∷ replicate 29 0 }
+
+-- A task that a record can hold.
+encodable : Encodable taskE
+encodable =
+    record {
+      level = omega arith;
+      nodes = omega arith;
+      deadline = omega arith;
+      nominal-work = omega arith;
+      overload-work = omega arith;
+      nominal-span = omega arith;
+      overload-span = omega arith;
+      masks = refl;
+      masks-fit = refl;
+      masks-none = refl;
+    }
+
 pub record Worked : Type 0 where
   -- S1.1: two and four bytes, the lowest first; a byte past the end is 0.
   pub two-bytes : u16At (7 ∷ 1 ∷ 2 ∷ []) 1 ≡ 513
@@ -57,8 +80,13 @@ pub record Worked : Type 0 where
       }
   pub places-later : taskAt (9 ∷ 9 ∷ 9 ∷ oneNode ++ 9 ∷ []) 3 ≡ taskAt oneNode 0
   -- The mask of each node, and 0 for those that are not there, whatever bytes follow.
-  pub masks : taskAt (threeNodes ++ replicate 8 255) 0
-      ≡ record { level = 0; nodes = 3; figures = figures 18 66 66 6 6; predecessors = 0 ∷ 1 ∷ 3 ∷ replicate 29 0 }
+  pub masks : taskAt (threeNodes ++ replicate 8 255) 0 ≡ taskE
+  -- A record written, and read where other bytes stand around it.
+  pub written : recordBytes taskE ≡ threeNodes
+  pub written-length : length (recordBytes taskE) ≡ 24
+  pub written-read : taskAt (5 ∷ 5 ∷ (recordBytes taskE ++ 5 ∷ [])) 2 ≡ taskE
+  pub written-two : u16Bytes 513 ≡ 1 ∷ 2 ∷ []
+  pub written-four : u32Bytes 67305985 ≡ 1 ∷ 2 ∷ 3 ∷ 4 ∷ []
   -- S2.7: the level.
   pub level-low : levelLawful 0 ≡ true
   pub level-high : levelLawful 1 ≡ true
@@ -124,7 +152,7 @@ pub record Worked : Type 0 where
   pub refused-task : taskOf (Refused 4 7) ≡ 7
 
 worked : Worked
-unfolding byteAt u16At u32At cellsFrom levelAt nodesAt figuresAt masksAt taskAt levelLawful shapeLawful inRange inOrder lowLawful figuresLawful maskLawful allBelow masksLawful isHeavy taskAnswer
+unfolding u16Bytes u32Bytes masksBytes recordBytes byteAt u16At u32At cellsFrom levelAt nodesAt figuresAt masksAt taskAt levelLawful shapeLawful inRange inOrder lowLawful figuresLawful maskLawful allBelow masksLawful isHeavy taskAnswer
 worked =
     record {
       two-bytes = refl;
@@ -134,6 +162,11 @@ worked =
       places = refl;
       places-later = refl;
       masks = refl;
+      written = refl;
+      written-length = refl;
+      written-read = refl;
+      written-two = refl;
+      written-four = refl;
       level-low = refl;
       level-high = refl;
       level-two = refl;

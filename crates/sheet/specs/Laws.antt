@@ -1,12 +1,16 @@
--- What the rules and the format come to, put another way. Each is proved in proofs/.
-use Prim.Native.Nat.{ℕ, _≤_, _<_}
+-- What the rules and the format come to, put another way. Each law is proved in proofs/.
+use Prim.Native.Nat.{ℕ, _≤_, _<_, _+_, _*_, _-_, _^_}
 use mathlib.Core.Bool.{true, false}
-use mathlib.Core.List.{List}
+use mathlib.Core.List.{List, _++_}
 use mathlib.Core.Logic.{_↔_}
 use mathlib.Core.Path.{_≡_}
-use lib.ListN.{getD}
-use Rattle.nodes.specs.Sets.{has}
+use lib.Dec.{ltb}
+use lib.ListN.{length, getD, drop, replicate}
+use Rattle.nodes.specs.Sets.{has, every}
+use Rattle.sheet.specs.declared.task.Task.{Task}
+use Rattle.sheet.specs.Format.{byteAt, taskAt}
 use Rattle.sheet.specs.Rules.{maskLawful, masksLawful}
+use Rattle.sheet.specs.Encoding.{recordBytes}
 
 -- S2.12, bit by bit: node v's mask is lawful exactly if none of its bits from v on is set.
 unfoldable pub MaskLaw : Type 0
@@ -16,3 +20,29 @@ MaskLaw = (masks : List ℕ) (v : ℕ) → (maskLawful masks v ≡ true) ↔ ((j
 unfoldable pub MasksLaw : Type 0
 MasksLaw =
     (masks : List ℕ) (k : ℕ) → (masksLawful masks k ≡ true) ↔ ((v j : ℕ) → v < k → has (getD masks v 0) j ≡ true → j < v)
+
+-- A task that a record can hold: each part fits its bytes, and there are 32 masks, those from k on 0.
+pub record Encodable (t : Task) : Type 0 where
+  pub level : t .level < 256
+  pub nodes : t .nodes ≤ 32
+  pub deadline : t .figures .deadline < 65536
+  pub nominal-work : t .figures .nominal .work < 65536
+  pub overload-work : t .figures .overload .work < 65536
+  pub nominal-span : t .figures .nominal .span < 65536
+  pub overload-span : t .figures .overload .span < 65536
+  pub masks : length (t .predecessors) ≡ 32
+  pub masks-fit : every (λ mask. ltb mask (2 ^ 32)) (t .predecessors) ≡ true
+  pub masks-none : drop (t .nodes) (t .predecessors) ≡ replicate (32 - t .nodes) 0
+
+-- S2.6: a record that is written is read as its task, wherever it stands.
+unfoldable pub RoundTrip : Type 0
+RoundTrip =
+    (t : Task) (front back : List ℕ) → Encodable t → taskAt (front ++ (recordBytes t ++ back)) (length front) ≡ t
+
+-- S2.7: it has 12 + 4k bytes.
+unfoldable pub RecordLength : Type 0
+RecordLength = (t : Task) → Encodable t → length (recordBytes t) ≡ 12 + 4 * t .nodes
+
+-- Each of them is a byte.
+unfoldable pub RecordOfBytes : Type 0
+RecordOfBytes = (t : Task) (i : ℕ) → Encodable t → byteAt (recordBytes t) i < 256

@@ -1,0 +1,30 @@
+-- A record written: the bytes that the format reads a task from.
+use Prim.Native.Nat.{ℕ, zero, suc, _/_, _%_}
+use mathlib.Core.List.{List, [], _∷_, _++_}
+use Rattle.sheet.specs.declared.task.Task.{Task}
+
+-- S1.1: a number in two bytes, the lowest first.
+unfoldable pub u16Bytes : ℕ → List ℕ
+u16Bytes x = x % 256 ∷ x / 256 % 256 ∷ []
+
+-- S1.1: a number in four bytes, the lowest first.
+unfoldable pub u32Bytes : ℕ → List ℕ
+u32Bytes x = x % 256 ∷ x / 256 % 256 ∷ x / 65536 % 256 ∷ x / 16777216 % 256 ∷ []
+
+-- S2.6: the masks of the first k nodes.
+unfoldable pub masksBytes : ℕ → List ℕ → List ℕ
+masksBytes zero masks = []
+masksBytes (suc k) [] = []
+masksBytes (suc k) (mask ∷ masks) = u32Bytes mask ++ masksBytes k masks
+
+-- S2.6: a task's record, part by part.
+unfoldable pub recordBytes : Task → List ℕ
+recordBytes t =
+    t .level
+    ∷ t .nodes
+    ∷ u16Bytes (t .figures .deadline)
+    ++ u16Bytes (t .figures .nominal .work)
+    ++ u16Bytes (t .figures .overload .work)
+    ++ u16Bytes (t .figures .nominal .span)
+    ++ u16Bytes (t .figures .overload .span)
+    ++ masksBytes (t .nodes) (t .predecessors)
