@@ -1,4 +1,4 @@
--- The directory read pair by pair: where the next record has to start, and row 2 of the pair.
+-- The directory read entry by entry: where the next record has to begin, and refusal 2 of the task.
 use Prim.Native.Nat.{ℕ, _+_, _*_, _-_}
 use mathlib.Core.List.{List}
 use mathlib.Core.Path.{_≡_, refl}

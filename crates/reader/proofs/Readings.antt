@@ -1,4 +1,4 @@
--- A reading by its answer: zeros beside a refusal, the sheet's task set beside an acceptance. The answer, row by row.
+-- A reading by its answer: zeros beside a refusal, the sheet's task set beside an acceptance. The answer, cause by cause.
 use Prim.Native.Nat.{ℕ, _≤_}
 use mathlib.Core.Bool.{true, false, _&&_}
 use mathlib.Core.List.{List}
@@ -29,12 +29,12 @@ module _ (s : List ℕ) (whole answer : Answer) (set : TaskSet) where
   pub reading-accepted : answer ≡ Accepted → whole ≡ answer → set ≡ taskSetOf s → record { answer = answer; set = set } ≡ readingOf whole s
   reading-accepted accepted same sets = rw (same, accepted, sets)
 
--- Rows in order may be bracketed either way.
+-- Causes in order may be bracketed either way.
 pub orElse-assoc : (x y z : Answer) → ((x orElse y) orElse z) ≡ (x orElse y orElse z)
 orElse-assoc Accepted y z = refl
 orElse-assoc (Refused number task) y z = refl
 
--- The whole answer, row by row, for a sheet whose directory has the answer `places`.
+-- The whole answer, cause by cause, for a sheet whose directory has the answer `places`.
 module _ (s : List ℕ) (n : ℕ) (count : n ≡ countOf s) where
   pub answer-header : headerLawful s ≡ false → answerOf s ≡ Refused 1 255
   unfolding answerOf headerAnswer

@@ -1,4 +1,4 @@
--- One record: row 3 on its shape, then rows 4 to 6 on the task that it holds.
+-- One record: refusal 3 on its shape, then 4 to 6 on the task that it holds.
 use Prim.Native.Nat.{ℕ, _≤_, _+_, _*_}
 use mathlib.Core.Bool.{true, false, _&&_}
 use mathlib.Core.List.{List}

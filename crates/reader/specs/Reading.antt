@@ -1,5 +1,4 @@
--- What 01 makes of a list of bytes: rows 1 to 6 of "Refusals by cause" in their order, and the task set of a sheet that
--- none of them refuses.
+-- What a list of bytes is as a sheet: refusals 1 to 6 in their order, and the task set where none of them holds.
 use Prim.Native.Nat.{ℕ, _+_, _*_, _-_}
 use mathlib.Core.Bool.{Bool, _&&_, not}
 use mathlib.Core.List.{List}
@@ -12,7 +11,7 @@ use Rattle.sheet.specs.Answers.{noTask, badHeader, badDirectory, badRecord, ref
 use Rattle.sheet.specs.Format.{processorsOf, countOf, offsetOf, lengthOf, startOf, levelAt, nodesAt, taskAt, taskSetOf, zeroTaskSet}
 use Rattle.sheet.specs.Rules.{within, shapeLawful, taskAnswer}
 
--- 01: two bytes at least, "M, the processors, 1 to 64", "n, the tasks, 1 to 16", and the n pairs of the directory.
+-- S2.1, S2.2, S9.1: M and n are there and in their ranges, and so is the directory.
 unfoldable pub headerLawful : List ℕ → Bool
 headerLawful s =
     leb 2 (length s)
@@ -20,28 +19,28 @@ headerLawful s =
     && within 1 16 (countOf s)
     && leb (2 + 4 * countOf s) (length s)
 
--- Row 1.
+-- S9.1.
 unfoldable pub headerAnswer : List ℕ → Answer
 headerAnswer s = refusedIf (not (headerLawful s)) badHeader noTask
 
--- Row 2, a pair out of place.
+-- S9.2, for task i: its record does not begin where it has to.
 unfoldable pub placeAnswer : List ℕ → ℕ → Answer
 placeAnswer s i = refusedIf (not (eqb (offsetOf s i) (startOf s i))) badDirectory i
 
--- Row 2, the last not at the sheet's end. 01: "an end past the sheet counting against the last task".
+-- S9.2, for the end: the last record does not end with the sheet, a fault of the last task.
 unfoldable pub endAnswer : List ℕ → Answer
 endAnswer s = refusedIf (not (eqb (startOf s (countOf s)) (length s))) badDirectory (countOf s - 1)
 
--- Row 3, of task i.
+-- S9.3, for task i.
 unfoldable pub shapeAnswer : List ℕ → ℕ → Answer
 shapeAnswer s i =
     refusedIf (not (shapeLawful (levelAt s (offsetOf s i)) (nodesAt s (offsetOf s i)) (lengthOf s i))) badRecord i
 
--- 01: "then per task 3, 4, 5, 6".
+-- S3.3: refusals 3 to 6 of task i. The record is read as a task only where 3 does not hold.
 unfoldable pub recordAnswer : List ℕ → ℕ → Answer
 recordAnswer s i = shapeAnswer s i orElse taskAnswer (taskAt s (offsetOf s i)) i
 
--- 01: "Order: 1; 2 over all pairs, an end past the sheet counting against the last task; then per task 3, 4, 5, 6."
+-- S3.3: the header; the place of each record and then the end; and then each task's record.
 unfoldable pub answerOf : List ℕ → Answer
 answerOf s =
     headerAnswer s
@@ -49,11 +48,11 @@ answerOf s =
     orElse endAnswer s
     orElse firstOver (recordAnswer s) 0 (countOf s)
 
--- An answer with what it leaves: a task set if accepted, zeros if refused.
+-- S3.5: an answer with what it leaves: the sheet's task set if it accepts, zeros if it refuses.
 abbrev pub readingOf : Answer → List ℕ → Reading
 readingOf Accepted s = record { answer = Accepted; set = taskSetOf s }
 readingOf (Refused number task) s = record { answer = Refused number task; set = zeroTaskSet }
 
--- What the reader makes of a list of bytes.
+-- S2, S3: what the reader makes of a list of bytes.
 unfoldable pub readOf : List ℕ → Reading
 readOf s = readingOf (answerOf s) s

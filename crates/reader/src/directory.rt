@@ -1,4 +1,4 @@
-// Rows 1 and 2: the header and the directory.
+// Refusals 1 and 2: the header and the directory.
 ghost use mathlib.Core.Path.{_≡_};
 ghost use Prim.Native.Nat.{_≤_};
 ghost use Rattle.sheet.specs.Answers.{_orElse_, firstOver};
@@ -9,9 +9,10 @@ use sheet::numbers::byte_at;
 use sheet::numbers::u16_at;
 use sheet::rules::is_within;
 
+// Refusal 2.
 const BAD_DIRECTORY: u8 = 2;
 
-// Whether row 1 lets the sheet pass.
+// S9.1: whether refusal 1 does not hold.
 pub fn header_lawful(s: &[u8]) -> bool
     ensures { λ r. ⌜ r ≡ headerLawful (now (s .entry)) ⌝ }
 {
@@ -22,7 +23,7 @@ pub fn header_lawful(s: &[u8]) -> bool
         & (2 + 4 * (n as usize) <= s.len())
 }
 
-// Row 2: each pair stands where the record before it ended, and the last record ends with the sheet.
+// S9.2: each record begins where the one before it ended, and the sheet ends with the last one.
 pub fn places_answer(s: &[u8], n: u8) -> Answer
     requires { ⌜ (n ≡ countOf (now s)) × (1 ≤ n) × (n ≤ 16) ⌝ }
     ensures { λ r. ⌜ r ≡ firstOver (placeAnswer (now (s .entry))) 0 n orElse endAnswer (now (s .entry)) ⌝ }

@@ -1,4 +1,4 @@
-// The reader: what a list of bytes says as a sheet, and refusals 1 to 6.
+// The reader: what a list of bytes says as a sheet (S2), and refusals 1 to 6.
 ghost use mathlib.Core.Path.{_≡_};
 ghost use Prim.Native.Nat.{_≤_};
 ghost use Rattle.sheet.specs.Answers.{firstOver};
@@ -16,14 +16,16 @@ use sheet::task::zero_task;
 mod directory;
 mod record;
 
+// Refusal 1.
 const BAD_HEADER: u8 = 1;
 
-// A reading's answer, and the task set: zeros where it was refused.
+// S3.5: a reading's answer, and the task set: zeros where it was refused.
 pub struct Reading {
     pub answer: Answer,
     pub set: TaskSet,
 }
 
+// S3.5: a task set of zeros.
 fn zero_task_set() -> TaskSet
     ensures { λ r. ⌜ r ≡ zeroTaskSet ⌝ }
 {
@@ -34,7 +36,7 @@ fn zero_task_set() -> TaskSet
     }
 }
 
-// Rows 3 to 6 of all tasks, one task after the other, on a sheet that rows 1 and 2 let pass.
+// S3.3: refusals 3 to 6, one task after the other, of a sheet for which neither 1 nor 2 holds.
 fn read_tasks(s: &[u8], n: u8) -> Reading
     requires { ⌜ (n ≡ countOf (now s)) × (n ≤ 16) ⌝ }
     ensures { λ r. ⌜ r ≡ readingOf (firstOver (recordAnswer (now (s .entry))) 0 n) (now (s .entry)) ⌝ }
@@ -64,7 +66,7 @@ fn read_tasks(s: &[u8], n: u8) -> Reading
     }
 }
 
-// Reads a sheet: any list of bytes is accepted or refused as 01 says.
+// Reads a sheet: any list of bytes is accepted, or refused for the first of 1 to 6 that holds (S3.3).
 pub fn read(sheet: &[u8]) -> Reading
     ensures whole { λ r. ⌜ r ≡ readOf (now (sheet .entry)) ⌝ }
 {

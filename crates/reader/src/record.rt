@@ -1,4 +1,4 @@
-// Rows 3 to 6: one task's record.
+// Refusals 3 to 6: one task's record.
 ghost use mathlib.Core.Path.{_≡_};
 ghost use Prim.Native.Nat.{_<_, _≤_};
 ghost use Rattle.sheet.specs.Format.{offsetOf, levelAt, nodesAt, figuresAt, masksAt, taskAt};
@@ -16,6 +16,7 @@ use sheet::task::Figures;
 use sheet::task::Task;
 use sheet::task::zero_task;
 
+// Refusal 3.
 const BAD_RECORD: u8 = 3;
 
 // A record's answer, and its task where it was accepted.
@@ -24,7 +25,7 @@ pub struct Record {
     pub task: Task,
 }
 
-// A record that is too short for its level and number of nodes is not read.
+// S2.7, S9.3: whether the record's shape is lawful. Where it is too short for a level and a number of nodes it is not read.
 fn shape_at(s: &[u8], at: usize, bytes: u32) -> bool
     requires { ⌜ at < 65536 ⌝ }
     ensures { λ r. ⌜ r ≡ shapeLawful (levelAt (now (s .entry)) at) (nodesAt (now (s .entry)) at) bytes ⌝ }
@@ -35,6 +36,7 @@ fn shape_at(s: &[u8], at: usize, bytes: u32) -> bool
     shape_lawful(byte_at(s, at), byte_at(s, at + 1), bytes)
 }
 
+// S2.6: the five figures.
 fn figures_at(s: &[u8], at: usize) -> Figures
     requires { ⌜ at < 65536 ⌝ }
     ensures { λ r. ⌜ r ≡ figuresAt (now (s .entry)) at ⌝ }
@@ -52,6 +54,7 @@ fn figures_at(s: &[u8], at: usize) -> Figures
     }
 }
 
+// S2.6: the masks of the nodes, and zeros behind them.
 fn masks_at(s: &[u8], at: usize, nodes: u8) -> [u32; 32]
     requires { ⌜ (at < 65536) × (nodes ≤ 32) ⌝ }
     ensures { λ r. ⌜ r ≡ masksAt (now (s .entry)) at nodes ⌝ }
@@ -66,6 +69,7 @@ fn masks_at(s: &[u8], at: usize, nodes: u8) -> [u32; 32]
     masks
 }
 
+// S2.6: the task of a record.
 fn task_at(s: &[u8], at: usize) -> Task
     requires { ⌜ (at < 65536) × (nodesAt (now s) at ≤ 32) ⌝ }
     ensures { λ r. ⌜ r ≡ taskAt (now (s .entry)) at ⌝ }
@@ -79,6 +83,7 @@ fn task_at(s: &[u8], at: usize) -> Task
     }
 }
 
+// S3.3: refusal 3 of task i, then 4 to 6 of what its record says.
 pub fn read_record(s: &[u8], i: u8) -> Record
     requires { ⌜ i < 16 ⌝ }
     ensures answered { λ r. ⌜ r .answer ≡ recordAnswer (now (s .entry)) i ⌝ }

@@ -96,7 +96,9 @@ upToMasks t =
     ++ u16Bytes (t .figures .overload .span)
 
 -- A task by its parts.
-task-whole : (t : Task) {level nodes d cn co ln lo : ℕ} {masks : List ℕ} → level ≡ t .level → nodes ≡ t .nodes → d ≡ t .figures .deadline → cn ≡ t .figures .nominal .work → co ≡ t .figures .overload .work → ln ≡ t .figures .nominal .span → lo ≡ t .figures .overload .span → masks ≡ t .predecessors
+task-whole : (t : Task) {level nodes d cn co ln lo : ℕ} {masks : List ℕ} → level ≡ t .level → nodes ≡ t .nodes
+    → d ≡ t .figures .deadline → cn ≡ t .figures .nominal .work → co ≡ t .figures .overload .work
+    → ln ≡ t .figures .nominal .span → lo ≡ t .figures .overload .span → masks ≡ t .predecessors
     → _≡_ {A = Task}
     (record { level = level; nodes = nodes; figures = record { deadline = d; nominal = record { work = cn; span = ln }; overload = record { work = co; span = lo } }; predecessors = masks }) t
 task-whole t a b c d e f g h = rw (a, b, c, d, e, f, g, h)

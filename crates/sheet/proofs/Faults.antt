@@ -1,4 +1,4 @@
--- Rows in order: a row that keeps its rule lets the next one speak, and the first refusal is the answer.
+-- S3.2, causes in order: where a rule is kept the next cause speaks, and the first refusal is the answer.
 use Prim.Native.Nat.{ℕ, suc, _≤_, _<_, _+_, _-_}
 use mathlib.Core.Bool.{Bool, true, false, not}
 use mathlib.Core.Path.{_≡_}
@@ -30,28 +30,28 @@ kept-equal x y number task e = kept (eqb x y) number task (eq-eqb x y e)
 pub broken-equal : (x y number task : ℕ) → (x ≡ y → ⊥) → refusedIf (not (eqb x y)) number task ≡ Refused number task
 broken-equal x y number task n = broken (eqb x y) number task (ne-eqb x y n)
 
--- A row put to the tasks one after the other: on past a task that it accepts, and no further than the first that it
--- refuses.
-module _ (row : ℕ → Answer) where
-  pub over-next : (i n : ℕ) → i < n → row i ≡ Accepted → firstOver row (i + 1) (n - (i + 1)) ≡ firstOver row i (n - i)
+-- A cause put to the tasks one after the other: on past a task that is accepted, and no further than the first that is
+-- refused.
+module _ (cause : ℕ → Answer) where
+  pub over-next : (i n : ℕ) → i < n → cause i ≡ Accepted → firstOver cause (i + 1) (n - (i + 1)) ≡ firstOver cause i (n - i)
   unfolding firstOver
   over-next i n h e =
       let step : n - i ≡ suc (n - (i + 1)) = omega arith in
       rw (step, add-one i, e)
 
-  pub over-stop : (i n : ℕ) {number task : ℕ} → i < n → row i ≡ Refused number task → firstOver row i (n - i) ≡ Refused number task
+  pub over-stop : (i n : ℕ) {number task : ℕ} → i < n → cause i ≡ Refused number task → firstOver cause i (n - i) ≡ Refused number task
   unfolding firstOver
   over-stop i n h e =
       let step : n - i ≡ suc (n - (i + 1)) = omega arith in
       rw (step, e)
 
-  pub over-end : (i n : ℕ) → n ≤ i → firstOver row i (n - i) ≡ Accepted
+  pub over-end : (i n : ℕ) → n ≤ i → firstOver cause i (n - i) ≡ Accepted
   unfolding firstOver
   over-end i n h =
       let none : n - i ≡ 0 = omega arith in
       rw none
 
-  pub over-all : (n : ℕ) → firstOver row 0 (n - 0) ≡ firstOver row 0 n
+  pub over-all : (n : ℕ) → firstOver cause 0 (n - 0) ≡ firstOver cause 0 n
   over-all n =
       let all : n - 0 ≡ n = omega arith in
       rw all

@@ -1,4 +1,4 @@
--- 01, "The sheet": where each number of a sheet stands, over the list of its bytes.
+-- S2.1 to S2.6: where each number of a sheet stands, over the list of its bytes.
 use Prim.Native.Nat.{ℕ, zero, suc, _+_, _*_}
 use mathlib.Core.Bool.{cond}
 use mathlib.Core.List.{List, [], _∷_}
@@ -8,41 +8,41 @@ use Rattle.sheet.specs.declared.task.Figures.{Figures}
 use Rattle.sheet.specs.declared.task.Task.{Task}
 use Rattle.sheet.specs.declared.task.TaskSet.{TaskSet}
 
--- The byte at a place.
+-- The byte at a place; 0 past the end.
 unfoldable pub byteAt : List ℕ → ℕ → ℕ
 byteAt s at = getD s at 0
 
--- 01: "multi-byte numbers little-endian", two bytes wide.
+-- S1.1: the number in two bytes from a place on, the lower byte first.
 unfoldable pub u16At : List ℕ → ℕ → ℕ
 u16At s at = byteAt s at + 256 * byteAt s (at + 1)
 
--- The same, four bytes wide.
+-- S1.1: the number in four bytes from a place on.
 unfoldable pub u32At : List ℕ → ℕ → ℕ
 u32At s at = u16At s at + 65536 * u16At s (at + 2)
 
--- 01: "Byte 0 is M, the processors".
+-- S2.1: M, the number of processors.
 unfoldable pub processorsOf : List ℕ → ℕ
 processorsOf s = byteAt s 0
 
--- 01: "Byte 1 is n, the tasks".
+-- S2.2: n, the number of tasks.
 unfoldable pub countOf : List ℕ → ℕ
 countOf s = byteAt s 1
 
--- 01: "Then n pairs of offset and length (u16 each)": the offset of task i's record.
+-- S2.3: where task i's record begins, by the directory.
 unfoldable pub offsetOf : List ℕ → ℕ → ℕ
 offsetOf s i = u16At s (2 + 4 * i)
 
--- The length of task i's record.
+-- S2.3: the length of task i's record, by the directory.
 unfoldable pub lengthOf : List ℕ → ℕ → ℕ
 lengthOf s i = u16At s (4 + 4 * i)
 
--- 01: "The first record starts at 2 + 4n, each next where the last ended": where task i's record has to start. At i = n
--- it is the end of the last record.
+-- S2.4: where task i's record has to begin: the first behind the directory, each other one at the end of the one before it.
+-- For i = n it is the end of the last record.
 unfoldable pub startOf : List ℕ → ℕ → ℕ
 startOf s zero = 2 + 4 * countOf s
 startOf s (suc i) = offsetOf s i + lengthOf s i
 
--- size cells, of which those below count hold what f gives them, and the others hold none.
+-- size cells with the numbers from first on: those below count hold what f gives them, and the others hold none.
 unfoldable pub cellsFrom : {A : Type 0} → ℕ → ℕ → (ℕ → A) → A → ℕ → List A
 cellsFrom first zero f none count = []
 cellsFrom first (suc size) f none count = cond (ltb first count) (f first) none ∷ cellsFrom (suc first) size f none count
@@ -51,15 +51,15 @@ cellsFrom first (suc size) f none count = cond (ltb first count) (f first) none 
 abbrev pub cells : {A : Type 0} → ℕ → (ℕ → A) → A → ℕ → List A
 cells size f none count = cellsFrom 0 size f none count
 
--- 01: "A record: level (u8, 0 low, 1 high)", for the record that starts at a place.
+-- S2.6: the level, in the record that begins at a place.
 unfoldable pub levelAt : List ℕ → ℕ → ℕ
 levelAt s at = byteAt s at
 
--- 01: "k, the nodes (u8, 1 to 32)".
+-- S2.6: k, the number of nodes.
 unfoldable pub nodesAt : List ℕ → ℕ → ℕ
 nodesAt s at = byteAt s (at + 1)
 
--- 01: "then u16 each D, CN, CO, LN, LO".
+-- S2.6: the five figures. Works stand before spans, and of each the nominal one first.
 unfoldable pub figuresAt : List ℕ → ℕ → Figures
 figuresAt s at =
     record {
@@ -68,11 +68,11 @@ figuresAt s at =
       overload = record { work = u16At s (at + 6); span = u16At s (at + 10) };
     }
 
--- 01: "then k masks (u32)": node v's, and 0 for the nodes from k on.
+-- S2.6: the mask of each of k nodes, and 0 for the nodes from k on.
 unfoldable pub masksAt : List ℕ → ℕ → ℕ → List ℕ
 masksAt s at k = cells 32 (λ v. u32At s (at + 12 + 4 * v)) 0 k
 
--- The task whose record starts at a place.
+-- S2.6: the task whose record begins at a place.
 unfoldable pub taskAt : List ℕ → ℕ → Task
 taskAt s at =
     record {
@@ -91,15 +91,15 @@ noFigures =
       overload = record { work = 0; span = 0 };
     }
 
--- A task of zeros: what stands in the place of one that is not there.
+-- A task of zeros, which stands in the place of one that is not there.
 unfoldable pub zeroTask : Task
 zeroTask = record { level = 0; nodes = 0; figures = noFigures; predecessors = replicate 32 0 }
 
--- 01: "Tasks are numbered from 0 in that order": the first count tasks, and zeros in the place of the others.
+-- S2.5: the first count tasks in the order of the directory, and zeros in the place of the others.
 unfoldable pub tasksBelow : List ℕ → ℕ → List Task
 tasksBelow s count = cells 16 (λ i. taskAt s (offsetOf s i)) zeroTask count
 
--- What the whole sheet says.
+-- S2: what the whole sheet says.
 unfoldable pub taskSetOf : List ℕ → TaskSet
 taskSetOf s =
     record {
@@ -108,7 +108,7 @@ taskSetOf s =
       tasks = tasksBelow s (countOf s);
     }
 
--- A task set of zeros: what a refused reading gives.
+-- S3.5: a task set of zeros, which a refused reading gives.
 unfoldable pub zeroTaskSet : TaskSet
 zeroTaskSet = record { processors = 0; count = 0; tasks = replicate 16 zeroTask }
 

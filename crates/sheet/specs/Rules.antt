@@ -1,4 +1,4 @@
--- The rules of one record: its level, number of nodes and length, its figures, its masks, and "heavy".
+-- S2.7 to S2.13: the rules of one record, for its level, number of nodes and length, its figures and its masks.
 use Prim.Native.Nat.{ℕ, zero, suc, _+_, _*_, _-_, _^_}
 use mathlib.Core.Bool.{Bool, true, _&&_, _||_, not}
 use mathlib.Core.List.{List}
@@ -13,19 +13,19 @@ use Rattle.sheet.specs.Answers.{badFigure, badMask, notHeavy, refusedIf,
 abbrev pub within : ℕ → ℕ → ℕ → Bool
 within low high x = leb low x && leb x high
 
--- 01: "level (u8, 0 low, 1 high)".
+-- S2.7: the level is low or high.
 unfoldable pub levelLawful : ℕ → Bool
 levelLawful level = leb level 1
 
--- 01: "k, the nodes (u8, 1 to 32)" and "A record has 12 + 4k bytes."
+-- S2.7: the level, 1 to 32 nodes, and as many bytes as go with them.
 unfoldable pub shapeLawful : ℕ → ℕ → ℕ → Bool
 shapeLawful level nodes bytes = levelLawful level && within 1 32 nodes && eqb bytes (12 + 4 * nodes)
 
--- 01: "Figures lie in 1 to 10,000": the upper limit.
+-- S2.9: the greatest figure.
 abbrev pub figureLimit : ℕ
 figureLimit = 10000
 
--- 01: "Figures lie in 1 to 10,000".
+-- S2.9: each of the five figures lies in its range.
 unfoldable pub inRange : Figures → Bool
 inRange f =
     within 1 figureLimit (f .deadline)
@@ -34,7 +34,8 @@ inRange f =
     && within 1 figureLimit (f .nominal .span)
     && within 1 figureLimit (f .overload .span)
 
--- 01: "with LN ≤ CN, LO ≤ CO, CN ≤ CO, LN ≤ LO and CO − CN ≥ LO − LN".
+-- S2.10: a span is no greater than its work, overload figures are no smaller than nominal ones, and the span grows no more
+-- than the work.
 unfoldable pub inOrder : Figures → Bool
 inOrder f =
     leb (f .nominal .span) (f .nominal .work)
@@ -43,17 +44,17 @@ inOrder f =
     && leb (f .nominal .span) (f .overload .span)
     && leb (f .overload .span - f .nominal .span) (f .overload .work - f .nominal .work)
 
--- 01: "A low task has CN = CO and LN = LO."
+-- S2.11: a low task's nominal figures are its overload figures.
 unfoldable pub lowLawful : ℕ → Figures → Bool
 lowLawful level f =
     not (eqb level 0)
     || eqb (f .nominal .work) (f .overload .work) && eqb (f .nominal .span) (f .overload .span)
 
--- The figures of a task keep every rule.
+-- S2.9 to S2.11 together.
 unfoldable pub figuresLawful : ℕ → Figures → Bool
 figuresLawful level f = inRange f && inOrder f && lowLawful level f
 
--- 01: "Bit j of node v's mask says that node j precedes v; only j < v is allowed": no bit at v or above.
+-- S2.12: node v's mask has no bit from v on, which is to say that it lies below 2 ^ v (`Laws.MaskLaw`).
 unfoldable pub maskLawful : List ℕ → ℕ → Bool
 maskLawful masks v = ltb (getD masks v 0) (2 ^ v)
 
@@ -62,15 +63,15 @@ unfoldable pub allBelow : ℕ → (ℕ → Bool) → Bool
 allBelow zero test = true
 allBelow (suc n) test = allBelow n test && test n
 
--- The masks of all nodes keep the rule.
+-- S2.12, for every node.
 unfoldable pub masksLawful : List ℕ → ℕ → Bool
 masksLawful masks nodes = allBelow nodes (maskLawful masks)
 
--- 01: "Heavy means CO > D."
+-- S2.13: the overload work exceeds the deadline.
 unfoldable pub isHeavy : Figures → Bool
 isHeavy f = ltb (f .deadline) (f .overload .work)
 
--- Rows 4, 5 and 6, of a task with the number i.
+-- S3.3: refusals 4, 5 and 6 in this order, of a task with the number i.
 unfoldable pub taskAnswer : Task → ℕ → Answer
 taskAnswer t i =
     refusedIf (not (figuresLawful (t .level) (t .figures))) badFigure i

@@ -1,18 +1,18 @@
-// What a call answers where it may refuse.
+// S3: what a call answers where it may refuse.
 ghost use mathlib.Core.Path.{_≡_};
 ghost use mathlib.Core.Bool.{not};
 ghost use Rattle.sheet.specs.Answers.{refusedIf, _orElse_};
 
-// Accepted, or refused with 01's number and task.
+// S3.1: accepted, or refused with a number and the task at fault.
 pub enum Answer {
     Accepted,
     Refused(u8, u8),
 }
 
-// The task of a refusal that names none.
+// S3.1: the task of a refusal that names none.
 pub const NO_TASK: u8 = 255;
 
-// The answer of one row: refused unless the rule is kept.
+// The answer to one cause: refused unless the rule is kept.
 pub fn refused_unless(kept: bool, number: u8, task: u8) -> Answer
     ensures { λ r. ⌜ r ≡ refusedIf (not kept) number task ⌝ }
 {
@@ -23,7 +23,7 @@ pub fn refused_unless(kept: bool, number: u8, task: u8) -> Answer
     }
 }
 
-// Two answers in order: the first refusal counts.
+// S3.2: of two answers in their order the first refusal counts.
 pub fn or_else(first: Answer, later: Answer) -> Answer
     ensures { λ r. ⌜ r ≡ first orElse later ⌝ }
 {

@@ -1,4 +1,4 @@
-// Numbers in a sheet's bytes, lowest byte first.
+// S1.1: numbers in a sheet's bytes, lowest byte first.
 ghost use mathlib.Core.Path.{_≡_};
 ghost use Prim.Native.Nat.{_+_, _*_, _<_, _^_};
 ghost use Rattle.sheet.specs.Format.{byteAt, u16At, u32At};
@@ -18,6 +18,7 @@ fn pair(low: u8, high: u8) -> u32
     (low as u32) + 256 * (high as u32)
 }
 
+// Two bytes from a place on.
 pub fn u16_at(s: &[u8], at: usize) -> u32
     requires { ⌜ at + 2 < 2 ^ 64 ⌝ }
     ensures value { λ r. ⌜ r ≡ u16At (now (s .entry)) at ⌝ }
@@ -29,7 +30,7 @@ pub fn u16_at(s: &[u8], at: usize) -> u32
     pair(s[at], s[at + 1])
 }
 
-// The end is tested once for all four bytes.
+// Four bytes from a place on. The end is tested once for all of them.
 pub fn u32_at(s: &[u8], at: usize) -> u32
     requires { ⌜ at + 4 < 2 ^ 64 ⌝ }
     ensures { λ r. ⌜ r ≡ u32At (now (s .entry)) at ⌝ }

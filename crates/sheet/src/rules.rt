@@ -1,4 +1,4 @@
-// The rules that a record keeps, each a test on what the record says.
+// S2.7 to S2.13: the rules of a record, each a test on what the record says.
 ghost use mathlib.Core.Path.{_≡_};
 ghost use Prim.Native.Nat.{_+_, _≤_};
 ghost use Rattle.sheet.specs.Rules.{within, shapeLawful, inRange, inOrder, lowLawful, figuresLawful, masksLawful, isHeavy, taskAnswer};
@@ -8,26 +8,31 @@ use crate::answer::refused_unless;
 use crate::task::Figures;
 use crate::task::Task;
 
+// Refusals 4, 5 and 6.
 const BAD_FIGURE: u8 = 4;
 
 const BAD_MASK: u8 = 5;
 
 const NOT_HEAVY: u8 = 6;
 
+// S2.9: the greatest figure.
 pub const FIGURE_LIMIT: u32 = 10000;
 
+// Whether a number lies between two others or is one of them.
 pub fn is_within(low: u32, high: u32, x: u32) -> bool
     ensures { λ r. ⌜ r ≡ within low high x ⌝ }
 {
     (low <= x) & (x <= high)
 }
 
+// S2.7: level, number of nodes and length.
 pub fn shape_lawful(level: u8, nodes: u8, bytes: u32) -> bool
     ensures { λ r. ⌜ r ≡ shapeLawful level nodes bytes ⌝ }
 {
     (level <= 1) & is_within(1, 32, nodes as u32) & (bytes == 12 + 4 * (nodes as u32))
 }
 
+// S2.9: each figure by itself.
 fn in_range(f: Figures) -> bool
     ensures { λ r. ⌜ r ≡ inRange f ⌝ }
 {
@@ -38,13 +43,14 @@ fn in_range(f: Figures) -> bool
         & is_within(1, FIGURE_LIMIT, f.overload.span)
 }
 
+// A sum that does not wrap.
 fn sum(a: u32, b: u32) -> u64
     ensures { λ r. ⌜ r ≡ a + b ⌝ }
 {
     (a as u64) + (b as u64)
 }
 
-// The last rule is put as sums, which do not wrap.
+// S2.10: the figures against each other. The last rule is put as sums, which do not wrap.
 fn in_order(f: Figures) -> bool
     ensures { λ r. ⌜ r ≡ inOrder f ⌝ }
 {
@@ -55,18 +61,21 @@ fn in_order(f: Figures) -> bool
         & (sum(f.overload.span, f.nominal.work) <= sum(f.overload.work, f.nominal.span))
 }
 
+// S2.11: the figures of a low task.
 fn low_lawful(level: u8, f: Figures) -> bool
     ensures { λ r. ⌜ r ≡ lowLawful level f ⌝ }
 {
     (level != 0) | ((f.nominal.work == f.overload.work) & (f.nominal.span == f.overload.span))
 }
 
+// S9.4: the rules for the figures together.
 pub fn figures_lawful(level: u8, f: Figures) -> bool
     ensures { λ r. ⌜ r ≡ figuresLawful level f ⌝ }
 {
     in_range(f) & in_order(f) & low_lawful(level, f)
 }
 
+// S2.12: what is left of node v's mask past its lowest v bits is 0.
 pub fn masks_lawful(masks: [u32; 32], nodes: u8) -> bool
     requires { ⌜ nodes ≤ 32 ⌝ }
     ensures { λ r. ⌜ r ≡ masksLawful masks nodes ⌝ }
@@ -82,13 +91,14 @@ pub fn masks_lawful(masks: [u32; 32], nodes: u8) -> bool
     true
 }
 
+// S2.13.
 pub fn is_heavy(f: Figures) -> bool
     ensures { λ r. ⌜ r ≡ isHeavy f ⌝ }
 {
     f.deadline < f.overload.work
 }
 
-// Refusals 4, 5 and 6 of a task with the number i.
+// S3.3: refusals 4, 5 and 6 in this order, of a task with the number i.
 pub fn task_answer(t: Task, i: u8) -> Answer
     requires { ⌜ t .nodes ≤ 32 ⌝ }
     ensures { λ r. ⌜ r ≡ taskAnswer t i ⌝ }

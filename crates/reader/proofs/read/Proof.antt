@@ -1,4 +1,4 @@
--- `reader::read` meets its contract: row 1, then row 2, then the rows of each task. Assumes nothing.
+-- `reader::read` meets its contract: refusal 1, then 2, then those of each task. Assumes nothing.
 use mathlib.Core.Bool.{true}
 use mathlib.Core.Path.{_≡_, refl, sym, ap, _∙_}
 use borrow.Author.Tests.{not-true, not-false}

@@ -1,4 +1,4 @@
--- `reader::zero_task_set` meets its contract. Assumes nothing.
+-- `reader::zero_task_set` meets its contract: each cell is what `zero_task` ensures. Assumes nothing.
 use Rattle.sheet.specs.Format.{zeroTaskSet}
 use borrow.Author.Needs.{needs}
 use Rattle.reader.proofs.zero_task_set.Statement.{statement}

@@ -1,5 +1,5 @@
--- `reader::directory::places_answer` meets its contract. The loop's invariant: the pairs passed are in place, and the next
--- record has to start where the last one ended. The measure is the pairs left. Assumes nothing.
+-- `reader::directory::places_answer` meets its contract. The loop's invariant: the records passed are in place, and the
+-- next one has to begin where the last one ended. The measure is the records left. Assumes nothing.
 use Prim.Native.Nat.{ℕ, _+_, _*_, _≤_, _<_, _-_}
 use mathlib.Core.Path.{_≡_, sym, ap, _∙_}
 use lib.ListN.{length}

@@ -1,4 +1,4 @@
--- `reader::record::figures_at` meets its contract: each figure is what `u16_at` ensures. Assumes nothing.
+-- `reader::record::figures_at` meets its contract: each figure is what `u16_at` ensures at its place. Assumes nothing.
 use Prim.Native.Nat.{ℕ, _+_}
 use mathlib.Core.List.{List}
 use mathlib.Core.Path.{_≡_, ap, _∙_}

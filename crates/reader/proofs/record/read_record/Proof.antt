@@ -1,5 +1,5 @@
--- `reader::record::read_record` meets its contract: the record's shape is row 3, and the task that it holds is put to
--- rows 4 to 6. Assumes nothing.
+-- `reader::record::read_record` meets its contract: the record's shape is put to refusal 3, and the task that it
+-- holds to 4, 5 and 6. Assumes nothing.
 use native.Mathlib.Omega.{arith}
 use mathlib.Core.Path.{_≡_, sym, _∙_, ap}
 use denote.Ref.{now}
@@ -8,8 +8,7 @@ use mathlib.Core.Bool.{true}
 use borrow.Author.Tests.{not-true, not-false}
 use Rattle.sheet.specs.declared.task.Task.{Task}
 use Rattle.sheet.specs.Format.{taskAt, levelAt, nodesAt}
-use Rattle.sheet.specs.Rules.{shapeLawful}
-use Rattle.sheet.specs.Rules.{taskAnswer}
+use Rattle.sheet.specs.Rules.{shapeLawful, taskAnswer}
 use Rattle.reader.proofs.Records.{record-refused, record-shaped, record-task, nodes-few}
 use borrow.Author.Needs.{needs}
 use Rattle.reader.proofs.record.read_record.Statement.{statement}

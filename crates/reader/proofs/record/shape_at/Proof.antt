@@ -1,8 +1,4 @@
 -- `reader::record::shape_at` meets its contract: a record of fewer than two bytes has a wrong length. Assumes nothing.
-use mathlib.Core.Bool.{_&&_}
-use denote.Ref.{now}
-use mathlib.Core.Path.{sym}
-use Rattle.sheet.proofs.Logic.{length-broken}
 use Rattle.sheet.specs.Rules.{shapeLawful, levelLawful, within}
 use mathlib.Core.Bool.{_&&_}
 use denote.Ref.{now}

@@ -1,4 +1,4 @@
--- `sheet::rules::task_answer` meets its contract: each row is what its callees ensure. Assumes nothing.
+-- `sheet::rules::task_answer` meets its contract: the answer to each cause is what its callees ensure. Assumes nothing.
 use Rattle.sheet.specs.Rules.{taskAnswer}
 use borrow.Author.Needs.{needs}
 use Rattle.sheet.proofs.rules.task_answer.Statement.{statement}

@@ -1,4 +1,4 @@
--- `sheet::task::zero_task` meets its contract. Assumes nothing.
+-- `sheet::task::zero_task` meets its contract: both sides are the same literals. Assumes nothing.
 use Rattle.sheet.specs.Format.{zeroTask}
 use mathlib.Core.Path.{refl}
 use Rattle.sheet.proofs.task.zero_task.Statement.{statement}
