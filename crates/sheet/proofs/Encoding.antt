@@ -11,7 +11,6 @@ use lib.ListN.{length, getD, drop, replicate}
 use lib.Seq.{getD-append-add}
 use borrow.Author.Tests.{ltb-true, lt-ltb}
 use Rattle.nodes.specs.Sets.{every}
-use Rattle.sheet.specs.declared.task.Figures.{Figures}
 use Rattle.sheet.specs.declared.task.Task.{Task}
 use Rattle.sheet.specs.Format.{byteAt, u16At, u32At, cellsFrom, levelAt, nodesAt, figuresAt, masksAt, taskAt}
 use Rattle.sheet.specs.Encoding.{u16Bytes, u32Bytes, masksBytes, recordBytes}

@@ -1,7 +1,7 @@
 -- A mask below 2 ^ v is one without a bit from v on: a number below a power has no bit from there, and a number all of
 -- whose bits are lower is below it.
-use Prim.Native.Nat.{ℕ, zero, suc, _≤_, _<_, _^_}
-use mathlib.Core.Bool.{Bool, true, false, _&&_, true≢false}
+use Prim.Native.Nat.{ℕ, zero, suc, _<_, _^_}
+use mathlib.Core.Bool.{Bool, true, true≢false}
 use mathlib.Core.List.{List}
 use mathlib.Core.Path.{_≡_, refl, sym, _∙_, ap}
 use native.Mathlib.Nat.{lt-of-not-le}
@@ -9,7 +9,6 @@ use native.Mathlib.Decide.{decLt}
 use native.Mathlib.Omega.{arith}
 use lib.ListN.{getD}
 use borrow.Author.Tests.{ltb-true, lt-ltb}
-use Rattle.nodes.specs.Sets.{has}
 use Rattle.nodes.proofs.Bits.{has-above, has-lt, below-of-has}
 use Rattle.sheet.specs.Rules.{maskLawful, masksLawful, allBelow}
 use Rattle.sheet.specs.Laws.{MaskLaw, MasksLaw}
