@@ -5,9 +5,8 @@ use mathlib.Core.Bool.{Bool}
 use mathlib.Core.List.{List, [], _∷_, _++_, map}
 use native.Mathlib.Omega.{arith}
 use lib.ListN.{length, getD, set, take, drop, length-map, List·getD-map}
-use Rattle.model.specs.Row.{Fixed, Job, Row}
+use Rattle.model.specs.Row.{Fixed, Job, Row, fixedOf as rowFixed}
 use Rattle.model.specs.Step.{Model, noRow, rowAt}
-use Rattle.model.specs.Claim.{fixedOf as rowFixed}
 use Rattle.entries.specs.declared.state.TaskState.{TaskState}
 use Rattle.dispatcher.specs.declared.state.State.{State}
 use Rattle.entries.specs.Entry.{fixedOf, jobOf, rowOf, withJob}

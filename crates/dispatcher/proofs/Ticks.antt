@@ -12,9 +12,8 @@ use lib.ListN.{length, getD, set, take, drop, length-map}
 use lib.Seq.{drop-cons, take-all, length-take-le}
 use Rattle.sheet.specs.Answers.{noTask}
 use Rattle.sheet.specs.Rules.{within}
-use Rattle.model.specs.Row.{Fixed, Row, isSubset, runningSet, tickedRow, isLate, switchedRow}
+use Rattle.model.specs.Row.{Fixed, Row, isSubset, runningSet, tickedRow, isLate, switchedRow, fixedOf as rowFixed}
 use Rattle.model.specs.Step.{Model, Refusal, refusal, wrongCount, notRunning, step, ticked, noRow, rowAt, reportRefusal, tickRefusal, tickedRows, lowestLate, switching}
-use Rattle.model.specs.Claim.{fixedOf as rowFixed}
 use Rattle.model.proofs.Steps.{length-ticked}
 use Rattle.entries.specs.declared.state.TaskState.{TaskState}
 use Rattle.dispatcher.specs.declared.state.State.{State}

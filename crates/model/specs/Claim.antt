@@ -10,7 +10,6 @@ use Rattle.sheet.specs.declared.task.TaskSet.{TaskSet}
 use Rattle.shares.specs.declared.share.Share.{Share}
 use Rattle.shares.specs.Totals.{shareIn, shareAt}
 use Rattle.model.specs.Row.{Row, highLevel, precedes, allEnded, running}
-pub use Rattle.model.specs.Row.{fixedOf}
 use Rattle.model.specs.Step.{Model, Call, release, tick, Answer, accepted, ran, switched, refused, step, rowAt}
 use Rattle.model.specs.Run.{after, answers, isAccepted, ticksIn, releasesIn, TrueReports}
 use Rattle.model.specs.Budget.{Keeps}
