@@ -23,7 +23,7 @@ use Rattle.entries.specs.Entry.{rowOf, withJob}
 use Rattle.dispatcher.specs.Holds.{entriesOf, modelOf, withModel}
 use Rattle.entries.specs.Sound.{entrySound}
 use Rattle.dispatcher.specs.Sound.{isSound}
-use Rattle.dispatcher.specs.Answers.{notSound}
+use Rattle.dispatcher.specs.Answers.{notSound, tickNumber, tickTask, TickSays}
 use Rattle.dispatcher.specs.Calls.{tickedBy, tickOf}
 use Rattle.dispatcher.proofs.Soundness.{ranges-kept, few-entries}
 use Rattle.dispatcher.proofs.Entries.{entryAt, left-next, left-none, Passed, passed-none, passed-broken, passed-more, passed-all}
@@ -313,3 +313,8 @@ module _ (s : State) (reports : List ℕ) (long : s .count ≤ length (s .entrie
         ap (λ (t : State). record { state = t; answer = Switched late }) state
         ∙ switched-by s rows late lowest (s .critical) (eqb late noTask) refl reached
         ∙ accepted right
+
+-- The tick's answer says the number and the task of its equal.
+pub tick-said : {x y : Ticked} → x ≡ y → (x ≡ y) × TickSays (x .answer) (tickNumber (y .answer)) (tickTask (y .answer))
+tick-said e =
+    (e, record { number-is = ap (λ (r : Ticked). tickNumber (r .answer)) e; task-is = ap (λ (r : Ticked). tickTask (r .answer)) e })

@@ -1,6 +1,7 @@
 -- The answers of the state calls, and their numbers in 01, "Refusals by cause".
 use Prim.Native.Nat.{ℕ}
 use mathlib.Core.Option.{Option, none, some}
+use mathlib.Core.Path.{_≡_}
 use Rattle.sheet.specs.declared.answer.Answer.{Answer}
 use Rattle.sheet.specs.declared.answer.Answer.the-variants.{Accepted, Refused}
 use Rattle.sheet.specs.Answers.{noTask}
@@ -47,3 +48,8 @@ abbrev pub tickTask : TickAnswer → ℕ
 tickTask Ran = noTask
 tickTask (Switched task) = task
 tickTask (TickRefused number task) = task
+
+-- S8.7: the number and the task that a tick's answer says.
+pub record TickSays (a : TickAnswer) (number task : ℕ) : Type 0 where
+  pub number-is : tickNumber a ≡ number
+  pub task-is : tickTask a ≡ task

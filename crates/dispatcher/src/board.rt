@@ -5,6 +5,7 @@ ghost use Prim.Native.Nat.{_+_, _*_, _≤_};
 ghost use lib.ListN.{length, replicate};
 ghost use lib.Seq.{sets};
 ghost use Rattle.nodes.specs.Sets.{members};
+ghost use Rattle.sheet.specs.Answers.{numberOf, taskOf, Says};
 ghost use Rattle.dispatcher.specs.Holds.{modelOf};
 ghost use Rattle.dispatcher.specs.Sound.{isSound};
 ghost use Rattle.dispatcher.specs.Board.{unused, idle, pairsOf, boardBytes, boardedOf, boardOf};
@@ -72,6 +73,7 @@ fn put_tasks(buffer: &mut [u8], state: State)
 // Board: writes the 2M bytes that show which node each processor runs; a refusal writes nothing. The state comes back as it is.
 pub fn board(state: State, buffer: &mut [u8]) -> Boarded
     ensures answered { λ r. ⌜ r ≡ boardedOf state (length (now (buffer .entry))) ⌝ }
+    ensures says { λ r. ⌜ Says (r .answer) (numberOf (boardedOf state (length (now (buffer .entry))) .answer)) (taskOf (boardedOf state (length (now (buffer .entry))) .answer)) ⌝ }
     ensures written { λ _. ⌜ now (buffer .exit) ≡ boardOf state (now (buffer .entry)) ⌝ }
 {
     if !is_sound(state) {

@@ -1,6 +1,7 @@
 // Release.
 ghost use mathlib.Core.Path.{_≡_};
 ghost use mathlib.Core.Bool.{true};
+ghost use Rattle.sheet.specs.Answers.{numberOf, taskOf, Says};
 ghost use Rattle.model.specs.Step.{releaseRefusal};
 ghost use Rattle.dispatcher.specs.Holds.{modelOf};
 ghost use Rattle.dispatcher.specs.Sound.{isSound};
@@ -37,6 +38,7 @@ fn release_answer(state: State, task: usize) -> Answer
 // Release: begins a job of a task. A refused call hands the state back.
 pub fn release(state: State, task: usize) -> Released
     ensures whole { λ r. ⌜ r ≡ releaseOf state task ⌝ }
+    ensures says { λ r. ⌜ Says (r .answer) (numberOf (releaseOf state task .answer)) (taskOf (releaseOf state task .answer)) ⌝ }
 {
     if !is_sound(state) {
         return Released {

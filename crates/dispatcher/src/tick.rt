@@ -7,7 +7,7 @@ ghost use Rattle.model.specs.Row.{switchedRow};
 ghost use Rattle.model.specs.Step.{wrongCount};
 ghost use Rattle.dispatcher.specs.Holds.{modelOf, withModel};
 ghost use Rattle.dispatcher.specs.Sound.{isSound};
-ghost use Rattle.dispatcher.specs.Answers.{notSound};
+ghost use Rattle.dispatcher.specs.Answers.{notSound, tickNumber, tickTask, TickSays};
 ghost use Rattle.dispatcher.specs.Calls.{tickOf};
 use crate::sound::NOT_SOUND;
 use crate::sound::is_sound;
@@ -82,6 +82,7 @@ fn refused(state: State, number: u8, task: u8) -> Ticked
 // passed once: soundness, reports and each task's part of the tick.
 pub fn tick(state: State, reports: &[u32]) -> Ticked
     ensures whole { λ r. ⌜ r ≡ tickOf state (now (reports .entry)) ⌝ }
+    ensures says { λ r. ⌜ TickSays (r .answer) (tickNumber (tickOf state (now (reports .entry)) .answer)) (tickTask (tickOf state (now (reports .entry)) .answer)) ⌝ }
 {
     let n = state.count;
     if reports.len() != n as usize {

@@ -1,5 +1,6 @@
 // The choice of shares for a task set.
 ghost use mathlib.Core.Path.{_≡_};
+ghost use Rattle.sheet.specs.Answers.{numberOf, taskOf, Says};
 ghost use Rattle.planner.specs.Lawful.{LawfulSet};
 ghost use Rattle.planner.specs.Plan.{choiceOf};
 use crate::rows::offers_none;
@@ -20,7 +21,8 @@ pub struct Chosen {
 // Row 7 over the tasks in order, then row 8, and the shares that are chosen.
 pub fn choose(set: TaskSet) -> Chosen
     requires { ⌜ LawfulSet set ⌝ }
-    ensures { λ r. ⌜ r ≡ choiceOf set ⌝ }
+    ensures whole { λ r. ⌜ r ≡ choiceOf set ⌝ }
+    ensures says { λ r. ⌜ Says (r .answer) (numberOf (choiceOf set .answer)) (taskOf (choiceOf set .answer)) ⌝ }
 {
     let n = set.count;
     let m = set.processors;

@@ -3,6 +3,7 @@ ghost use mathlib.Core.Path.{_≡_};
 ghost use mathlib.Core.List.{[], _∷_};
 ghost use Prim.Native.Nat.{_+_, _*_, _≤_};
 ghost use lib.ListN.{length};
+ghost use Rattle.sheet.specs.Answers.{numberOf, taskOf, Says};
 ghost use Rattle.shares.specs.Totals.{shareIn};
 ghost use Rattle.planner.specs.Plan.{blockBytes, virtualBytes, planBytes, planAnswer, planned};
 ghost use Rattle.planner.specs.Writing.{laid, PairsFit, BlocksFit, VirtualsFit, PlanFits};
@@ -81,6 +82,7 @@ fn write_plan(buffer: &mut [u8], set: TaskSet, shares: [Share; 16])
 // Plan: reads the sheet, chooses the shares and writes the plan's 6n bytes; a refusal writes nothing.
 pub fn plan(sheet: &[u8], buffer: &mut [u8]) -> Answer
     ensures answered { λ r. ⌜ r ≡ planAnswer (now (sheet .entry)) (length (now (buffer .entry))) ⌝ }
+    ensures says { λ r. ⌜ Says r (numberOf (planAnswer (now (sheet .entry)) (length (now (buffer .entry))))) (taskOf (planAnswer (now (sheet .entry)) (length (now (buffer .entry))))) ⌝ }
     ensures written { λ _. ⌜ now (buffer .exit) ≡ planned (now (sheet .entry)) (now (buffer .entry)) ⌝ }
 {
     let reading = read(sheet);

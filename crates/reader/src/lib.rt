@@ -1,7 +1,7 @@
 // The reader: what a list of bytes says as a sheet (S2), and refusals 1 to 6.
 ghost use mathlib.Core.Path.{_≡_};
 ghost use Prim.Native.Nat.{_≤_};
-ghost use Rattle.sheet.specs.Answers.{firstOver};
+ghost use Rattle.sheet.specs.Answers.{numberOf, taskOf, firstOver, Says};
 ghost use Rattle.sheet.specs.Format.{countOf, zeroTaskSet};
 ghost use Rattle.reader.specs.Reading.{recordAnswer, readingOf, readOf};
 use crate::directory::header_lawful;
@@ -69,6 +69,7 @@ fn read_tasks(s: &[u8], n: u8) -> Reading
 // Reads a sheet: any list of bytes is accepted, or refused for the first of 1 to 6 that holds (S3.3).
 pub fn read(sheet: &[u8]) -> Reading
     ensures whole { λ r. ⌜ r ≡ readOf (now (sheet .entry)) ⌝ }
+    ensures says { λ r. ⌜ Says (r .answer) (numberOf (readOf (now (sheet .entry)) .answer)) (taskOf (readOf (now (sheet .entry)) .answer)) ⌝ }
 {
     if !header_lawful(sheet) {
         return Reading {

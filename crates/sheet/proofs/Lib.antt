@@ -5,3 +5,4 @@ pub mod Faults
 pub mod Masks
 pub mod Encoding
 pub mod Worked
+pub mod Said

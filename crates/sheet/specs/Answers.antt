@@ -1,6 +1,7 @@
 -- S3: answers, the numbers of refusals 1 to 6, and causes put in order.
 use Prim.Native.Nat.{ℕ, zero, suc}
 use mathlib.Core.Bool.{Bool, true, false}
+use mathlib.Core.Path.{_≡_}
 use Rattle.sheet.specs.declared.answer.Answer.{Answer}
 use Rattle.sheet.specs.declared.answer.Answer.the-variants.{Accepted, Refused}
 
@@ -57,3 +58,8 @@ _orElse_ (Refused number task) later = Refused number task
 unfoldable pub firstOver : (ℕ → Answer) → ℕ → ℕ → Answer
 firstOver cause first zero = Accepted
 firstOver cause first (suc count) = cause first orElse firstOver cause (suc first) count
+
+-- S3.1: the number and the task that an answer says.
+pub record Says (a : Answer) (number task : ℕ) : Type 0 where
+  pub number-is : numberOf a ≡ number
+  pub task-is : taskOf a ≡ task

@@ -1,5 +1,6 @@
 // Start: from a sheet to a fresh state.
 ghost use mathlib.Core.Path.{_≡_};
+ghost use Rattle.sheet.specs.Answers.{numberOf, taskOf, Says};
 ghost use Rattle.planner.specs.Lawful.{LawfulSet};
 ghost use Rattle.start.specs.Start.{freshState, zeroState, startOf, SharesGiven};
 use dispatcher::state::State;
@@ -50,6 +51,7 @@ fn fresh_state(set: TaskSet, shares: [Share; 16]) -> State
 // Start: reads a sheet, plans it and returns a fresh state. Where reading refused, nothing is planned.
 pub fn start(sheet: &[u8]) -> Started
     ensures whole { λ r. ⌜ r ≡ startOf (now (sheet .entry)) ⌝ }
+    ensures says { λ r. ⌜ Says (r .answer) (numberOf (startOf (now (sheet .entry)) .answer)) (taskOf (startOf (now (sheet .entry)) .answer)) ⌝ }
 {
     let reading = read(sheet);
     let answer = reading.answer;

@@ -5,6 +5,8 @@ use borrow.Author.Tests.{not-true, not-false}
 use denote.Ref.{now}
 use Rattle.sheet.specs.declared.answer.Answer.{Answer}
 use Rattle.sheet.specs.Format.{countOf}
+use Rattle.sheet.proofs.Said.{with-said}
+use Rattle.reader.specs.declared.Reading.{Reading}
 use Rattle.reader.specs.Reading.{headerLawful, readingOf, readOf}
 use Rattle.reader.proofs.Readings.{reading-refused, answer-header, answer-places, answer-records, header-count}
 use borrow.Author.Needs.{needs}
@@ -22,7 +24,8 @@ unfolding readOf
 returns c =
     let s = now (c .before .before .before .before .args .sheet) in
     let lawful = sym (c .before .before .header-lawful .ensures) ∙ not-true _ (c .before .if1 .taken) in
-    reading-refused s _ _ _ refl (answer-header s _ refl lawful) (c .zero-task-set .ensures)
+    with-said (λ (r : Reading). r .answer)
+    (reading-refused s _ _ _ refl (answer-header s _ refl lawful) (c .zero-task-set .ensures))
 
 byte-at-requires : tie.Need-byte-at-requires
 byte-at-requires c κs = search needs
@@ -54,9 +57,10 @@ returns-2 c =
     let at = c .before .before .before .before in
     let places = c .before .before .before .places-answer in
     let refused = c .before .enum-told .given .1 in
-    reading-refused s _ _ _ refused
+    with-said (λ (r : Reading). r .answer)
+    (reading-refused s _ _ _ refused
     (answer-places s (at .byte-at .result) (count-read at) (places .result) (header-kept (at .before)) (places .ensures) refused)
-    (c .zero-task-set2 .ensures)
+    (c .zero-task-set2 .ensures))
 
 enum-told-2 : tie.Need-enum-told-2
 enum-told-2 c = search needs
@@ -74,9 +78,10 @@ returns-3 c =
     let s = now (c .before .before .before .before .before .before .before .before .args .sheet) in
     let at = c .before .before .before .before in
     let places = c .before .before .before .places-answer in
-    c .read-tasks .ensures
+    with-said (λ (r : Reading). r .answer)
+    (c .read-tasks .ensures
     ∙ ap (λ (a : Answer). readingOf a s)
-    (sym (answer-records s (at .byte-at .result) (count-read at) (places .result) (header-kept (at .before)) (places .ensures) (c .before .enum-told2 .given .1)))
+    (sym (answer-records s (at .byte-at .result) (count-read at) (places .result) (header-kept (at .before)) (places .ensures) (c .before .enum-told2 .given .1))))
 
 pub read-spec : {M : Type 1} → statement M
 read-spec =

@@ -3,11 +3,13 @@
 use mathlib.Core.Path.{_≡_, sym, ap, _∙_, subst⁻¹}
 use denote.Ref.{now}
 use Rattle.sheet.specs.declared.answer.Answer.the-variants.{Accepted}
+use Rattle.sheet.proofs.Said.{with-said}
 use Rattle.reader.specs.Reading.{readOf}
 use Rattle.sheet.specs.declared.task.TaskSet.{TaskSet}
 use Rattle.planner.specs.declared.choice.Chosen.{Chosen}
 use Rattle.planner.specs.Plan.{chosenFor, choiceAnswer, choiceOf, sharesOf, sixteen}
 use Rattle.planner.specs.Lawful.{LawfulSet}
+use Rattle.start.specs.declared.Started.{Started}
 use Rattle.start.specs.Start.{freshState, startAnswer}
 use Rattle.planner.proofs.Accepted.{accepted-lawful}
 use Rattle.reader.specs.declared.Reading.{Reading}
@@ -31,18 +33,19 @@ zero-state-requires c κs = search needs
 returns : tie.Need-returns
 returns c =
     let s = now (c .before .before .before .before .before .args .sheet) in
-    let reading = c .before .before .before .read .ensures in
+    let reading = c .before .before .before .read .ensures .0 in
     let refused = c .before .enum-told2 .given .1 in
-    start-refused s _ _ refused
+    with-said (λ (r : Started). r .answer)
+    (start-refused s _ _ refused
     (start-read s (sym (ap (λ (r : Reading). r .answer) reading) ∙ refused) ∙ sym refused)
-    (c .zero-state .ensures)
+    (c .zero-state .ensures))
 
 -- Past the reader's answer the sheet is accepted, and its task set keeps every rule.
 reading-accepted : (c : tie.After-enum-told) → readOf (now (c .before .before .before .before .args .sheet)) .answer ≡ Accepted
-reading-accepted c = sym (ap (λ (r : Reading). r .answer) (c .before .before .read .ensures)) ∙ c .enum-told .given .1
+reading-accepted c = sym (ap (λ (r : Reading). r .answer) (c .before .before .read .ensures .0)) ∙ c .enum-told .given .1
 
 reading-set : (c : tie.After-enum-told) → c .before .before .read .result .set ≡ readOf (now (c .before .before .before .before .args .sheet)) .set
-reading-set c = ap (λ (r : Reading). r .set) (c .before .before .read .ensures)
+reading-set c = ap (λ (r : Reading). r .set) (c .before .before .read .ensures .0)
 
 reading-lawful : (c : tie.After-enum-told) → LawfulSet (c .before .before .read .result .set)
 reading-lawful c =
@@ -52,11 +55,11 @@ reading-lawful c =
 -- What the planner answers, and the shares that it gives.
 choice-answer : (c : tie.After-choose) → c .choose .result .answer ≡ choiceAnswer (c .before .before .before .before .read .result .set)
 unfolding choiceOf
-choice-answer c = ap (λ (r : Chosen). r .answer) (c .choose .ensures)
+choice-answer c = ap (λ (r : Chosen). r .answer) (c .choose .ensures .0)
 
 choice-shares : (c : tie.After-choose) → c .choose .result .shares ≡ sixteen (sharesOf (chosenFor (c .before .before .before .before .read .result .set)))
 unfolding choiceOf
-choice-shares c = ap (λ (r : Chosen). r .shares) (c .choose .ensures)
+choice-shares c = ap (λ (r : Chosen). r .shares) (c .choose .ensures .0)
 
 start-choice-is : (c : tie.After-choose) → startAnswer (now (c .before .before .before .before .before .before .args .sheet)) ≡ c .choose .result .answer
 start-choice-is c =
@@ -75,7 +78,8 @@ zero-state-requires-2 c κs = search needs
 
 returns-2 : tie.Need-returns-2
 returns-2 c =
-    start-refused _ _ _ (c .before .enum-told3 .given .1) (start-choice-is (c .before .before .before)) (c .zero-state2 .ensures)
+    with-said (λ (r : Started). r .answer)
+    (start-refused _ _ _ (c .before .enum-told3 .given .1) (start-choice-is (c .before .before .before)) (c .zero-state2 .ensures))
 
 enum-told-4 : tie.Need-enum-told-4
 enum-told-4 c = search needs
@@ -91,11 +95,12 @@ returns-3 c =
     let at = c .before .before .before .before in
     let tasks = at .before .before .before .before .read .result .set in
     let accepted = c .before .before .enum-told4 .given .1 in
-    start-accepted _ _ (start-choice-is at ∙ accepted)
+    with-said (λ (r : Started). r .answer)
+    (start-accepted _ _ (start-choice-is at ∙ accepted)
     (c .fresh-state .ensures
     ∙ ap (freshState tasks) (choice-shares at)
     ∙ fresh-same tasks (reading-lawful (at .before .before)) (sym (choice-answer at) ∙ accepted)
-    ∙ ap (λ (t : TaskSet). freshState t (sharesOf (chosenFor t))) (reading-set (at .before .before)))
+    ∙ ap (λ (t : TaskSet). freshState t (sharesOf (chosenFor t))) (reading-set (at .before .before))))
 
 pub start-spec : {M : Type 1} → statement M
 start-spec =

@@ -5,6 +5,8 @@ use mathlib.Core.Path.{_≡_, sym, ap, _∙_}
 use borrow.Author.Tests.{not-true, not-false}
 use denote.Ref.{now}
 use lib.ListN.{length, replicate}
+use Rattle.sheet.proofs.Said.{said}
+use Rattle.dispatcher.specs.declared.board.Boarded.{Boarded}
 use Rattle.dispatcher.specs.Sound.{isSound}
 use Rattle.dispatcher.specs.Board.{unused, idle}
 use Rattle.dispatcher.proofs.Boards.{answer-unsound, answer-length, answer-accepted, boarded-by, buffer-kept, buffer-written}
@@ -20,7 +22,8 @@ returns c =
     let s = c .before .before .before .args .state in
     let buffer = now (c .before .before .before .args .buffer) in
     let answer = answer-unsound s (length buffer) (sym (c .before .is-sound .ensures) ∙ not-true _ (c .if1 .taken)) in
-    (boarded-by s (length buffer) answer, buffer-kept s buffer answer)
+    let answered = boarded-by s (length buffer) answer in
+    (answered, (said (ap (λ (r : Boarded). r .answer) answered), buffer-kept s buffer answer))
 
 -- Past the first test the state is sound, and past the second the buffer has 2M bytes.
 sound : (c : tie.Else1) → isSound (c .before .before .before .args .state) ≡ true
@@ -37,7 +40,8 @@ returns-2 c =
     let s = c .before .before .before .before .before .args .state in
     let buffer = now (c .before .before .before .before .before .args .buffer) in
     let answer = answer-length s (length buffer) (sound (c .before .before)) (c .if2 .taken) in
-    (boarded-by s (length buffer) answer, buffer-kept s buffer answer)
+    let answered = boarded-by s (length buffer) answer in
+    (answered, (said (ap (λ (r : Boarded). r .answer) answered), buffer-kept s buffer answer))
 
 pairs : (c : tie.Else2) → length (now (c .before .before .before .before .before .args .buffer)) ≡ 2 * c .before .before .before .before .before .args .state .processors
 pairs c = c .if2 .left
@@ -60,7 +64,8 @@ returns-3 c =
     let s = at .before .before .before .before .before .args .state in
     let buffer = now (at .before .before .before .before .before .args .buffer) in
     let answer = answer-accepted s (length buffer) (sound (at .before .before)) (pairs at) in
-    (boarded-by s (length buffer) answer, c .before .before .put-tasks .ensures ∙ buffer-written s buffer answer)
+    let answered = boarded-by s (length buffer) answer in
+    (answered, (said (ap (λ (r : Boarded). r .answer) answered), c .before .before .put-tasks .ensures ∙ buffer-written s buffer answer))
 
 pub board-spec : {M : Type 1} → statement M
 board-spec =

@@ -6,7 +6,9 @@ use native.Mathlib.Omega.{arith}
 use borrow.Author.Tests.{not-true, not-false}
 use lib.ListN.{length, length-map, set}
 use Rattle.sheet.specs.declared.answer.Answer.the-variants.{Accepted}
+use Rattle.sheet.proofs.Said.{with-said}
 use Rattle.entries.specs.declared.state.TaskState.{TaskState}
+use Rattle.dispatcher.specs.declared.release.Released.{Released}
 use Rattle.dispatcher.specs.Sound.{isSound}
 use Rattle.dispatcher.proofs.Soundness.{few-entries}
 use Rattle.dispatcher.proofs.Releases.{accepted-known, release-unsound, release-refused, release-accepted}
@@ -20,7 +22,8 @@ is-sound-requires c κs = search needs
 returns : tie.Need-returns
 returns c =
     let args = c .before .before .args in
-    release-unsound (args .state) (args .task) (sym (c .before .is-sound .ensures) ∙ not-true _ (c .if1 .taken))
+    with-said (λ (r : Released). r .answer)
+    (release-unsound (args .state) (args .task) (sym (c .before .is-sound .ensures) ∙ not-true _ (c .if1 .taken)))
 
 -- Past the first test the state is sound.
 sound : (c : tie.Else1) → isSound (c .before .before .args .state) ≡ true
@@ -42,7 +45,8 @@ enum-told c = search needs
 returns-2 : tie.Need-returns-2
 returns-2 c =
     let args = c .before .before .before .before .before .args in
-    release-refused (args .state) (args .task) _ (sound (c .before .before .before)) (c .before .before .release-answer .ensures) (c .enum-told .given .1)
+    with-said (λ (r : Released). r .answer)
+    (release-refused (args .state) (args .task) _ (sound (c .before .before .before)) (c .before .before .release-answer .ensures) (c .enum-told .given .1))
 
 enum-told-2 : tie.Need-enum-told-2
 enum-told-2 c = search needs
@@ -78,8 +82,9 @@ returns-3 c =
     let told = c .before .before in
     let at = told .before .before .before in
     let args = at .before .before .args in
-    ap (λ (e : TaskState). record { state = record { processors = args .state .processors; count = args .state .count; critical = args .state .critical; entries = set (args .state .entries) (args .task) e }; answer = Accepted }) (c .released .ensures)
-    ∙ release-accepted (args .state) (args .task) (long at) (sound at) (sym (told .before .before .release-answer .ensures) ∙ told .enum-told2 .given .1)
+    with-said (λ (r : Released). r .answer)
+    (ap (λ (e : TaskState). record { state = record { processors = args .state .processors; count = args .state .count; critical = args .state .critical; entries = set (args .state .entries) (args .task) e }; answer = Accepted }) (c .released .ensures)
+    ∙ release-accepted (args .state) (args .task) (long at) (sound at) (sym (told .before .before .release-answer .ensures) ∙ told .enum-told2 .given .1))
 
 pub release-spec : {M : Type 1} → statement M
 release-spec =

@@ -21,7 +21,7 @@ use Rattle.entries.proofs.Soundness.{few-nodes}
 use Rattle.dispatcher.proofs.Soundness.{ranges-broken, count-within}
 use Rattle.dispatcher.proofs.Entries.{noEntry, entryAt, Passed}
 use Rattle.dispatcher.proofs.Rows.{written-at}
-use Rattle.dispatcher.proofs.Ticks.{tickedBelow, ticked-below, late-after, Scanned, scanned-none, scanned-count, scanned-broken, scanned-more, tick-unsound, tick-miscounted, scanned-unfit, scanned-wrong, scanned-ran, scanned-switched}
+use Rattle.dispatcher.proofs.Ticks.{tickedBelow, ticked-below, late-after, Scanned, scanned-none, scanned-count, scanned-broken, scanned-more, tick-unsound, tick-miscounted, scanned-unfit, scanned-wrong, scanned-ran, scanned-switched, tick-said}
 use Rattle.dispatcher.proofs.tick.tick.Statement.{statement}
 use Rattle.dispatcher.proofs.tick.tick.Tie as tie
 
@@ -49,9 +49,10 @@ returns : tie.Need-returns Inv-loop μ-loop
 returns c =
     let start = c .before .before .before .before in
     let s = start .args .state in
-    c .refused .ensures
+    tick-said
+    (c .refused .ensures
     ∙ ap (λ (n : ℕ). record { state = s; answer = Refused n 255 }) (c .before .miscounted .ensures)
-    ∙ tick-miscounted s (now (start .args .reports)) (sixteen start) (c .before .before .if1 .taken)
+    ∙ tick-miscounted s (now (start .args .reports)) (sixteen start) (c .before .before .if1 .taken))
 
 ranges-kept-requires : tie.Need-ranges-kept-requires Inv-loop μ-loop
 ranges-kept-requires c κs = search needs
@@ -62,8 +63,9 @@ refused-requires-2 c κs = search needs
 returns-2 : tie.Need-returns-2 Inv-loop μ-loop
 returns-2 c =
     let args = c .before .before .before .before .before .args in
-    c .refused2 .ensures
-    ∙ tick-unsound (args .state) (now (args .reports)) (ranges-broken (args .state) (sym (c .before .before .ranges-kept .ensures) ∙ not-true _ (c .before .if2 .taken)))
+    tick-said
+    (c .refused2 .ensures
+    ∙ tick-unsound (args .state) (now (args .reports)) (ranges-broken (args .state) (sym (c .before .before .ranges-kept .ensures) ∙ not-true _ (c .before .if2 .taken))))
 
 -- Past the first two tests: M and n are in range, there is an entry and a report for each task.
 ranges : (c : tie.Else2 Inv-loop μ-loop)
@@ -120,10 +122,11 @@ returns-3 c =
     let loop = turn .before .before .loop in
     let at = turn .before .before .before .before in
     let args = at .before .before .before .before .args in
-    c .refused3 .ensures
+    tick-said
+    (c .refused3 .ensures
     ∙ tick-unsound (args .state) (now (args .reports))
     (scanned-broken (args .state) (now (args .reports)) (long at) (loop .i) _ _ _ _ _ (loop .inv .1) (ranges at) (omega arith)
-    (ap entrySound (sym (untouched turn)) ∙ sym (c .before .before .entry-sound .ensures) ∙ not-true _ (c .before .if3 .taken)))
+    (ap entrySound (sym (untouched turn)) ∙ sym (c .before .before .entry-sound .ensures) ∙ not-true _ (c .before .if3 .taken))))
 
 -- Past the third test the entry is sound.
 sound : (c : tie.Else3 Inv-loop μ-loop)
@@ -227,9 +230,10 @@ returns-4 c =
     let loop = c .before .before .before .before .loop in
     let at = c .before .before .before .before .before .before in
     let args = at .before .before .before .before .args in
-    c .refused4 .ensures
+    tick-said
+    (c .refused4 .ensures
     ∙ scanned-unfit (args .state) (now (args .reports)) (long at) (same at) (loop .i) _ _ _ _ _ (loop .inv .1) (c .before .before .before .loop-test .left) (ranges at)
-    (sym (c .before .before .shares-fit .ensures) ∙ not-true _ (c .before .if4 .taken))
+    (sym (c .before .before .shares-fit .ensures) ∙ not-true _ (c .before .if4 .taken)))
 
 -- Past the fourth test the shares fit.
 fit : (c : tie.Else4 Inv-loop μ-loop)
@@ -247,9 +251,10 @@ returns-5 c =
     let loop = fits .before .before .before .loop in
     let at = fits .before .before .before .before .before in
     let args = at .before .before .before .before .args in
-    c .refused5 .ensures
+    tick-said
+    (c .refused5 .ensures
     ∙ scanned-wrong (args .state) (now (args .reports)) (long at) (same at) (loop .i) _ _ _ _ _ (loop .inv .1) (fits .before .before .loop-test .left) (ranges at) (fit fits)
-    (c .before .if5 .taken)
+    (c .before .if5 .taken))
 
 returns-6 : tie.Need-returns-6 Inv-loop μ-loop
 returns-6 c =
@@ -257,9 +262,10 @@ returns-6 c =
     let loop = fits .before .before .before .loop in
     let at = fits .before .before .before .before .before in
     let args = at .before .before .before .before .args in
-    scanned-ran (args .state) (now (args .reports)) (long at) (same at) (loop .i) _ _ _ _ _ (loop .inv .1) (fits .before .before .loop-test .left) (ranges at) (fit fits)
+    tick-said
+    (scanned-ran (args .state) (now (args .reports)) (long at) (same at) (loop .i) _ _ _ _ _ (loop .inv .1) (fits .before .before .loop-test .left) (ranges at) (fit fits)
     (c .before .before .before .if5 .left)
-    (c .if6 .taken)
+    (c .if6 .taken))
 
 switched-all-requires : tie.Need-switched-all-requires Inv-loop μ-loop
 switched-all-requires c κs =
@@ -274,11 +280,12 @@ returns-7 c =
     let loop = fits .before .before .before .loop in
     let at = fits .before .before .before .before .before in
     let args = at .before .before .before .before .args in
-    scanned-switched (args .state) (now (args .reports)) (long at) (same at) (loop .i) _ _ _ _ _ (loop .inv .1) (fits .before .before .loop-test .left) (ranges at) (fit fits)
+    tick-said
+    (scanned-switched (args .state) (now (args .reports)) (long at) (same at) (loop .i) _ _ _ _ _ (loop .inv .1) (fits .before .before .loop-test .left) (ranges at) (fit fits)
     (c .switched-all .result)
     (c .before .before .before .before .if5 .left)
     (c .before .if6 .left)
-    (c .switched-all .ensures)
+    (c .switched-all .ensures))
 
 pub tick-spec : {M : Type 1} → statement M
 tick-spec =

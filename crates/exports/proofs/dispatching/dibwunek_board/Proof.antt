@@ -29,7 +29,7 @@ returns c =
     let decoded = c .before .before .before .before .before .state-from .ensures in (
       c .answer-word .ensures
           ∙ ap (λ (b : Boarded). answerWord (b .answer)) (board .0 ∙ ap (λ (s : State). boardedOf s (length buffer)) decoded),
-      board .1 ∙ ap (λ (s : State). boardOf s buffer) decoded,
+      board .1 .1 ∙ ap (λ (s : State). boardOf s buffer) decoded,
     )
 
 pub dibwunek-board-spec : {M : Type 1} → statement M

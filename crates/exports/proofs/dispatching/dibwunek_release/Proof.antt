@@ -28,7 +28,7 @@ same-length c = search needs
 returns : tie.Need-returns
 returns c =
     let args = c .before .before .before .before .before .before .before .before .before .before .args in
-    let released = c .before .before .before .before .before .before .release .ensures ∙ ap (λ (s : State). releaseOf s (args .task)) (c .before .before .before .before .before .before .before .state-from .ensures) in (
+    let released = c .before .before .before .before .before .before .release .ensures .0 ∙ ap (λ (s : State). releaseOf s (args .task)) (c .before .before .before .before .before .before .before .state-from .ensures) in (
       c .answer-word .ensures ∙ ap (λ (r : Released). answerWord (r .answer)) released,
       c .before .before .before .write-state .ensures ∙ ap (λ (r : Released). stored (r .state) (now (args .out))) released,
     )

@@ -23,7 +23,7 @@ same-length c = search needs
 returns : tie.Need-returns
 returns c =
     let args = c .before .before .before .before .before .before .before .before .before .args in
-    let started = c .before .before .before .before .before .before .start .ensures in (
+    let started = c .before .before .before .before .before .before .start .ensures .0 in (
       c .answer-word .ensures ∙ ap (λ (r : Started). answerWord (r .answer)) started,
       c .before .before .before .write-state .ensures ∙ ap (λ (r : Started). stored (r .state) (now (args .out))) started,
     )

@@ -28,7 +28,7 @@ same-length c = search needs
 returns : tie.Need-returns
 returns c =
     let args = c .before .before .before .before .before .before .before .before .before .before .before .args in
-    let ticked = c .before .before .before .before .before .before .tick .ensures ∙ ap (λ (s : State). tickOf s (now (args .reports))) (c .before .before .before .before .before .before .before .state-from .ensures) in (
+    let ticked = c .before .before .before .before .before .before .tick .ensures .0 ∙ ap (λ (s : State). tickOf s (now (args .reports))) (c .before .before .before .before .before .before .before .state-from .ensures) in (
       c .tick-word .ensures ∙ ap (λ (r : Ticked). tickWord (r .answer)) ticked,
       c .before .before .before .write-state .ensures ∙ ap (λ (r : Ticked). stored (r .state) (now (args .out))) ticked,
     )

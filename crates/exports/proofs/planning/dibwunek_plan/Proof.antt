@@ -15,7 +15,7 @@ same-length : tie.Need-same-length
 same-length c = search needs
 
 returns : tie.Need-returns
-returns c = let plan = c .before .before .before .plan .ensures in (c .answer-word .ensures ∙ ap answerWord (plan .0), plan .1)
+returns c = let plan = c .before .before .before .plan .ensures in (c .answer-word .ensures ∙ ap answerWord (plan .0), plan .1 .1)
 
 pub dibwunek-plan-spec : {M : Type 1} → statement M
 dibwunek-plan-spec = tie.close (tie.spec plan-requires answer-word-requires same-length returns)

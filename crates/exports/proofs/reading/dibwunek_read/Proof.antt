@@ -13,7 +13,7 @@ answer-word-requires : tie.Need-answer-word-requires
 answer-word-requires c κs = search needs
 
 returns : tie.Need-returns
-returns c = c .answer-word .ensures ∙ ap (λ (r : Reading). answerWord (r .answer)) (c .before .read .ensures)
+returns c = c .answer-word .ensures ∙ ap (λ (r : Reading). answerWord (r .answer)) (c .before .read .ensures .0)
 
 pub dibwunek-read-spec : {M : Type 1} → statement M
 dibwunek-read-spec = tie.close (tie.spec read-requires answer-word-requires returns)

@@ -13,7 +13,7 @@ field-of-requires : tie.Need-field-of-requires
 field-of-requires c κs = search needs
 
 returns : tie.Need-returns
-returns c = let args = c .before .before .before .before .args in c .field-of .ensures ∙ ap (λ (r : Reading). fieldOf (r .set) (args .task) (args .field)) (c .before .before .read .ensures)
+returns c = let args = c .before .before .before .before .args in c .field-of .ensures ∙ ap (λ (r : Reading). fieldOf (r .set) (args .task) (args .field)) (c .before .before .read .ensures .0)
 
 pub dibwunek-read-field-spec : {M : Type 1} → statement M
 dibwunek-read-field-spec = tie.close (tie.spec read-requires field-of-requires returns)

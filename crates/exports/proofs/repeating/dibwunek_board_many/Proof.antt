@@ -59,7 +59,7 @@ loop-again c =
       board .kept .1 .0 ∙ loop .inv .1,
       last-next (loop .i) _ _ (c .answer-word .ensures ∙ ap (λ (r : Boarded). answerWord (r .answer)) boarded),
       boards-next (loop .i) (stateFrom (now (args .state))) (now (args .buffer)) (loop .buffer) _ (loop .inv .3)
-          (board .ensures .1 ∙ ap (λ (s : State). boardOf s (loop .buffer)) decoded),
+          (board .ensures .1 .1 ∙ ap (λ (s : State). boardOf s (loop .buffer)) decoded),
     )
 
 same-length : tie.Need-same-length Inv-loop μ-loop

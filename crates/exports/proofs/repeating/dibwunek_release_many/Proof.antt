@@ -44,7 +44,7 @@ loop-again : tie.Need-loop-again Inv-loop μ-loop
 loop-again c =
     let args = c .before .before .before .before .before .before .args in
     let loop = c .before .before .before .loop in
-    let released = c .before .release .ensures ∙ ap (λ (s : State). releaseOf s (args .task)) (c .before .before .before .before .state-from .ensures) in
+    let released = c .before .release .ensures .0 ∙ ap (λ (s : State). releaseOf s (args .task)) (c .before .before .before .before .state-from .ensures) in
     (omega arith, last-next (loop .i) _ _ (c .answer-word .ensures ∙ ap (λ (r : Released). answerWord (r .answer)) released))
 
 returns : tie.Need-returns Inv-loop μ-loop

@@ -46,7 +46,7 @@ loop-again c =
     let args = c .before .before .before .before .before .before .before .before .args in
     let loop = c .before .before .before .before .loop in (
       omega arith,
-      ticks-next (args .count) (loop .i) (loop .word) (loop .s) (now (args .reports)) (omega arith) _ _ (c .before .tick-word .ensures) (c .before .before .tick .ensures)
+      ticks-next (args .count) (loop .i) (loop .word) (loop .s) (now (args .reports)) (omega arith) _ _ (c .before .tick-word .ensures) (c .before .before .tick .ensures .0)
           ∙ loop .inv .1,
     )
 

@@ -40,7 +40,7 @@ size : (c : tie.After-has-room) →
 size c =
     let start = c .before .before .before .before .before .before .before .before in
     replay-size (now (start .args .sheet)) (now (start .args .calls)) (c .before .before .calls-run .result) (c .before .before .before .before .start .result)
-    (c .before .before .before .before .start .ensures) (c .before .before .calls-run .ensures)
+    (c .before .before .before .before .start .ensures .0) (c .before .before .calls-run .ensures)
 
 -- Past the test there is room.
 room : (c : tie.Else1) →
@@ -62,7 +62,7 @@ put-turns-requires : tie.Need-put-turns-requires
 put-turns-requires c κs =
     let args = c .before .before .before .before .before .before .before .before .before .before .before .before .before .before .args in
     let fits = room (c .before .before .before .before .before) in
-    replay-ready (now (args .sheet)) (now (args .calls)) (c .before .before .before .before .before .before .before .before .calls-run .result) (c .before .before .before .before .before .before .before .before .before .before .start .result) (c .before .before .before .before .before .before .before .before .before .before .start .ensures) (c .before .before .before .before .before .before .before .before .calls-run .ensures)
+    replay-ready (now (args .sheet)) (now (args .calls)) (c .before .before .before .before .before .before .before .before .calls-run .result) (c .before .before .before .before .before .before .before .before .before .before .start .result) (c .before .before .before .before .before .before .before .before .before .before .start .ensures .0) (c .before .before .before .before .before .before .before .before .calls-run .ensures)
     (length (c .before .before .before .put-answer .last .0)) (rw (c .before .before .before .put-answer .kept .0) fits)
 
 mul-t10 : tie.Need-mul-t10
@@ -84,7 +84,7 @@ returns-2 c =
       ap Written (size (c .before .before .before .before .before .before .before .before .before)) ∙ done .0,
       c .before .before .put-turns .ensures
           ∙ ap (λ (l : List ℕ). sets l 2 (recordsOf (started .result .state) (callsFrom (count .result) (now (args .calls)) 0))) (c .before .before .before .before .before .before .put-answer .ensures)
-          ∙ replay-put (now (args .sheet)) (now (args .calls)) (count .result) (started .result) (started .ensures) (count .ensures) out
+          ∙ replay-put (now (args .sheet)) (now (args .calls)) (count .result) (started .result) (started .ensures .0) (count .ensures) out
           ∙ done .1,
     )
 

@@ -24,13 +24,13 @@ returns : tie.Need-returns
 returns c =
     let args = c .before .before .before .before .before .args in
     let call = c .before .before .before .before .release in
-    c .done .ensures ∙ turn-released (args .state) (args .task) (call .result) _ (call .ensures) (c .before .enum-told .given .1)
+    c .done .ensures ∙ turn-released (args .state) (args .task) (call .result) _ (call .ensures .0) (c .before .enum-told .given .1)
 
 returns-2 : tie.Need-returns-2
 returns-2 c =
     let args = c .before .before .before .before .before .before .args in
     let call = c .before .before .before .before .before .release in
-    c .refused .ensures ∙ turn-released (args .state) (args .task) (call .result) _ (call .ensures) (c .before .before .answer .given .1)
+    c .refused .ensures ∙ turn-released (args .state) (args .task) (call .result) _ (call .ensures .0) (c .before .before .answer .given .1)
 
 pub by-release-spec : {M : Type 1} → statement M
 by-release-spec =

@@ -28,19 +28,19 @@ returns : tie.Need-returns
 returns c =
     let args = c .before .before .before .before .before .before .args in
     let call = c .before .before .before .before .tick in
-    c .done .ensures ∙ turn-ticked (args .state) (now (args .reports)) (call .result) _ (call .ensures) (c .before .enum-told .given .1)
+    c .done .ensures ∙ turn-ticked (args .state) (now (args .reports)) (call .result) _ (call .ensures .0) (c .before .enum-told .given .1)
 
 returns-2 : tie.Need-returns-2
 returns-2 c =
     let args = c .before .before .before .before .before .before .args in
     let call = c .before .before .before .before .tick in
-    turn-ticked (args .state) (now (args .reports)) (call .result) _ (call .ensures) (c .before .answer .given .1)
+    turn-ticked (args .state) (now (args .reports)) (call .result) _ (call .ensures .0) (c .before .answer .given .1)
 
 returns-3 : tie.Need-returns-3
 returns-3 c =
     let args = c .before .before .before .before .before .before .before .args in
     let call = c .before .before .before .before .before .tick in
-    c .refused .ensures ∙ turn-ticked (args .state) (now (args .reports)) (call .result) _ (call .ensures) (c .before .before .answer2 .given .1)
+    c .refused .ensures ∙ turn-ticked (args .state) (now (args .reports)) (call .result) _ (call .ensures .0) (c .before .before .answer2 .given .1)
 
 pub by-tick-spec : {M : Type 1} → statement M
 by-tick-spec =

@@ -58,7 +58,7 @@ returns-2 c =
     let call = c .before .before .before .before .before .before in
     let s = now (call .before .before .before .args .sheet) in
     subst (Holds (c .lines-at .result))
-    (ap (λ plan. linesAt plan (getD s 1 0)) (call .plan .ensures .1) ∙ text-accepted s (accepted (c .before .before .before)) _ refl)
+    (ap (λ plan. linesAt plan (getD s 1 0)) (call .plan .ensures .1 .1) ∙ text-accepted s (accepted (c .before .before .before)) _ refl)
     (c .lines-at .ensures)
 
 pub text-of-spec : {M : Type 1} → statement M

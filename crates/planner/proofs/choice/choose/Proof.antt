@@ -7,6 +7,8 @@ use native.Mathlib.Omega.{arith}
 use borrow.Author.Needs.{needs}
 use Rattle.sheet.specs.Answers.{refusedIf, firstOver}
 use Rattle.sheet.proofs.Faults.{over-next, over-stop, over-end, over-all}
+use Rattle.sheet.proofs.Said.{with-said}
+use Rattle.planner.specs.declared.choice.Chosen.{Chosen}
 use Rattle.planner.specs.Plan.{noShare}
 use Rattle.planner.specs.Selection.{rowAnswer}
 use Rattle.planner.proofs.Sets.{choice-refused, choice-selected}
@@ -46,8 +48,9 @@ returns c =
     let start = at .before .before in
     let set = start .args .set in
     let refused = ap (λ (t : Bool). refusedIf t noShare (at .loop .i)) (sym (c .before .offers-none .ensures) ∙ c .if1 .taken) in
-    choice-refused set (start .pre) _ (at .before .rows-of .ensures) noShare (at .loop .i)
-    (sym (at .loop .inv .1) ∙ over-stop (rowAnswer (set .processors) (at .before .rows-of .result)) (at .loop .i) (set .count) (omega arith) refused)
+    with-said (λ (r : Chosen). r .answer)
+    (choice-refused set (start .pre) _ (at .before .rows-of .ensures) noShare (at .loop .i)
+    (sym (at .loop .inv .1) ∙ over-stop (rowAnswer (set .processors) (at .before .rows-of .result)) (at .loop .i) (set .count) (omega arith) refused))
 
 add-i : tie.Need-add-i Inv-loop μ-loop
 add-i c = search needs
@@ -74,9 +77,10 @@ returns-2 c =
     let at = c .before .before in
     let start = at .before .before in
     let set = start .args .set in
-    choice-selected set (start .pre) _ (at .before .rows-of .ensures) (c .select .result)
+    with-said (λ (r : Chosen). r .answer)
+    (choice-selected set (start .pre) _ (at .before .rows-of .ensures) (c .select .result)
     (sym (at .loop .inv .1) ∙ over-end (rowAnswer (set .processors) (at .before .rows-of .result)) (at .loop .i) (set .count) (omega arith))
-    (c .select .ensures)
+    (c .select .ensures))
 
 pub choose-spec : {M : Type 1} → statement M
 choose-spec =
