@@ -11,10 +11,10 @@ use Rattle.reader.proofs.record.masks_at.Statement.{statement}
 use Rattle.reader.proofs.record.masks_at.Tie as tie
 
 abbrev Inv-loop : tie.InvT-loop
-Inv-loop s at nodes masks₀ k v₀ masks v = (v ≤ nodes) × (masks ≡ masksAt s at v)
+Inv-loop s at nodes masks₀ k v₀ masks v = (v ≤ k) × (masks ≡ masksAt s at v)
 
 abbrev μ-loop : tie.MeasureT-loop
-μ-loop s at nodes masks₀ k v₀ masks v = nodes - v
+μ-loop s at nodes masks₀ k v₀ masks v = k - v
 
 loop-holds : tie.Need-loop-holds Inv-loop μ-loop
 loop-holds c = (omega arith, masks-none _ _)
