@@ -30,7 +30,7 @@ rule-kept true number task e = refl
 rule-kept false number task e = absurd (let z : _≡_ {A = ℕ} 0 1 = cc in omega arith)
 
 -- A cause that lets all tasks pass lets each pass.
-over-accepted : (row : ℕ → Answer) (first count i : ℕ) → firstOver row first count ≡ Accepted → first ≤ i → i < first + count → row i ≡ Accepted
+pub over-accepted : (row : ℕ → Answer) (first count i : ℕ) → firstOver row first count ≡ Accepted → first ≤ i → i < first + count → row i ≡ Accepted
 unfolding firstOver
 over-accepted row first zero i e from to = absurd (omega arith)
 over-accepted row first (suc count) i e from to =

@@ -7,7 +7,7 @@ use mathlib.Core.List.{List, [], _∷_, map, List·Memᴰ, List·Memᴰ·head, L
 use mathlib.Core.Option.{none}
 use native.Mathlib.Numerals.{add-one}
 use native.Mathlib.Omega.{arith}
-use native.Mathlib.Decide.{decLe}
+use native.Mathlib.Decide.{decLe, decLt}
 use lib.Dec.{ltb}
 use lib.ListN.{length, getD, take, drop, replicate, drop-of-length-le}
 use lib.Seq.{drop-cons, length-take-le, getD-take}
@@ -90,19 +90,38 @@ over-same f g first zero same = refl
 over-same f g first (suc count) same =
     rw (same first (omega arith) (omega arith), over-same f g (suc first) count (λ i from to. same i (omega arith) (omega arith)))
 
--- A refusal over the tasks is one of a task.
-over-refused : (row : ℕ → Answer) (first count number task : ℕ) → firstOver row first count ≡ Refused number task →
-    (i : ℕ) × ((i < first + count) × (row i ≡ Refused number task))
+-- A refusal over the tasks is that of the first task that is refused.
+pub over-first : (row : ℕ → Answer) (first count number task : ℕ) → firstOver row first count ≡ Refused number task →
+    (i : ℕ) × ((i < first + count) × (row i ≡ Refused number task) × ((j : ℕ) → first ≤ j → j < i → row j ≡ Accepted))
 unfolding firstOver
-over-refused row first zero number task e = absurd (let z : _≡_ {A = ℕ} 0 1 = cc in omega arith)
-over-refused row first (suc count) number task e = go (row first) refl (over-refused row (suc first) count number task) e
+over-first row first zero number task e = absurd (let z : _≡_ {A = ℕ} 0 1 = cc in omega arith)
+over-first row first (suc count) number task e = go (row first) refl (over-first row (suc first) count number task) e
   where
+    earlier : (i : ℕ) → row first ≡ Accepted → ((j : ℕ) → suc first ≤ j → j < i → row j ≡ Accepted) → (j : ℕ) → first ≤ j → j < i →
+        Dec (first < j) → row j ≡ Accepted
+    earlier i q rest j from before (yes later) = rest j later before
+    earlier i q rest j from before (no not-later) = let same : j ≡ first = omega arith in ap row same ∙ q
+
     go : (a : Answer) → row first ≡ a →
-        (firstOver row (suc first) count ≡ Refused number task → (i : ℕ) × ((i < suc first + count) × (row i ≡ Refused number task))) →
+        (firstOver row (suc first) count ≡ Refused number task →
+        (i : ℕ) × ((i < suc first + count) × (row i ≡ Refused number task) × ((j : ℕ) → suc first ≤ j → j < i → row j ≡ Accepted))) →
         (a orElse firstOver row (suc first) count) ≡ Refused number task →
-        (i : ℕ) × ((i < first + suc count) × (row i ≡ Refused number task))
-    go Accepted q rest h = let found = rest h in let to = found .1 .0 in (found .0, (omega arith, found .1 .1))
-    go (Refused k j) q rest h = (first, (omega arith, q ∙ h))
+        (i : ℕ) × ((i < first + suc count) × (row i ≡ Refused number task) × ((j : ℕ) → first ≤ j → j < i → row j ≡ Accepted))
+    go Accepted q rest h =
+        let found = rest h in
+        let to = found .1 .0 in
+        (found .0, (omega arith, found .1 .1, λ j from before. earlier (found .0) q (found .1 .2) j from before (decLt first j)))
+    go (Refused k j) q rest h = (first, (omega arith, q ∙ h, λ j′ from before. absurd (omega arith)))
+
+-- Refusal 7 of a task says that it has no option, and has its number.
+pub share-refused : (set : TaskSet) (i number task : ℕ) → shareAnswer set i ≡ Refused number task →
+    (isEmpty (optionsOf (set .processors) (taskIn set i)) ≡ true) × (number ≡ noShare) × (task ≡ i)
+unfolding shareAnswer
+share-refused set i number task e = go (isEmpty (optionsOf (set .processors) (taskIn set i))) e
+  where
+    go : (t : Bool) → refusedIf t noShare i ≡ Refused number task → (t ≡ true) × (number ≡ noShare) × (task ≡ i)
+    go true h = (refl, cc, cc)
+    go false h = absurd (let z : _≡_ {A = ℕ} 0 1 = cc in omega arith)
 
 -- An option of each task, by the task's number.
 pub takes-at : {A : Type 0} (options : A → List Share) (tasks : List A) (choice : List Share) → Takes (map options tasks) choice →
@@ -191,24 +210,16 @@ module _ (set : TaskSet) (lawful : LawfulSet set) where
       subst (λ (t : Task). List·Memᴰ (getD choice i noProcessors) (optionsOf (set .processors) t)) (getD-take (set .count) (set .tasks) i missingTask inside)
       (takes-at (optionsOf (set .processors)) (tasksOf set) choice (fitting-takes choice m) i missingTask (omega arith))
 
-  no-option : (number task i : ℕ) → shareAnswer set i ≡ Refused number task → isEmpty (optionsOf (set .processors) (taskIn set i)) ≡ true
-  unfolding shareAnswer
-  no-option number task i e = go (isEmpty (optionsOf (set .processors) (taskIn set i))) e
-    where
-      go : (t : Bool) → refusedIf t noShare i ≡ Refused number task → t ≡ true
-      go true h = refl
-      go false h = absurd (let z : _≡_ {A = ℕ} 0 1 = cc in omega arith)
-
   -- Nothing is chosen where a task has no option.
   pub refused-none : (number task : ℕ) → firstOver (shareAnswer set) 0 (set .count) ≡ Refused number task → chosenFor set ≡ none
   unfolding chosenFor chosen
   refused-none number task e =
-      let found = over-refused (shareAnswer set) 0 (set .count) number task e in
+      let found = over-first (shareAnswer set) 0 (set .count) number task e in
       let inside = found .1 .0 in
       ap leastOf
       (none-empty (fitting (set .processors) (tasksOf set))
       (λ choice m.
-      empty-none _ _ (no-option number task (found .0) (found .1 .1)) (fitting-option choice m (found .0) (omega arith))))
+      empty-none _ _ (share-refused set (found .0) number task (found .1 .1) .0) (fitting-option choice m (found .0) (omega arith))))
       ∙ least-of-none
 
   -- The answers of `choose`, by the rows.

@@ -1,5 +1,5 @@
 -- The choice in plain words: an enumerated choice is a way and a way is one, task by task, so that the least choice that fits is
--- the best way that fits.
+-- the best way that fits; and the answer on a task set follows.
 use Prim.Native.Nat.{ℕ, suc, _<_}
 use mathlib.Core.Path.{_≡_, refl, sym}
 use mathlib.Core.Bool.{Bool, true, false, false≢true}
@@ -9,20 +9,25 @@ use native.Mathlib.Omega.{arith}
 use lib.Dec.{leb}
 use lib.ListN.{length, getD}
 use borrow.Author.Tests.{leb-true, le-leb}
+use Rattle.sheet.specs.declared.answer.Answer.{Answer}
+use Rattle.sheet.specs.declared.answer.Answer.the-variants.{Accepted, Refused}
 use Rattle.sheet.specs.declared.task.Task.{Task}
 use Rattle.sheet.specs.declared.task.TaskSet.{TaskSet}
-use Rattle.sheet.specs.Format.{missingTask}
+use Rattle.sheet.specs.Answers.{noTask, refusedIf, _orElse_, firstOver}
+use Rattle.sheet.specs.Format.{taskIn, missingTask}
 use Rattle.sheet.proofs.Logic.{left-true, right-true}
 use Rattle.shares.specs.declared.share.Share.{Share}
 use Rattle.shares.specs.Totals.{noProcessors, shareAt, typicalTotal}
-use Rattle.planner.specs.Enumeration.{isEmpty}
+use Rattle.planner.specs.Enumeration.{isEmpty, isNone}
 use Rattle.planner.specs.Choice.{optionsOf, choices, fits, rank, noLater, chosen}
 use Rattle.planner.specs.Way.{MayTake, TakesNothing, Way, FittingWay, BestWay}
-use Rattle.planner.specs.Plan.{tasksOf, chosenFor}
+use Rattle.planner.specs.Plan.{noShare, noFit, tasksOf, chosenFor, shareAnswer, choiceAnswer}
+use Rattle.planner.specs.Verdict.{CanTake, Verdict, no-share, no-fit, accepted}
+use Rattle.planner.proofs.Accepted.{over-accepted}
 use Rattle.planner.proofs.Members.{empty-none}
 use Rattle.planner.proofs.Optimal.{Takes, takes-choice, choice-takes}
 use Rattle.planner.proofs.Offers.{option-may, may-option}
-use Rattle.planner.proofs.Sets.{takes-at, takes-length}
+use Rattle.planner.proofs.Sets.{takes-at, takes-length, over-first, share-refused}
 use Rattle.planner.proofs.Laws.{chosen-choice, chosen-fits, chosen-first, chosen-before, chosen-none, none-chosen}
 
 -- Refusal 7 in plain words: a task has no option just where it may take nothing.
@@ -97,3 +102,40 @@ module _ (M : ℕ) where
 pub set-best : (set : TaskSet) → BestWay (set .processors) (tasksOf set) (chosenFor set)
 unfolding chosenFor
 set-best set = chosen-best (set .processors) (tasksOf set)
+
+-- The answer on a task set in plain words: the first task that may take nothing, or else whether a way fits.
+module _ (set : TaskSet) where
+  share-accepted : (i : ℕ) → shareAnswer set i ≡ Accepted → CanTake set i
+  unfolding shareAnswer
+  share-accepted i e =
+      no-option-plain (set .processors) (taskIn set i) .something (go (isEmpty (optionsOf (set .processors) (taskIn set i))) e)
+    where
+      go : (t : Bool) → refusedIf t noShare i ≡ Accepted → t ≡ false
+      go true h = absurd (let z : _≡_ {A = ℕ} 0 1 = cc in omega arith)
+      go false h = refl
+
+  pub choice-verdict : Verdict set (choiceAnswer set)
+  unfolding choiceAnswer
+  choice-verdict = by-share (firstOver (shareAnswer set) 0 (set .count)) refl
+    where
+      by-way : ((i : ℕ) → i < set .count → CanTake set i) → (o : Option (List Share)) → chosenFor set ≡ o →
+          Verdict set (refusedIf (isNone o) noFit noTask)
+      by-way can none e = no-fit can (set-best set .none-fits e)
+      by-way can (some best) e = accepted can best (set-best set .fits best e)
+
+      named : (i number task : ℕ) → number ≡ noShare → task ≡ i → Verdict set (Refused noShare i) → Verdict set (Refused number task)
+      named i number task same same′ v = rw (same, same′) v
+
+      by-share : (a : Answer) → firstOver (shareAnswer set) 0 (set .count) ≡ a →
+          Verdict set (a orElse refusedIf (isNone (chosenFor set)) noFit noTask)
+      by-share Accepted e =
+          by-way (λ i inside. share-accepted i (over-accepted (shareAnswer set) 0 (set .count) i e (omega arith) (omega arith)))
+          (chosenFor set) refl
+      by-share (Refused number task) e =
+          let found = over-first (shareAnswer set) 0 (set .count) number task e in
+          let inside = found .1 .0 in
+          let none-left = share-refused set (found .0) number task (found .1 .1) in
+          named (found .0) number task (none-left .1) (none-left .2)
+          (no-share (omega arith)
+          (λ can. no-option-plain (set .processors) (taskIn set (found .0)) .nothing (none-left .0) (can .0) (can .1))
+          (λ j before. share-accepted j (found .1 .2 j (omega arith) before)))
