@@ -20,7 +20,7 @@ use Rattle.shares.specs.declared.share.Share.{Share}
 use Rattle.shares.specs.Totals.{noProcessors, shareAt, typicalTotal}
 use Rattle.planner.specs.Enumeration.{isEmpty, isNone}
 use Rattle.planner.specs.Choice.{optionsOf, choices, fits, rank, noLater, chosen}
-use Rattle.planner.specs.Way.{MayTake, TakesNothing, Way, FittingWay, BestWay}
+use Rattle.planner.specs.Way.{MayTake, TakesNothing, FittingWay, BestWay}
 use Rattle.planner.specs.Plan.{noShare, noFit, tasksOf, chosenFor, shareAnswer, choiceAnswer}
 use Rattle.planner.specs.Verdict.{CanTake, Verdict, no-share, no-fit, accepted}
 use Rattle.planner.proofs.Accepted.{over-accepted}
