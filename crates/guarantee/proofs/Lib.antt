@@ -1,8 +1,11 @@
--- In reading order: a run on a sound state, the plan of an accepted sheet, its fresh state, the theorem; then Replay.
+-- In reading order: a run on a sound state, the plan of an accepted sheet, its fresh state, the theorem, and that what it asks can
+-- be met; then Replay.
 pub mod Together
 pub mod Planning
 pub mod Freshness
 pub mod Theorem
+pub mod Truths
+pub mod Witness
 pub mod Encodings
 pub mod Records
 pub mod Replays

@@ -25,7 +25,7 @@ use Rattle.guarantee.proofs.Planning.{planned}
 use Rattle.guarantee.proofs.Freshness.{fresh-model, fresh-sound}
 
 -- Start's answer is the one that it returns.
-answer-returned : (a : Answer) (fresh : State) → startedWith a fresh .answer ≡ a
+pub answer-returned : (a : Answer) (fresh : State) → startedWith a fresh .answer ≡ a
 answer-returned Accepted fresh = refl
 answer-returned (Refused number task) fresh = refl
 

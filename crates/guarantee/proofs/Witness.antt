@@ -1,0 +1,232 @@
+-- What demand 3 asks can be met. The sheet is read and planned by computation; the runs are run on the model that it gives, and
+-- their reports pass the test of true ones.
+use Prim.Native.Nat.{ℕ, zero, suc, _+_, _≤_, _<_}
+use mathlib.Core.Bool.{true, true≢false}
+use mathlib.Core.List.{List, [], _∷_}
+use mathlib.Core.Option.{Option, some}
+use mathlib.Core.Path.{_≡_, refl, sym, ap, ap₂, subst₂, _∙_}
+use native.Mathlib.Omega.{arith}
+use lib.Dec.{lit<, lit≤}
+use lib.ListN.{getD, take, drop, replicate}
+use Rattle.sheet.specs.declared.answer.Answer.the-variants.{Accepted}
+use Rattle.sheet.specs.declared.task.Task.{Task}
+use Rattle.sheet.specs.declared.task.TaskSet.{TaskSet}
+use Rattle.sheet.specs.Answers.{_orElse_, firstOver}
+use Rattle.sheet.specs.Format.{byteAt, u16At, u32At, processorsOf, countOf, offsetOf, lengthOf, startOf as placeOf, cellsFrom, levelAt, nodesAt, figuresAt, masksAt, taskAt, zeroTask, tasksBelow, taskSetOf, taskIn}
+use Rattle.sheet.specs.Rules.{levelLawful, shapeLawful, inRange, inOrder, lowLawful, figuresLawful, maskLawful, allBelow, masksLawful, isHeavy, taskAnswer}
+use Rattle.reader.specs.declared.Reading.{Reading}
+use Rattle.reader.specs.Reading.{headerLawful, headerAnswer, placeAnswer, endAnswer, shapeAnswer, recordAnswer, answerOf, readOf}
+use Rattle.shares.specs.declared.share.Share.{Share}
+use Rattle.shares.specs.Test.{excess, demand, passes, virtualDeadline}
+use Rattle.shares.specs.Low.{isLow, ceilDiv, lowShare, hasLowShare}
+use Rattle.shares.specs.Deadline.{virtualOf}
+use Rattle.nodes.specs.Sets.{has, range}
+use Rattle.nodes.proofs.Bits.{has-zero, has-lt}
+use Rattle.planner.specs.Choice.{lowOptions, pairsWithin, highOptions, optionsOf, fits, leastOf, fitting, chosen}
+use Rattle.planner.specs.Plan.{chosenFor, shareAnswer, choiceAnswer, sharesOf}
+use Rattle.model.specs.Budget.{sumBelow, Chain, alone, link, along}
+use Rattle.model.specs.Row.{highLevel, isHigh, isSubset, allEnded, predecessorsOf, precedes, isReady, ready, running, runningSet, releasedRow, joined, tickedRow, isLate, switchedRow}
+use Rattle.model.specs.Step.{Model, Call, release, step, rowAt, unknownTask, lowInCritical, tooEarly, wrongCount, notRunning, releaseRefusal, tickRefusal, released, ticked}
+use Rattle.model.specs.Run.{after, answers, isAccepted, ticksIn, releasesIn, isRunning}
+use Rattle.model.specs.Plan.{freshRow, fresh}
+use Rattle.model.specs.Claim.{begun, KeepsBudget, NominalJob, Ended, StaysTypical, Deadline, EndInTime, Nominal}
+use Rattle.start.specs.Start.{startAnswer, startOf}
+use Rattle.guarantee.specs.Guarantee.{tasksOf, sharesFor, modelFor, Guarantee}
+use Rattle.guarantee.specs.Witness.{twoTasks, highTask, longLengths, overrun, overrunAnswers, shortLengths, usual, InTimeAsked, NominalAsked, DeadlineMet, NominalMet}
+use Rattle.guarantee.proofs.Theorem.{answer-returned, guarantee}
+use Rattle.guarantee.proofs.Truths.{allTrue, true-reports, at-releases}
+
+-- The tasks that the sheet gives, their shares, and the fresh model of both.
+abbrev high : Task
+high =
+    record {
+      level = 1;
+      nodes = 4;
+      figures =
+          record { deadline = 8; nominal = record { work = 4; span = 2 }; overload = record { work = 9; span = 3 } };
+      predecessors = 0 ∷ 1 ∷ replicate 30 0;
+    }
+
+abbrev low : Task
+low =
+    record {
+      level = 0;
+      nodes = 2;
+      figures =
+          record { deadline = 3; nominal = record { work = 4; span = 1 }; overload = record { work = 4; span = 1 } };
+      predecessors = replicate 32 0;
+    }
+
+abbrev both : TaskSet
+both = record { processors = 3; count = 2; tasks = high ∷ low ∷ replicate 14 zeroTask }
+
+abbrev pairs : List Share
+pairs = record { typical = 1; critical = 2 } ∷ record { typical = 2; critical = 0 } ∷ []
+
+read-both : readOf twoTasks ≡ record { answer = Accepted; set = both }
+unfolding firstOver byteAt u16At u32At processorsOf countOf offsetOf lengthOf placeOf cellsFrom levelAt nodesAt figuresAt masksAt taskAt zeroTask tasksBelow taskSetOf levelLawful shapeLawful inRange inOrder lowLawful figuresLawful maskLawful allBelow masksLawful isHeavy taskAnswer headerLawful headerAnswer placeAnswer endAnswer shapeAnswer recordAnswer answerOf readOf
+read-both = refl
+
+read-set : tasksOf twoTasks ≡ both
+unfolding tasksOf
+read-set = ap (λ (r : Reading). r .set) read-both
+
+both-chosen : (choiceAnswer both ≡ Accepted) × (chosenFor both ≡ some pairs)
+unfolding choiceAnswer shareAnswer chosenFor taskIn firstOver range isLow ceilDiv lowShare hasLowShare excess demand passes lowOptions pairsWithin highOptions optionsOf fits leastOf fitting chosen
+both-chosen = (refl, refl)
+
+pub started : startOf twoTasks .answer ≡ Accepted
+unfolding startOf startAnswer
+started =
+    answer-returned (startAnswer twoTasks) _
+    ∙ ap (λ (r : Reading). r .answer orElse choiceAnswer (r .set)) read-both
+    ∙ both-chosen .0
+
+task-is : highTask ≡ high
+unfolding taskIn
+task-is = ap (λ (ts : TaskSet). taskIn ts 0) read-set
+
+-- The model before the runs, and after the Release that each begins with.
+abbrev start : Model
+start = fresh both pairs
+
+abbrev first : Model
+first = step start (release 0) .model
+
+model-is : modelFor twoTasks ≡ start
+unfolding modelFor sharesFor
+model-is =
+    ap (λ (ts : TaskSet). fresh ts (sharesOf (chosenFor ts))) read-set
+    ∙ ap (λ (c : Option (List Share)). fresh both (sharesOf c)) (both-chosen .1)
+
+-- The high task has one edge, from node 0 to node 1, so that a chain is a node alone or these two.
+no-mask : (n v : ℕ) → _≡_ {A = ℕ} (getD (replicate n 0) v 0) 0
+no-mask zero v = refl
+no-mask (suc n) zero = refl
+no-mask (suc n) (suc v) = no-mask n v
+
+one-edge : (u v : ℕ) → precedes (high .predecessors) u v ≡ true → (u ≡ 0) × (v ≡ 1)
+unfolding precedes predecessorsOf
+one-edge u zero e = absurd (true≢false (sym e ∙ has-zero u))
+one-edge u (suc zero) e = (omega (arith, has-lt 1 1 u (lit< tt) e), refl)
+one-edge u (suc (suc v)) e = absurd (true≢false (sym e ∙ ap (λ (n : ℕ). has n u) (no-mask 30 v) ∙ has-zero u))
+
+module _ (len : ℕ → ℕ) (span : ℕ) (each : (u : ℕ) → u < 4 → len u ≤ span) (chain : len 0 + len 1 ≤ span) where
+  chains-kept : (u : ℕ) (rest : List ℕ) → Chain 4 (precedes (high .predecessors)) u rest → along len u rest ≤ span
+  chains-kept u rest (alone l) = each u l
+  chains-kept u rest (link {v = v} l e (alone l′)) =
+      let ends = one-edge u v e in
+      let here : len u + len v ≡ len 0 + len 1 = ap₂ (λ (x y : ℕ). len x + len y) (ends .0) (ends .1) in
+      omega (arith, chain, here)
+  chains-kept u rest (link {v = v} l e (link {v = w} l′ e′ c)) = absurd (omega (arith, one-edge u v e .1, one-edge v w e′ .0))
+
+-- The lengths of the run that overruns: each is 1 to 3.
+long-each : (v : ℕ) → v < 4 → (1 ≤ longLengths v) × (longLengths v ≤ 3)
+long-each zero h = (lit≤ tt, lit≤ tt)
+long-each (suc zero) h = (lit≤ tt, lit≤ tt)
+long-each (suc (suc zero)) h = (lit≤ tt, lit≤ tt)
+long-each (suc (suc (suc zero))) h = (lit≤ tt, lit≤ tt)
+long-each (suc (suc (suc (suc v)))) h = absurd (omega arith)
+
+long-keeps : KeepsBudget high (high .figures .overload) longLengths
+unfolding KeepsBudget sumBelow
+long-keeps =
+    record {
+      positive = λ v h. long-each v h .0;
+      work = lit≤ tt;
+      span = chains-kept longLengths 3 (λ v h. long-each v h .1) (lit≤ tt);
+    }
+
+long-beyond : KeepsBudget high (high .figures .nominal) longLengths → ⊥
+unfolding KeepsBudget sumBelow
+long-beyond k = absurd (omega (arith, k .work))
+
+short-keeps : KeepsBudget high (high .figures .nominal) shortLengths
+unfolding KeepsBudget sumBelow
+short-keeps =
+    record {
+      positive = λ v h. lit≤ tt;
+      work = lit≤ tt;
+      span = chains-kept shortLengths 2 (λ v h. lit≤ tt) (lit≤ tt);
+    }
+
+-- The runs on the model.
+record Runs : Type 0 where
+  pub begins : isAccepted start (release 0) ≡ true
+  pub answered : answers start overrun ≡ overrunAnswers
+  pub long-true : allTrue 0 longLengths (λ _. 0) first (drop 1 overrun) ≡ true
+  pub last : releasesIn 0 first (drop 1 overrun) ≡ 0
+  pub ticks : ticksIn first (drop 1 overrun) ≡ 9
+  pub jobs : releasesIn 0 start usual ≡ 2
+  pub short-true : allTrue 0 shortLengths (λ _. 0) first (drop 1 usual) ≡ true
+  pub short-again : allTrue 0 shortLengths (λ _. 0) (after start (take 11 usual)) (drop 11 usual) ≡ true
+
+runs : Runs
+unfolding fresh freshRow virtualOf isLow virtualDeadline has range highLevel isHigh isSubset allEnded predecessorsOf isReady ready running runningSet releasedRow joined tickedRow isLate switchedRow step rowAt unknownTask lowInCritical tooEarly wrongCount notRunning releaseRefusal tickRefusal released ticked isAccepted isRunning
+runs =
+    record {
+      begins = refl;
+      answered = refl;
+      long-true = refl;
+      last = refl;
+      ticks = refl;
+      jobs = refl;
+      short-true = refl;
+      short-again = refl;
+    }
+
+overrun-asked : InTimeAsked start high 0 overrun longLengths
+unfolding begun highLevel
+overrun-asked =
+    record {
+      job = record { before = []; since = drop 1 overrun; list = refl; accepted = runs .begins };
+      high = refl;
+      keeps = long-keeps;
+      reports = true-reports 0 longLengths first (drop 1 overrun) (runs .long-true);
+      passed = record { last = runs .last; ticks = omega (arith, runs .ticks) };
+    }
+
+-- Of the three releases of the other run that of the low task asks nothing.
+usual-asked : NominalAsked both start usual
+unfolding NominalAsked taskIn highLevel
+usual-asked =
+    at-releases (λ i m since. taskIn both i .level ≡ highLevel → NominalJob (taskIn both i) i m since) start usual (
+      λ _ level. nominal first (drop 1 usual) (runs .short-true),
+      (λ _ level. absurd (omega arith), (λ _ level. nominal (after start (take 11 usual)) (drop 11 usual) (runs .short-again), tt)),
+    )
+  where
+    nominal : (m : Model) (since : List Call) → allTrue 0 shortLengths (λ _. 0) m since ≡ true → NominalJob high 0 m since
+    nominal m since h = record { lengths = shortLengths; keeps = short-keeps; reports = true-reports 0 shortLengths m since h }
+
+-- Both for the sheet.
+pub deadline-met : DeadlineMet
+deadline-met =
+    record {
+      started = started;
+      answered = ap (λ (m : Model). answers m overrun) model-is ∙ runs .answered;
+      beyond = rw task-is long-beyond;
+      asked =
+          subst₂ (λ (m : Model) (t : Task). InTimeAsked m t 0 overrun longLengths) (sym model-is) (sym task-is) overrun-asked;
+    }
+
+pub nominal-met : NominalMet
+unfolding highLevel
+nominal-met =
+    record {
+      started = started;
+      high = ap (λ (t : Task). t .level) task-is;
+      jobs = ap (λ (m : Model). releasesIn 0 m usual) model-is ∙ runs .jobs;
+      asked = subst₂ (λ (ts : TaskSet) (m : Model). NominalAsked ts m usual) (sym read-set) (sym model-is) usual-asked;
+    }
+
+-- S10.7 of the one run: its job has ended.
+pub job-ended : Ended highTask (rowAt (after (modelFor twoTasks) overrun) 0)
+unfolding Guarantee Deadline EndInTime modelFor
+job-ended =
+    let a = deadline-met .asked in
+    guarantee twoTasks started overrun .deadline 0 (a .job) longLengths (a .high) (a .keeps) (a .reports) (a .passed)
+
+-- S10.9 of the other: the mode stays typical.
+pub mode-typical : StaysTypical (modelFor twoTasks) usual
+unfolding Guarantee Nominal NominalAsked modelFor
+mode-typical = guarantee twoTasks started usual .nominal (nominal-met .asked)

@@ -1,0 +1,127 @@
+-- What the deadline (S10.7) and the nominal clause (S10.9) ask can be met: one sheet, and a run for each of the two clauses.
+use Prim.Native.Nat.{ℕ}
+use mathlib.Core.List.{List, [], _∷_, _++_}
+use mathlib.Core.Path.{_≡_}
+use lib.ListN.{getD}
+use Rattle.sheet.specs.declared.answer.Answer.the-variants.{Accepted}
+use Rattle.sheet.specs.declared.task.Task.{Task}
+use Rattle.sheet.specs.declared.task.TaskSet.{TaskSet}
+use Rattle.sheet.specs.Format.{taskIn}
+use Rattle.model.specs.Row.{highLevel}
+use Rattle.model.specs.Step.{Model, Call, release, tick, Answer, accepted, ran, switched, refused}
+use Rattle.model.specs.Run.{answers, releasesIn, TrueReports}
+use Rattle.model.specs.Claim.{ReleaseIn, begun, KeepsBudget, DeadlinePassed, NominalJob}
+use Rattle.start.specs.Start.{startOf}
+use Rattle.guarantee.specs.Guarantee.{tasksOf, modelFor}
+
+-- S2.6: task 0 is high, with D 8, CN 4, CO 9, LN 2, LO 3 and four nodes: node 1 waits for node 0, the others for none.
+-- Its shares are (1, 2), and its V is 4.
+abbrev pub highRecord : List ℕ
+highRecord =
+    1 ∷ 4 ∷ 8 ∷ 0 ∷ 4 ∷ 0 ∷ 9 ∷ 0 ∷ 2 ∷ 0 ∷ 3 ∷ 0 ∷ 0 ∷ 0 ∷ 0 ∷ 0 ∷ 1 ∷ 0 ∷ 0 ∷ 0 ∷ 0 ∷ 0 ∷ 0 ∷ 0 ∷ 0 ∷ 0 ∷ 0 ∷ 0 ∷ []
+
+-- S2.6: task 1 is low, with D 3, C 4, L 1 and two nodes that wait for none. Its share is 2.
+abbrev pub lowRecord : List ℕ
+lowRecord = 0 ∷ 2 ∷ 3 ∷ 0 ∷ 4 ∷ 0 ∷ 4 ∷ 0 ∷ 1 ∷ 0 ∷ 1 ∷ 0 ∷ 0 ∷ 0 ∷ 0 ∷ 0 ∷ 0 ∷ 0 ∷ 0 ∷ 0 ∷ []
+
+-- S2.1 to S2.4: the sheet of both on three processors, 58 bytes.
+abbrev pub twoTasks : List ℕ
+twoTasks = 3 ∷ 2 ∷ 10 ∷ 0 ∷ 28 ∷ 0 ∷ 38 ∷ 0 ∷ 20 ∷ 0 ∷ (highRecord ++ lowRecord)
+
+-- Task 0 of that sheet.
+abbrev pub highTask : Task
+highTask = taskIn (tasksOf twoTasks) 0
+
+-- S10.5: lengths of the high task's nodes that use up the overload budget: together 9, and 3 along the chain of nodes 0 and 1.
+abbrev pub longLengths : ℕ → ℕ
+longLengths v = getD (2 ∷ 1 ∷ 3 ∷ 3 ∷ []) v 1
+
+-- S10.1: a run with a high job of these lengths, beside a low job of which no tick reports a node. The fourth tick switches. Then
+-- a Release of the low task is refused, and a tick that reports node 0 again. The high job ends with the seventh accepted tick; the
+-- eighth is the D-th, and one more follows.
+abbrev pub overrun : List Call
+overrun =
+    release 0
+    ∷ release 1
+    ∷ tick (0 ∷ 0 ∷ [])
+    ∷ tick (1 ∷ 0 ∷ [])
+    ∷ tick (2 ∷ 0 ∷ [])
+    ∷ tick (0 ∷ 0 ∷ [])
+    ∷ release 1
+    ∷ tick (1 ∷ 0 ∷ [])
+    ∷ tick (0 ∷ 0 ∷ [])
+    ∷ tick (4 ∷ 0 ∷ [])
+    ∷ tick (8 ∷ 0 ∷ [])
+    ∷ tick (0 ∷ 0 ∷ [])
+    ∷ tick (0 ∷ 0 ∷ [])
+    ∷ []
+
+-- The answers of that run.
+abbrev pub overrunAnswers : List Answer
+overrunAnswers =
+    accepted
+    ∷ accepted
+    ∷ ran
+    ∷ ran
+    ∷ ran
+    ∷ switched 0
+    ∷ refused (record { number = 12; task = 1 })
+    ∷ refused (record { number = 15; task = 0 })
+    ∷ ran
+    ∷ ran
+    ∷ ran
+    ∷ ran
+    ∷ ran
+    ∷ []
+
+-- S10.9: lengths of the high task's nodes that use up the nominal budget: together 4, and 2 along the chain.
+abbrev pub shortLengths : ℕ → ℕ
+shortLengths v = 1
+
+-- S10.1: a run with two high jobs of these lengths, the second released D ticks after the first, beside a low job that overruns:
+-- no tick reports a node of it.
+abbrev pub usual : List Call
+usual =
+    release 0
+    ∷ release 1
+    ∷ tick (1 ∷ 0 ∷ [])
+    ∷ tick (2 ∷ 0 ∷ [])
+    ∷ tick (4 ∷ 0 ∷ [])
+    ∷ tick (8 ∷ 0 ∷ [])
+    ∷ tick (0 ∷ 0 ∷ [])
+    ∷ tick (0 ∷ 0 ∷ [])
+    ∷ tick (0 ∷ 0 ∷ [])
+    ∷ tick (0 ∷ 0 ∷ [])
+    ∷ release 0
+    ∷ tick (1 ∷ 0 ∷ [])
+    ∷ tick (2 ∷ 0 ∷ [])
+    ∷ []
+
+-- S10.7: what the deadline asks of a job of task i in a run.
+pub record InTimeAsked (start : Model) (t : Task) (i : ℕ) (calls : List Call) (lengths : ℕ → ℕ) : Type 0 where
+  pub job : ReleaseIn start i calls
+  pub high : t .level ≡ highLevel
+  pub keeps : KeepsBudget t (t .figures .overload) lengths
+  pub reports : TrueReports i lengths (begun job) (job .since)
+  pub passed : DeadlinePassed t i (begun job) (job .since)
+
+-- S10.9: what the nominal clause asks of a run: that each job of a high task keeps the nominal budget, with true reports.
+unfoldable pub NominalAsked : TaskSet → Model → List Call → Type 0
+NominalAsked ts start calls =
+    (i : ℕ) (job : ReleaseIn start i calls) →
+    taskIn ts i .level ≡ highLevel → NominalJob (taskIn ts i) i (begun job) (job .since)
+
+-- S10.7 is met by a job that overruns its nominal budget.
+pub record DeadlineMet : Type 0 where
+  pub started : startOf twoTasks .answer ≡ Accepted
+  -- The run switches, and two of its calls are refused.
+  pub answered : answers (modelFor twoTasks) overrun ≡ overrunAnswers
+  pub beyond : KeepsBudget highTask (highTask .figures .nominal) longLengths → ⊥
+  pub asked : InTimeAsked (modelFor twoTasks) highTask 0 overrun longLengths
+
+-- S10.9 is met by a run with two accepted releases of the high task.
+pub record NominalMet : Type 0 where
+  pub started : startOf twoTasks .answer ≡ Accepted
+  pub high : highTask .level ≡ highLevel
+  pub jobs : releasesIn 0 (modelFor twoTasks) usual ≡ 2
+  pub asked : NominalAsked (tasksOf twoTasks) (modelFor twoTasks) usual
