@@ -26,7 +26,7 @@ use Rattle.planner.specs.Choice.{lowOptions, pairsWithin, highOptions, optionsO
 use Rattle.planner.specs.Plan.{chosenFor, shareAnswer, choiceAnswer, sharesOf}
 use Rattle.model.specs.Budget.{sumBelow, Chain, alone, link, along}
 use Rattle.model.specs.Row.{highLevel, isHigh, isSubset, allEnded, predecessorsOf, precedes, isReady, ready, running, runningSet, releasedRow, joined, tickedRow, isLate, switchedRow}
-use Rattle.model.specs.Step.{Model, Call, release, step, rowAt, unknownTask, lowInCritical, tooEarly, wrongCount, notRunning, releaseRefusal, tickRefusal, released, ticked}
+use Rattle.model.specs.Step.{Model, Call, release, tick, step, rowAt, unknownTask, lowInCritical, tooEarly, wrongCount, notRunning, releaseRefusal, tickRefusal, released, ticked}
 use Rattle.model.specs.Run.{after, answers, isAccepted, ticksIn, releasesIn, isRunning}
 use Rattle.model.specs.Plan.{freshRow, fresh}
 use Rattle.model.specs.Claim.{begun, KeepsBudget, NominalJob, Ended, StaysTypical, Deadline, EndInTime, Nominal}
@@ -150,13 +150,18 @@ short-keeps =
       span = chains-kept shortLengths 2 (λ v h. lit≤ tt) (lit≤ tt);
     }
 
+-- The calls between the release of the job that overruns and the D-th tick after it.
+abbrev beforeDue : List Call
+beforeDue = take 10 (drop 1 overrun)
+
 -- The runs on the model.
 record Runs : Type 0 where
   pub begins : isAccepted start (release 0) ≡ true
   pub answered : answers start overrun ≡ overrunAnswers
   pub long-true : allTrue 0 longLengths (λ _. 0) first (drop 1 overrun) ≡ true
-  pub last : releasesIn 0 first (drop 1 overrun) ≡ 0
-  pub ticks : ticksIn first (drop 1 overrun) ≡ 9
+  pub due : isAccepted (after first beforeDue) (tick (0 ∷ 0 ∷ [])) ≡ true
+  pub ticks : ticksIn first beforeDue + 1 ≡ 8
+  pub unreleased : releasesIn 0 (after first (take 11 (drop 1 overrun))) (drop 12 overrun) ≡ 0
   pub jobs : releasesIn 0 start usual ≡ 2
   pub short-true : allTrue 0 shortLengths (λ _. 0) first (drop 1 usual) ≡ true
   pub short-again : allTrue 0 shortLengths (λ _. 0) (after start (take 11 usual)) (drop 11 usual) ≡ true
@@ -168,8 +173,9 @@ runs =
       begins = refl;
       answered = refl;
       long-true = refl;
-      last = refl;
+      due = refl;
       ticks = refl;
+      unreleased = refl;
       jobs = refl;
       short-true = refl;
       short-again = refl;
@@ -183,7 +189,16 @@ overrun-asked =
       high = refl;
       keeps = long-keeps;
       reports = true-reports 0 longLengths first (drop 1 overrun) (runs .long-true);
-      passed = record { last = runs .last; ticks = omega (arith, runs .ticks) };
+      passed =
+          record {
+            before = beforeDue;
+            reports = 0 ∷ 0 ∷ [];
+            later = drop 12 overrun;
+            list = refl;
+            accepted = runs .due;
+            ticks = runs .ticks;
+            unreleased = runs .unreleased;
+          };
     }
 
 -- Of the three releases of the other run that of the low task asks nothing.
