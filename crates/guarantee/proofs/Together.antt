@@ -23,8 +23,8 @@ module _ (s : State) (sound : isSound s ≡ true) where
 
   pub call-said : (c : Call) → saidOf s c ≡ modelSaid c (step (modelOf s) c .answer)
   unfolding releaseOf tickOf
-  call-said (release i) = rw sound
-  call-said (tick reports) = rw sound
+  call-said (release i) = rw sound refl
+  call-said (tick reports) = rw sound refl
 
 pub run-said : (s : State) → isSound s ≡ true → (calls : List Call) → allSaid s calls ≡ allModelSaid (modelOf s) calls
 run-said s sound [] = refl

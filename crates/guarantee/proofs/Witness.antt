@@ -27,12 +27,13 @@ use Rattle.planner.specs.Plan.{chosenFor, shareAnswer, choiceAnswer, sharesOf}
 use Rattle.model.specs.Budget.{sumBelow, Chain, alone, link, along}
 use Rattle.model.specs.Row.{highLevel, isHigh, isSubset, allEnded, predecessorsOf, precedes, isReady, ready, running, runningSet, releasedRow, joined, tickedRow, isLate, switchedRow}
 use Rattle.model.specs.Step.{Model, Call, release, tick, step, rowAt, unknownTask, lowInCritical, tooEarly, wrongCount, notRunning, releaseRefusal, tickRefusal, released, ticked}
-use Rattle.model.specs.Run.{after, answers, isAccepted, ticksIn, releasesIn, isRunning}
+use Rattle.model.specs.Run.{after, isAccepted, ticksIn, releasesIn, isRunning}
 use Rattle.model.specs.Plan.{freshRow, fresh}
 use Rattle.model.specs.Claim.{begun, KeepsBudget, NominalJob, Ended, StaysTypical, Deadline, EndInTime, Nominal}
 use Rattle.start.specs.Start.{startAnswer, startOf}
+use Rattle.guarantee.specs.Runs.{allModelSaid}
 use Rattle.guarantee.specs.Guarantee.{tasksOf, sharesFor, modelFor, Guarantee}
-use Rattle.guarantee.specs.Witness.{twoTasks, highTask, longLengths, overrun, overrunAnswers, shortLengths, usual, InTimeAsked, NominalAsked, DeadlineMet, NominalMet}
+use Rattle.guarantee.specs.Witness.{twoTasks, highTask, longLengths, overrun, overrunSaid, shortLengths, usual, InTimeAsked, NominalAsked, DeadlineMet, NominalMet}
 use Rattle.guarantee.proofs.Theorem.{answer-returned, guarantee}
 use Rattle.guarantee.proofs.Truths.{allTrue, true-reports, at-releases}
 
@@ -157,7 +158,7 @@ beforeDue = take 10 (drop 1 overrun)
 -- The runs on the model.
 record Runs : Type 0 where
   pub begins : isAccepted start (release 0) ≡ true
-  pub answered : answers start overrun ≡ overrunAnswers
+  pub said : allModelSaid start overrun ≡ overrunSaid
   pub long-true : allTrue 0 longLengths (λ _. 0) first (drop 1 overrun) ≡ true
   pub due : isAccepted (after first beforeDue) (tick (0 ∷ 0 ∷ [])) ≡ true
   pub ticks : ticksIn first beforeDue + 1 ≡ 8
@@ -171,7 +172,7 @@ unfolding fresh freshRow virtualOf isLow virtualDeadline has range highLevel isH
 runs =
     record {
       begins = refl;
-      answered = refl;
+      said = refl;
       long-true = refl;
       due = refl;
       ticks = refl;
@@ -215,10 +216,14 @@ usual-asked =
 
 -- Both for the sheet.
 pub deadline-met : DeadlineMet
+unfolding Guarantee
 deadline-met =
     record {
       started = started;
-      answered = ap (λ (m : Model). answers m overrun) model-is ∙ runs .answered;
+      said =
+          guarantee twoTasks started overrun .answers
+          ∙ ap (λ (m : Model). allModelSaid m overrun) model-is
+          ∙ runs .said;
       beyond = rw task-is long-beyond;
       asked =
           subst₂ (λ (m : Model) (t : Task). InTimeAsked m t 0 overrun longLengths) (sym model-is) (sym task-is) overrun-asked;

@@ -3,16 +3,18 @@ use Prim.Native.Nat.{ℕ}
 use mathlib.Core.List.{List, [], _∷_, _++_}
 use mathlib.Core.Path.{_≡_}
 use lib.ListN.{getD}
-use Rattle.sheet.specs.declared.answer.Answer.the-variants.{Accepted}
+use Rattle.sheet.specs.declared.answer.Answer.the-variants.{Accepted, Refused}
 use Rattle.sheet.specs.declared.task.Task.{Task}
 use Rattle.sheet.specs.declared.task.TaskSet.{TaskSet}
 use Rattle.sheet.specs.Format.{taskIn}
 use Rattle.model.specs.Row.{highLevel}
-use Rattle.model.specs.Step.{Model, Call, release, tick, Answer, accepted, ran, switched, refused}
-use Rattle.model.specs.Run.{answers, releasesIn, TrueReports}
+use Rattle.model.specs.Step.{Model, Call, release, tick}
+use Rattle.model.specs.Run.{releasesIn, TrueReports}
 use Rattle.model.specs.Claim.{ReleaseIn, begun, KeepsBudget, DeadlinePassed, NominalJob}
+use Rattle.dispatcher.specs.declared.tick.TickAnswer.the-variants.{Ran, Switched, Refused as TickRefused}
 use Rattle.start.specs.Start.{startOf}
-use Rattle.guarantee.specs.Guarantee.{tasksOf, modelFor}
+use Rattle.guarantee.specs.Runs.{Said, released, ticked, allSaid}
+use Rattle.guarantee.specs.Guarantee.{tasksOf, modelFor, startState}
 
 -- S2.6: task 0 is high, with D 8, CN 4, CO 9, LN 2, LO 3 and four nodes: node 1 waits for node 0, the others for none.
 -- Its shares are (1, 2), and its V is 4.
@@ -56,22 +58,22 @@ overrun =
     ∷ tick (0 ∷ 0 ∷ [])
     ∷ []
 
--- The answers of that run.
-abbrev pub overrunAnswers : List Answer
-overrunAnswers =
-    accepted
-    ∷ accepted
-    ∷ ran
-    ∷ ran
-    ∷ ran
-    ∷ switched 0
-    ∷ refused (record { number = 12; task = 1 })
-    ∷ refused (record { number = 15; task = 0 })
-    ∷ ran
-    ∷ ran
-    ∷ ran
-    ∷ ran
-    ∷ ran
+-- What the calls of that run answer.
+abbrev pub overrunSaid : List Said
+overrunSaid =
+    released Accepted
+    ∷ released Accepted
+    ∷ ticked Ran
+    ∷ ticked Ran
+    ∷ ticked Ran
+    ∷ ticked (Switched 0)
+    ∷ released (Refused 12 1)
+    ∷ ticked (TickRefused 15 0)
+    ∷ ticked Ran
+    ∷ ticked Ran
+    ∷ ticked Ran
+    ∷ ticked Ran
+    ∷ ticked Ran
     ∷ []
 
 -- S10.9: lengths of the high task's nodes that use up the nominal budget: together 4, and 2 along the chain.
@@ -115,7 +117,7 @@ NominalAsked ts start calls =
 pub record DeadlineMet : Type 0 where
   pub started : startOf twoTasks .answer ≡ Accepted
   -- The run switches, and two of its calls are refused.
-  pub answered : answers (modelFor twoTasks) overrun ≡ overrunAnswers
+  pub said : allSaid (startState twoTasks) overrun ≡ overrunSaid
   pub beyond : KeepsBudget highTask (highTask .figures .nominal) longLengths → ⊥
   pub asked : InTimeAsked (modelFor twoTasks) highTask 0 overrun longLengths
 
