@@ -1,4 +1,4 @@
--- Laws of the encoding of calls: what stands at a place by its kind byte, and the calls from a place on, one at a time.
+-- Laws of a log (S12.1): what stands at a place by its kind byte, and the calls from a place on, one at a time.
 use Prim.Native.Nat.{ℕ, zero, suc, _+_, _-_, _*_, _≤_, _<_}
 use mathlib.Core.Path.{_≡_, refl, sym, ap, _∙_}
 use mathlib.Core.List.{List, [], _∷_, _++_, map}
@@ -34,7 +34,7 @@ module _ (b : List ℕ) (at : ℕ) where
   unfolding sizeAt
   size-cut h = rw (lt-leb (at + askedAt b at) (length b) h)
 
-  -- A call that stands whole at a place ends within the list.
+  -- A call that stands whole at a place ends within the log.
   whole-inside : 1 ≤ sizeAt b at → (1 ≤ askedAt b at) × (at + askedAt b at ≤ length b)
   whole-inside some = go (decLe (at + askedAt b at) (length b))
     where
@@ -90,7 +90,7 @@ calls-exact (suc most) b at = go (ℕ-discrete (sizeAt b at) 0) (calls-exact mos
         rw (calls-next b at most n)
         (calls-next b at (length (callsFrom most b (at + sizeAt b at))) n ∙ ap (λ (l : List Call). callAt b at ∷ l) rest)
 
--- On the way through the list: the calls passed, with those left, are all.
+-- On the way through the log: the calls passed, with those left, are all.
 pub record Counted (b : List ℕ) (at count size : ℕ) : Type 0 where
   pub few : count ≤ at
   pub here : size ≡ sizeAt b at

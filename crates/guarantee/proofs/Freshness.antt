@@ -1,4 +1,4 @@
--- The fresh state of an accepted sheet holds the model's fresh start, and it is sound.
+-- The fresh state of an accepted sheet (S8.1) holds the model's fresh start (S10.2), and it is sound (S7.2).
 use Prim.Native.Nat.{ℕ, suc, _≤_, _<_}
 use mathlib.Core.Bool.{Bool, true, false, _&&_}
 use mathlib.Core.List.{List, [], _∷_}

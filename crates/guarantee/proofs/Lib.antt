@@ -1,5 +1,5 @@
--- In reading order: a run on a sound state, the plan of an accepted sheet, its fresh state, the theorem, and that what it asks can
--- be met; then Replay.
+-- In reading order: a run on a sound state, the plan of an accepted sheet, its fresh state, the theorem (S10), and that what it asks
+-- can be met; then Replay (S12).
 pub mod Together
 pub mod Planning
 pub mod Freshness

@@ -1,4 +1,4 @@
--- What the reader and the planner say of an accepted sheet is what the model's theorem assumes.
+-- What the reader (S2) and the planner (S5) say of an accepted sheet is what the model's theorem assumes.
 use Prim.Native.Nat.{ℕ, _≤_, _<_}
 use mathlib.Core.Bool.{Bool, true, false}
 use mathlib.Core.List.{List}

@@ -1,5 +1,5 @@
--- What demand 3 says of the bytes of a replay: a call on a sound state answers as the model and holds what it holds, so that record
--- by record the bytes are the model's.
+-- S12.4: a call on a sound state answers as the model and holds what it holds, so that record by record the bytes of a replay are the
+-- model's.
 use mathlib.Core.Bool.{true}
 use mathlib.Core.List.{List, [], _∷_, _++_, append-assoc}
 use mathlib.Core.Path.{_≡_, refl, sym, ap, ap₂, _∙_}

@@ -1,4 +1,4 @@
--- Laws of a replay: its records one call at a time, its length, the room for it, and the state that Start hands to it.
+-- Laws of a replay (S12.2, S12.3): its records one call at a time, its length, the room for it, and the state that Start hands to it.
 use Prim.Native.Nat.{ℕ, suc, _+_, _-_, _*_, _/_, _≤_, _<_}
 use mathlib.Core.Path.{_≡_, refl, sym, ap, subst, _∙_}
 use mathlib.Core.Bool.{Bool, true, false, cond}
@@ -194,7 +194,7 @@ unfolding callsFrom
 replaying-all whole bytes calls tasks s out at place rest e p =
     let done : sets out place (recordsOf s (callsFrom 0 calls at)) ≡ whole = rw e at (p .left) in done
 
--- The state that Start returns has sixteen entries and at most as many tasks.
+-- S7.1: the state that Start returns has sixteen entries and at most as many tasks.
 pub start-few : (sheet : List ℕ) → startOf sheet .state .count ≤ 16
 unfolding startOf startAnswer freshState zeroState
 start-few sheet = go (startAnswer sheet) refl
@@ -211,7 +211,7 @@ start-line sheet = go (startAnswer sheet)
     go Accepted = cells-length (λ i. freshEntry (taskIn (readOf sheet .set) i) (shareAt (sharesOf (chosenFor (readOf sheet .set))) i)) zeroEntry 0 16 (readOf sheet .set .count)
     go (Refused number task) = length-replicate 16 zeroEntry
 
--- The calls that are run are the first of the list, as many as they are.
+-- The calls that are run are the first of the log, as many as they are.
 pub run-exact : (a : Answer) (calls : List ℕ) → callsFrom (length (callsRun a (callsOf calls))) calls 0 ≡ callsRun a (callsOf calls)
 unfolding callsOf callsFrom
 run-exact Accepted calls = calls-exact (length calls) calls 0

@@ -1,4 +1,4 @@
--- Demand 3: the run on Start's state goes together with the model, of which the model's theorem holds.
+-- S10: a run from Start's state goes together with the model, and the model's theorem says the rest.
 use Prim.Native.Nat.{ℕ}
 use mathlib.Core.Bool.{true}
 use mathlib.Core.List.{List}
@@ -34,17 +34,17 @@ module _ (sheet : List ℕ) (accepted : startOf sheet .answer ≡ Accepted) wher
   unfolding startOf
   answered = sym (answer-returned (startAnswer sheet) _) ∙ accepted
 
-  rows-passed : (readOf sheet .answer ≡ Accepted) × (choiceAnswer (readOf sheet .set) ≡ Accepted)
+  both-passed : (readOf sheet .answer ≡ Accepted) × (choiceAnswer (readOf sheet .set) ≡ Accepted)
   unfolding startAnswer
-  rows-passed = both-accepted (readOf sheet .answer) (choiceAnswer (readOf sheet .set)) answered
+  both-passed = both-accepted (readOf sheet .answer) (choiceAnswer (readOf sheet .set)) answered
 
   lawful : LawfulSet (tasksOf sheet)
   unfolding tasksOf
-  lawful = accepted-lawful sheet (rows-passed .0)
+  lawful = accepted-lawful sheet (both-passed .0)
 
   chosen-it : chosenFor (tasksOf sheet) ≡ some (sharesFor sheet)
   unfolding tasksOf sharesFor
-  chosen-it = accepted-choice (readOf sheet .set) (rows-passed .1)
+  chosen-it = accepted-choice (readOf sheet .set) (both-passed .1)
 
   state-is : startState sheet ≡ freshState (tasksOf sheet) (sharesFor sheet)
   unfolding startState startOf tasksOf sharesFor

@@ -1,5 +1,5 @@
--- A list of calls on a sound state goes together with the model that the state holds: by induction on the list, since each
--- call keeps the state sound and steps the model.
+-- S10.3: a run from a sound state goes together with the model that the state holds. By induction on the calls, since each keeps the
+-- state sound and steps the model.
 use mathlib.Core.Bool.{true}
 use mathlib.Core.List.{List, [], _∷_}
 use mathlib.Core.Path.{_≡_, refl, ap, ap₂, _∙_}

@@ -1,5 +1,5 @@
--- What the clauses ask of a run, by tests that compute. Reports are true if each accepted tick reports just the set of nodes whose
--- length is reached with it; and what holds at each accepted Release of a list holds of every job in it.
+-- What S10.5 and S10.9 ask of a run, by tests that compute. Reports are true if each accepted tick reports just the set of nodes whose
+-- length is reached with it; and what holds at each accepted Release of a run holds of every job in it.
 use Prim.Native.Nat.{ℕ, _+_}
 use mathlib.Core.Path.{_≡_, refl, sym, ap, subst, _∙_}
 use mathlib.Core.Bool.{Bool, true, false, cond, _&&_, _||_, true≢false, and-eq-true-iff}
@@ -86,7 +86,7 @@ true-reports i len m calls h before reports rest e z a v =
     true-along i len (λ _. 0) m before reports rest (subst (λ (l : List Call). allTrue i len (λ _. 0) m l ≡ true) e h) z a v
     ∙ ap (λ (n : ℕ). isRunning i v (after m before) && eqb (n + 1) (len v)) (zero-add (runsIn i v m before))
 
--- What a claim about a job says at each accepted Release of a list: of the task, the model just after it, and the calls since.
+-- What a claim about jobs says at each accepted Release of a run: of the task, the model just after it, and the calls since.
 abbrev pub AtReleases : (ℕ → Model → List Call → Type 0) → Model → List Call → Type 0
 AtReleases P m [] = Unit {0}
 AtReleases P m (release i ∷ calls) =

@@ -1,12 +1,13 @@
--- What demand 3 asks can be met. The sheet is read and planned by computation; the runs are run on the model that it gives, and
--- their reports pass the test of true ones.
+-- What S10.7 and S10.9 ask can be met. The sheet is read and planned by computation; its model is run by computation, and the reports
+-- pass the test of true ones.
 use Prim.Native.Nat.{ℕ, zero, suc, _+_, _≤_, _<_}
 use mathlib.Core.Bool.{true, true≢false}
 use mathlib.Core.List.{List, [], _∷_}
 use mathlib.Core.Option.{Option, some}
 use mathlib.Core.Path.{_≡_, refl, sym, ap, ap₂, subst₂, _∙_}
 use native.Mathlib.Omega.{arith}
-use lib.Dec.{lit<, lit≤}
+use borrow.Author.Tests.{eqb-true}
+use lib.Dec.{lit≤}
 use lib.ListN.{getD, take, drop, replicate}
 use Rattle.sheet.specs.declared.answer.Answer.the-variants.{Accepted}
 use Rattle.sheet.specs.declared.task.Task.{Task}
@@ -21,7 +22,7 @@ use Rattle.shares.specs.Test.{excess, demand, passes, virtualDeadline}
 use Rattle.shares.specs.Low.{isLow, ceilDiv, lowShare, hasLowShare}
 use Rattle.shares.specs.Deadline.{virtualOf}
 use Rattle.nodes.specs.Sets.{has, range}
-use Rattle.nodes.proofs.Bits.{has-zero, has-lt}
+use Rattle.nodes.proofs.Bits.{has-zero, has-power}
 use Rattle.planner.specs.Choice.{lowOptions, pairsWithin, highOptions, optionsOf, fits, leastOf, fitting, chosen}
 use Rattle.planner.specs.Plan.{chosenFor, shareAnswer, choiceAnswer, sharesOf}
 use Rattle.model.specs.Budget.{sumBelow, Chain, alone, link, along}
@@ -45,7 +46,7 @@ high =
       nodes = 4;
       figures =
           record { deadline = 8; nominal = record { work = 4; span = 2 }; overload = record { work = 9; span = 3 } };
-      predecessors = 0 ∷ 1 ∷ replicate 30 0;
+      predecessors = 0 ∷ 0 ∷ 2 ∷ replicate 29 0;
     }
 
 abbrev low : Task
@@ -100,24 +101,25 @@ model-is =
     ap (λ (ts : TaskSet). fresh ts (sharesOf (chosenFor ts))) read-set
     ∙ ap (λ (c : Option (List Share)). fresh both (sharesOf c)) (both-chosen .1)
 
--- The high task has one edge, from node 0 to node 1, so that a chain is a node alone or these two.
+-- The high task has one edge, from node 1 to node 2, so that a chain is a node alone or these two.
 no-mask : (n v : ℕ) → _≡_ {A = ℕ} (getD (replicate n 0) v 0) 0
 no-mask zero v = refl
 no-mask (suc n) zero = refl
 no-mask (suc n) (suc v) = no-mask n v
 
-one-edge : (u v : ℕ) → precedes (high .predecessors) u v ≡ true → (u ≡ 0) × (v ≡ 1)
+one-edge : (u v : ℕ) → precedes (high .predecessors) u v ≡ true → (u ≡ 1) × (v ≡ 2)
 unfolding precedes predecessorsOf
 one-edge u zero e = absurd (true≢false (sym e ∙ has-zero u))
-one-edge u (suc zero) e = (omega (arith, has-lt 1 1 u (lit< tt) e), refl)
-one-edge u (suc (suc v)) e = absurd (true≢false (sym e ∙ ap (λ (n : ℕ). has n u) (no-mask 30 v) ∙ has-zero u))
+one-edge u (suc zero) e = absurd (true≢false (sym e ∙ has-zero u))
+one-edge u (suc (suc zero)) e = (eqb-true u 1 (sym (has-power 1 u) ∙ e), refl)
+one-edge u (suc (suc (suc v))) e = absurd (true≢false (sym e ∙ ap (λ (n : ℕ). has n u) (no-mask 29 v) ∙ has-zero u))
 
-module _ (len : ℕ → ℕ) (span : ℕ) (each : (u : ℕ) → u < 4 → len u ≤ span) (chain : len 0 + len 1 ≤ span) where
+module _ (len : ℕ → ℕ) (span : ℕ) (each : (u : ℕ) → u < 4 → len u ≤ span) (chain : len 1 + len 2 ≤ span) where
   chains-kept : (u : ℕ) (rest : List ℕ) → Chain 4 (precedes (high .predecessors)) u rest → along len u rest ≤ span
   chains-kept u rest (alone l) = each u l
   chains-kept u rest (link {v = v} l e (alone l′)) =
       let ends = one-edge u v e in
-      let here : len u + len v ≡ len 0 + len 1 = ap₂ (λ (x y : ℕ). len x + len y) (ends .0) (ends .1) in
+      let here : len u + len v ≡ len 1 + len 2 = ap₂ (λ (x y : ℕ). len x + len y) (ends .0) (ends .1) in
       omega (arith, chain, here)
   chains-kept u rest (link {v = v} l e (link {v = w} l′ e′ c)) = absurd (omega (arith, one-edge u v e .1, one-edge v w e′ .0))
 

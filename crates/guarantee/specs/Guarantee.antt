@@ -1,4 +1,4 @@
--- Demand 3 of 01, whole: one claim about every list of Release and Tick calls from a fresh state of an accepted sheet.
+-- S10: what is promised of runs, as one claim about every sheet that Start accepts and every list of calls.
 use Prim.Native.Nat.{ℕ}
 use mathlib.Core.List.{List}
 use mathlib.Core.Path.{_≡_}
@@ -16,37 +16,35 @@ use Rattle.dispatcher.specs.Holds.{modelOf}
 use Rattle.start.specs.Start.{startOf}
 use Rattle.guarantee.specs.Runs.{stateAfter, allSaid, allModelSaid}
 
--- What the sheet says.
+-- S2: the tasks that a sheet tells of.
 unfoldable pub tasksOf : List ℕ → TaskSet
 tasksOf sheet = readOf sheet .set
 
--- 01: "the plan that this paper gives it": the shares that are chosen for the sheet's tasks.
+-- S5.3: the shares chosen for these tasks.
 unfoldable pub sharesFor : List ℕ → List Share
 sharesFor sheet = sharesOf (chosenFor (tasksOf sheet))
 
--- 01: the model "is fed with the sheet, the plan that this paper gives it and each call's task number or reports, and with no
--- answer and no returned state"; "It starts as fresh".
+-- S10.2: the model of a run before its first call: fresh, and made of the sheet and its shares alone.
 unfoldable pub modelFor : List ℕ → Model
 modelFor sheet = fresh (tasksOf sheet) (sharesFor sheet)
 
--- 01: "The list starts with the state that Start returned for an accepted sheet": that state.
+-- S10.1: the state that a run starts from is Start's.
 unfoldable pub startState : List ℕ → State
 startState sheet = startOf sheet .state
 
--- What holds of one list of calls from that state. Every prefix of a list is a list, so that each part speaks of every moment.
+-- S10: what holds of one run. Each beginning of a run is a run, so that each part speaks of every moment.
 pub record Guaranteed (sheet : List ℕ) (calls : List Call) : Type 0 where
-  -- Each answer is the model's.
+  -- S10.3: the answers are the model's.
   pub answers : allSaid (startState sheet) calls ≡ allModelSaid (modelFor sheet) calls
-  -- The state holds what the model holds.
+  -- S10.3: the state holds what the model holds.
   pub states : modelOf (stateAfter (startState sheet) calls) ≡ after (modelFor sheet) calls
-  -- High jobs that keep their overload budgets, with true reports, have ended after D accepted ticks.
+  -- S10.7: a high job that keeps the overload budget, with true reports, has ended with its D-th tick.
   pub deadline : Deadline (tasksOf sheet) (sharesFor sheet) calls
-  -- No task runs more nodes than its share, nor all together more than M.
+  -- S10.8: no task runs more nodes than its share, and all of them together run at most M.
   pub capacity : Capacity (tasksOf sheet) (sharesFor sheet) (after (modelFor sheet) calls)
-  -- If all high jobs keep their nominal budgets under true reports, the mode stays typical and no tick answers that it switched.
+  -- S10.9: while each high job keeps the nominal budget, with true reports, the mode stays typical and no tick says that it switched.
   pub nominal : Nominal (tasksOf sheet) (sharesFor sheet) calls
 
--- Demand 3: for every sheet that Start accepts, "one for which no row of Start's holds", and every list of calls, accepted or
--- refused, with any arguments.
+-- S10.1: it holds of every sheet that Start accepts and of every list of calls, whatever their arguments and answers.
 unfoldable pub Guarantee : Type 0
 Guarantee = (sheet : List ℕ) → startOf sheet .answer ≡ Accepted → (calls : List Call) → Guaranteed sheet calls

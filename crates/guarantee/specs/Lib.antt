@@ -1,5 +1,5 @@
--- In reading order: lists of calls on a state, then the claim, and that what it asks can be met; then how calls are encoded, the
--- records of a replay, and Replay.
+-- In reading order: runs, what is promised of them (S10), and that what this asks can be met; then logs of calls, the records of a
+-- replay, and Replay (S12).
 pub mod Runs
 pub mod Guarantee
 pub mod Witness

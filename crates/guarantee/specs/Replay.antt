@@ -1,4 +1,4 @@
--- Replay: the bytes of a sheet and of a list of calls give the bytes of the run.
+-- S12: Replay. A sheet and a log of calls give the bytes of the run.
 use Prim.Native.Nat.{ℕ}
 use mathlib.Core.Bool.{cond}
 use mathlib.Core.List.{List, [], _∷_, _++_}
@@ -19,39 +19,39 @@ use Rattle.guarantee.specs.Guarantee.{modelFor, Guaranteed}
 use Rattle.guarantee.specs.Encoding.{callsOf}
 use Rattle.guarantee.specs.Record.{answerBytes, recordOf}
 
--- The records of a list of calls. 01, Dispatch: "Each call gets the state that the call before it returned, a refused one too".
+-- S12.2: the records of a run, one for each call; S10.1 says which state a call gets.
 abbrev pub recordsOf : State → List Call → List ℕ
 recordsOf s [] = []
 recordsOf s (c ∷ calls) = recordOf (saidOf s c) (modelOf (stateOf s c)) ++ recordsOf (stateOf s c) calls
 
--- The calls that are run: all of them if Start accepted the sheet, none if it refused.
+-- S12.2: the calls that are run: those of the log, but none if Start refused the sheet.
 abbrev pub callsRun : Answer → List Call → List Call
 callsRun Accepted calls = calls
 callsRun (Refused number task) calls = []
 
--- The bytes of a replay: Start's answer, then a record for each call.
+-- S12.2: the bytes of a replay: Start's answer, then the records.
 unfoldable pub replayBytes : List ℕ → List ℕ → List ℕ
 replayBytes sheet calls =
     answerBytes (startOf sheet .answer) ++ recordsOf (startOf sheet .state) (callsRun (startOf sheet .answer) (callsOf calls))
 
--- What Replay answers for a buffer of so many bytes: how many it wrote, or that the buffer is short.
+-- S12.3: what Replay answers for a buffer of so many bytes: how many it wrote, or that the buffer is short.
 unfoldable pub replayedOf : List ℕ → List ℕ → ℕ → Replayed
 replayedOf sheet calls room =
     cond (leb (length (replayBytes sheet calls)) room) (Written (length (replayBytes sheet calls))) Short
 
--- The buffer after a replay: its bytes, followed by what stood there; a short buffer is as it was.
+-- S12.3: the buffer after a replay: its bytes in front of those that stay; a short buffer is as it was.
 unfoldable pub replayOver : List ℕ → List ℕ → List ℕ → List ℕ
 replayOver sheet calls out =
     cond (leb (length (replayBytes sheet calls)) (length out))
     (replayBytes sheet calls ++ drop (length (replayBytes sheet calls)) out)
     out
 
--- The records of a list of calls on the model: its answers, and what it holds after each call.
+-- S12.4: the records of a run as the model gives them: its answers, and what it holds after each call.
 abbrev pub modelRecords : Model → List Call → List ℕ
 modelRecords m [] = []
 modelRecords m (c ∷ calls) = recordOf (modelSaid c (step m c .answer)) (step m c .model) ++ modelRecords (step m c .model) calls
 
--- A call's record shows the answer of the model after the calls before it, and what the model holds after the list up to this call.
+-- S12.4: which record is a call's: it shows the answer of the model after the calls before it, and what the model holds after it.
 unfoldable pub RecordOfCall : Type 0
 RecordOfCall =
     (m : Model) (before : List Call) (c : Call) (rest : List Call) →
@@ -60,13 +60,13 @@ RecordOfCall =
     ++ recordOf (modelSaid c (step (after m before) c .answer)) (after m (before ++ c ∷ []))
     ++ modelRecords (after m (before ++ c ∷ [])) rest
 
--- What demand 3 says of a replay.
+-- S12.4: what is promised of a replay.
 pub record ReplayGuaranteed (sheet calls : List ℕ) : Type 0 where
-  -- The bytes are those of 01's model, which is fed with the sheet, its plan and the calls alone.
+  -- The bytes are the model's.
   pub bytes : replayBytes sheet calls ≡ answerBytes Accepted ++ modelRecords (modelFor sheet) (callsOf calls)
-  -- The deadline, capacity and nominal parts hold of these calls.
+  -- S10 holds of the logged calls.
   pub run : Guaranteed sheet (callsOf calls)
 
--- For every sheet that Start accepts and every list of bytes for the calls.
+-- S12.4: it holds of every sheet that Start accepts and of every log.
 unfoldable pub ReplayGuarantee : Type 0
 ReplayGuarantee = (sheet calls : List ℕ) → startOf sheet .answer ≡ Accepted → ReplayGuaranteed sheet calls

@@ -16,49 +16,49 @@ use Rattle.start.specs.Start.{startOf}
 use Rattle.guarantee.specs.Runs.{Said, released, ticked, allSaid}
 use Rattle.guarantee.specs.Guarantee.{tasksOf, modelFor, startState}
 
--- S2.6: task 0 is high, with D 8, CN 4, CO 9, LN 2, LO 3 and four nodes: node 1 waits for node 0, the others for none.
--- Its shares are (1, 2), and its V is 4.
+-- S2.6: the record of task 0. It is high, with D 8, CN 4, CO 9, LN 2, LO 3 and four nodes; node 2 waits for node 1, the others for
+-- none. Its shares are (1, 2), and its V is 4.
 abbrev pub highRecord : List ℕ
 highRecord =
-    1 ∷ 4 ∷ 8 ∷ 0 ∷ 4 ∷ 0 ∷ 9 ∷ 0 ∷ 2 ∷ 0 ∷ 3 ∷ 0 ∷ 0 ∷ 0 ∷ 0 ∷ 0 ∷ 1 ∷ 0 ∷ 0 ∷ 0 ∷ 0 ∷ 0 ∷ 0 ∷ 0 ∷ 0 ∷ 0 ∷ 0 ∷ 0 ∷ []
+    1 ∷ 4 ∷ 8 ∷ 0 ∷ 4 ∷ 0 ∷ 9 ∷ 0 ∷ 2 ∷ 0 ∷ 3 ∷ 0 ∷ 0 ∷ 0 ∷ 0 ∷ 0 ∷ 0 ∷ 0 ∷ 0 ∷ 0 ∷ 2 ∷ 0 ∷ 0 ∷ 0 ∷ 0 ∷ 0 ∷ 0 ∷ 0 ∷ []
 
--- S2.6: task 1 is low, with D 3, C 4, L 1 and two nodes that wait for none. Its share is 2.
+-- S2.6: the record of task 1. It is low, with D 3, C 4, L 1 and two nodes that wait for none. Its share is 2.
 abbrev pub lowRecord : List ℕ
 lowRecord = 0 ∷ 2 ∷ 3 ∷ 0 ∷ 4 ∷ 0 ∷ 4 ∷ 0 ∷ 1 ∷ 0 ∷ 1 ∷ 0 ∷ 0 ∷ 0 ∷ 0 ∷ 0 ∷ 0 ∷ 0 ∷ 0 ∷ 0 ∷ []
 
--- S2.1 to S2.4: the sheet of both on three processors, 58 bytes.
+-- S2.1 to S2.4: the sheet of both on three processors, in 58 bytes.
 abbrev pub twoTasks : List ℕ
 twoTasks = 3 ∷ 2 ∷ 10 ∷ 0 ∷ 28 ∷ 0 ∷ 38 ∷ 0 ∷ 20 ∷ 0 ∷ (highRecord ++ lowRecord)
 
--- Task 0 of that sheet.
+-- S2.5: task 0 of that sheet.
 abbrev pub highTask : Task
 highTask = taskIn (tasksOf twoTasks) 0
 
--- S10.5: lengths of the high task's nodes that use up the overload budget: together 9, and 3 along the chain of nodes 0 and 1.
+-- S10.6: lengths of task 0's nodes that use up the overload budget: together 9, and 3 along the chain of nodes 1 and 2.
 abbrev pub longLengths : ℕ → ℕ
-longLengths v = getD (2 ∷ 1 ∷ 3 ∷ 3 ∷ []) v 1
+longLengths v = getD (3 ∷ 2 ∷ 1 ∷ 3 ∷ []) v 1
 
--- S10.1: a run with a high job of these lengths, beside a low job of which no tick reports a node. The fourth tick switches. Then
--- a Release of the low task is refused, and a tick that reports node 0 again. The high job ends with the seventh accepted tick; the
--- eighth is the D-th, and one more follows.
+-- S10.1: a run with a high job of these lengths, beside a low job of which no tick reports a node. The fourth tick switches, while
+-- node 1 runs. Then a Release of the low task is refused, and a tick that reports node 2, which still waits: node 3 runs in its
+-- stead. The high job ends with the seventh accepted tick; the eighth is the D-th, and one more follows.
 abbrev pub overrun : List Call
 overrun =
     release 0
     ∷ release 1
     ∷ tick (0 ∷ 0 ∷ [])
+    ∷ tick (0 ∷ 0 ∷ [])
     ∷ tick (1 ∷ 0 ∷ [])
-    ∷ tick (2 ∷ 0 ∷ [])
     ∷ tick (0 ∷ 0 ∷ [])
     ∷ release 1
-    ∷ tick (1 ∷ 0 ∷ [])
-    ∷ tick (0 ∷ 0 ∷ [])
+    ∷ tick (4 ∷ 0 ∷ [])
+    ∷ tick (2 ∷ 0 ∷ [])
     ∷ tick (4 ∷ 0 ∷ [])
     ∷ tick (8 ∷ 0 ∷ [])
     ∷ tick (0 ∷ 0 ∷ [])
     ∷ tick (0 ∷ 0 ∷ [])
     ∷ []
 
--- What the calls of that run answer.
+-- S3.1, S8.7: what the calls of that run answer.
 abbrev pub overrunSaid : List Said
 overrunSaid =
     released Accepted
@@ -76,7 +76,7 @@ overrunSaid =
     ∷ ticked Ran
     ∷ []
 
--- S10.9: lengths of the high task's nodes that use up the nominal budget: together 4, and 2 along the chain.
+-- S10.6: lengths of task 0's nodes that use up the nominal budget: together 4, and 2 along the chain.
 abbrev pub shortLengths : ℕ → ℕ
 shortLengths v = 1
 

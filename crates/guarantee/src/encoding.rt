@@ -1,6 +1,4 @@
-// The encoding of calls, little-endian. A call is a kind byte and what follows it: 0 is Release, with the task number (u32); 1 is
-// Tick, with a count byte c and c reports (u32 each). The list ends where no byte is left, where a call is cut short, and at a byte
-// of another kind.
+// S12.1: a log of calls, read in place.
 ghost use mathlib.Core.Path.{_≡_};
 ghost use Prim.Native.Nat.{_+_, _*_, _≤_, _<_};
 ghost use lib.ListN.{length, take};
@@ -12,7 +10,7 @@ pub const RELEASE: u8 = 0;
 
 const TICK: u8 = 1;
 
-// The bytes that a call of the kind at a place has; 0 for an unknown kind.
+// How many bytes the call at a place asks for, by its kind; 0 for an unknown one.
 fn asked_at(calls: &[u8], at: usize) -> usize
     requires { ⌜ at ≤ length (now calls) ⌝ }
     ensures value { λ r. ⌜ r ≡ askedAt (now (calls .entry)) at ⌝ }
@@ -29,7 +27,7 @@ fn asked_at(calls: &[u8], at: usize) -> usize
     0
 }
 
-// The bytes of the call that stands whole at a place; 0 where the list ends.
+// How many bytes the call at a place has if it stands there whole; 0 where the log ends.
 pub fn size_at(calls: &[u8], at: usize) -> usize
     requires { ⌜ at ≤ length (now calls) ⌝ }
     ensures value { λ r. ⌜ r ≡ sizeAt (now (calls .entry)) at ⌝ }
@@ -39,7 +37,7 @@ pub fn size_at(calls: &[u8], at: usize) -> usize
     if at + size <= calls.len() { size } else { 0 }
 }
 
-// How many calls the list has.
+// How many calls the log has.
 pub fn count_calls(calls: &[u8]) -> usize
     ensures { λ r. ⌜ r ≡ length (callsOf (now (calls .entry))) ⌝ }
 {

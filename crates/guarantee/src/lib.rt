@@ -1,4 +1,4 @@
-// Demand 3: the claim about every list of calls from Start, and Replay, which runs such a list. Not part of the image.
+// What is promised of runs (S10), and Replay (S12), which runs a logged list of calls. Not part of the image.
 mod encoding;
 mod record;
 pub mod replay;

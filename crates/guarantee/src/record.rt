@@ -1,4 +1,4 @@
-// The records of a replay, in a lent buffer.
+// S12.2: Start's answer and the records of a replay, in a lent buffer.
 ghost use mathlib.Core.Path.{_≡_};
 ghost use Prim.Native.Nat.{_+_, _*_, _≤_};
 ghost use lib.ListN.{length};

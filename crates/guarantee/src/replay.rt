@@ -1,4 +1,4 @@
-// Replay: a sheet and an encoded list of calls, run through Start, Release and Tick.
+// S12: a sheet and a log of calls, run through Start, Release and Tick.
 ghost use mathlib.Core.Path.{_≡_};
 ghost use Prim.Native.Nat.{_+_, _*_, _≤_};
 ghost use lib.Dec.{leb};
@@ -15,13 +15,13 @@ use dispatcher::state::State;
 use sheet::answer::Answer;
 use start::start;
 
-// How many bytes were written, or that the buffer is too short for them.
+// S12.3: how many bytes were written, or that the buffer is too short for them.
 pub enum Replayed {
     Written(usize),
     Short,
 }
 
-// How many calls are run: none where Start refused.
+// S12.2: how many calls are run: none where Start refused.
 fn calls_run(answer: Answer, calls: &[u8]) -> usize
     ensures { λ r. ⌜ r ≡ length (callsRun answer (callsOf (now (calls .entry)))) ⌝ }
 {
@@ -31,7 +31,7 @@ fn calls_run(answer: Answer, calls: &[u8]) -> usize
     }
 }
 
-// Whether a buffer has room for Start's answer and so many records of this size.
+// S12.3: whether a buffer has room for Start's answer and so many records of this size.
 fn has_room(room: usize, count: usize, size: usize) -> bool
     requires { ⌜ 1 ≤ size ⌝ }
     ensures { λ r. ⌜ r ≡ leb (2 + count * size) room ⌝ }
@@ -42,7 +42,7 @@ fn has_room(room: usize, count: usize, size: usize) -> bool
     count <= (room - 2) / size
 }
 
-// The records of the first count calls, from a place on.
+// S12.2: the records of the first count calls, from a place on. Each call gets the state of the one before it (S10.1).
 fn put_turns(out: &mut [u8], from: usize, state: State, calls: &[u8], count: usize)
     requires { ⌜ (state .count ≤ 16) × (length (callsFrom count (now calls) 0) ≡ count) × (from + length (recordsOf state (callsFrom count (now calls) 0)) ≤ length (now out)) ⌝ }
     ensures { λ _. ⌜ now (out .exit) ≡ sets (now (out .entry)) from (recordsOf state (callsFrom count (now (calls .entry)) 0)) ⌝ }
@@ -63,7 +63,7 @@ fn put_turns(out: &mut [u8], from: usize, state: State, calls: &[u8], count: usi
     }
 }
 
-// Replay: starts the sheet, runs the calls, and writes each answer and what the state then holds. A short buffer is left as it is.
+// S12.2, S12.3: starts the sheet, runs the calls, and writes each answer and what the state then holds. A short buffer stays as it is.
 pub fn replay(sheet: &[u8], calls: &[u8], out: &mut [u8]) -> Replayed
     ensures answered { λ r. ⌜ r ≡ replayedOf (now (sheet .entry)) (now (calls .entry)) (length (now (out .entry))) ⌝ }
     ensures written { λ _. ⌜ now (out .exit) ≡ replayOver (now (sheet .entry)) (now (calls .entry)) (now (out .entry)) ⌝ }

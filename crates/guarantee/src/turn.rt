@@ -1,4 +1,4 @@
-// One call of a list, put to Release or Tick.
+// S10.1, S12.2: one call of a log, put to Release or Tick.
 ghost use mathlib.Core.Path.{_≡_};
 ghost use Prim.Native.Nat.{_≤_};
 ghost use lib.ListN.{length};
