@@ -38,7 +38,7 @@ use Rattle.guarantee.specs.Witness.{twoTasks, highTask, longLengths, ove
 use Rattle.guarantee.proofs.Theorem.{answer-returned, guarantee}
 use Rattle.guarantee.proofs.Truths.{allTrue, true-reports, at-releases}
 
--- The tasks that the sheet gives, their shares, and the fresh model of both.
+-- The tasks of the sheet, and their shares.
 abbrev high : Task
 high =
     record {
@@ -65,6 +65,7 @@ both = record { processors = 3; count = 2; tasks = high ∷ low ∷ replicate 14
 abbrev pairs : List Share
 pairs = record { typical = 1; critical = 2 } ∷ record { typical = 2; critical = 0 } ∷ []
 
+-- S2, S5: the sheet gives these tasks and shares.
 read-both : readOf twoTasks ≡ record { answer = Accepted; set = both }
 unfolding firstOver byteAt u16At u32At processorsOf countOf offsetOf lengthOf placeOf cellsFrom levelAt nodesAt figuresAt masksAt taskAt zeroTask tasksBelow taskSetOf levelLawful shapeLawful inRange inOrder lowLawful figuresLawful maskLawful allBelow masksLawful isHeavy taskAnswer headerLawful headerAnswer placeAnswer endAnswer shapeAnswer recordAnswer answerOf readOf
 read-both = refl
@@ -157,14 +158,19 @@ short-keeps =
 abbrev beforeDue : List Call
 beforeDue = take 10 (drop 1 overrun)
 
--- The runs on the model.
+-- The runs on the model, by computation.
 record Runs : Type 0 where
+  -- The first call of each run is accepted.
   pub begins : isAccepted start (release 0) ≡ true
+  -- The answers of the run that overruns.
   pub said : allModelSaid start overrun ≡ overrunSaid
+  -- Its reports are true.
   pub long-true : allTrue 0 longLengths (λ _. 0) first (drop 1 overrun) ≡ true
+  -- Its D-th tick, and that task 0 is not released again.
   pub due : isAccepted (after first beforeDue) (tick (0 ∷ 0 ∷ [])) ≡ true
   pub ticks : ticksIn first beforeDue + 1 ≡ 8
   pub unreleased : releasesIn 0 (after first (take 11 (drop 1 overrun))) (drop 12 overrun) ≡ 0
+  -- The other run has two high jobs, and the reports of both are true.
   pub jobs : releasesIn 0 start usual ≡ 2
   pub short-true : allTrue 0 shortLengths (λ _. 0) first (drop 1 usual) ≡ true
   pub short-again : allTrue 0 shortLengths (λ _. 0) (after start (take 11 usual)) (drop 11 usual) ≡ true
@@ -216,7 +222,7 @@ usual-asked =
     nominal : (m : Model) (since : List Call) → allTrue 0 shortLengths (λ _. 0) m since ≡ true → NominalJob high 0 m since
     nominal m since h = record { lengths = shortLengths; keeps = short-keeps; reports = true-reports 0 shortLengths m since h }
 
--- Both for the sheet.
+-- Both hold of the sheet, whose model this is.
 pub deadline-met : DeadlineMet
 unfolding Guarantee
 deadline-met =

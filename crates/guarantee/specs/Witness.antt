@@ -115,15 +115,21 @@ NominalAsked ts start calls =
 
 -- S10.7 is met by a job that overruns its nominal budget.
 pub record DeadlineMet : Type 0 where
+  -- Start accepts the sheet.
   pub started : startOf twoTasks .answer ≡ Accepted
   -- The run switches, and two of its calls are refused.
   pub said : allSaid (startState twoTasks) overrun ≡ overrunSaid
+  -- The job's lengths do not keep the nominal budget.
   pub beyond : KeepsBudget highTask (highTask .figures .nominal) longLengths → ⊥
+  -- All that the deadline asks holds of it.
   pub asked : InTimeAsked (modelFor twoTasks) highTask 0 overrun longLengths
 
 -- S10.9 is met by a run with two accepted releases of the high task.
 pub record NominalMet : Type 0 where
+  -- Start accepts the sheet.
   pub started : startOf twoTasks .answer ≡ Accepted
+  -- The run has jobs of a high task.
   pub high : highTask .level ≡ highLevel
   pub jobs : releasesIn 0 (modelFor twoTasks) usual ≡ 2
+  -- All that the nominal clause asks holds of it.
   pub asked : NominalAsked (tasksOf twoTasks) (modelFor twoTasks) usual
