@@ -12,13 +12,13 @@ use lib.ListN.{getD}
 use Rattle.nodes.specs.Sets.{has, range, keep, setOf}
 use Rattle.nodes.proofs.Members.{has-setOf-keep}
 use Rattle.model.specs.Step.{Model, Call, release, tick, step, rowAt}
-use Rattle.model.specs.Run.{after, isAccepted, isReleaseOf, releasesIn, isRunning, runsOn, runsIn, TrueReports}
+use Rattle.model.specs.Run.{after, isAccepted, isReleaseOf, releasesIn, isRunning, runsOn, runsIn, isDue, TrueReports}
 use Rattle.model.specs.Claim.{ReleaseIn, begun}
 use Rattle.model.proofs.Nodes.{runs-test}
 
 -- Whether node v of task i runs and its length is reached with a tick, where each node u ran on c u ticks before.
 abbrev isReached : ℕ → (ℕ → ℕ) → (ℕ → ℕ) → Model → ℕ → Bool
-isReached i len c m v = isRunning i v m && eqb (c v + 1) (len v)
+isReached i len c m v = isDue (isRunning i v m) (c v) (len v)
 
 -- The set of these nodes.
 abbrev reachedSet : ℕ → (ℕ → ℕ) → (ℕ → ℕ) → Model → ℕ
@@ -46,7 +46,7 @@ runs-only true false r t e = absurd (true≢false e)
 runs-only false false r t e = refl
 
 reached-at : (i : ℕ) (len c : ℕ → ℕ) (m : Model) (v : ℕ) → has (reachedSet i len c m) v ≡ isReached i len c m v
-unfolding isRunning
+unfolding isRunning isDue
 reached-at i len c m v =
     has-setOf-keep (isReached i len c m) (rowAt m i .fixed .nodes) v
     ∙ runs-only (isRunning i v m) (ltb v (rowAt m i .fixed .nodes)) _ _ (runs-test (m .critical) (rowAt m i) v)
@@ -67,24 +67,24 @@ true-along : (i : ℕ) (len c : ℕ → ℕ) (m : Model) (before : List Call) (r
     allTrue i len c m (before ++ tick reports ∷ rest) ≡ true →
     releasesIn i m before ≡ 0 →
     isAccepted (after m before) (tick reports) ≡ true →
-    (v : ℕ) → has (getD reports i 0) v ≡ (isRunning i v (after m before) && eqb (c v + runsIn i v m before + 1) (len v))
+    (v : ℕ) → has (getD reports i 0) v ≡ isDue (isRunning i v (after m before)) (c v + runsIn i v m before) (len v)
 true-along i len c m [] reports rest h z a v =
     let here = and-eq-true-iff (isTrue i len c m (tick reports)) _ .0 h .0 in
-    let none : c v + 1 ≡ c v + 0 + 1 = omega arith in
+    let none : c v ≡ c v + 0 = omega arith in
     ap (λ (n : ℕ). has n v) (true-here i len c m reports here a)
     ∙ reached-at i len c m v
-    ∙ ap (λ (n : ℕ). isRunning i v m && eqb n (len v)) none
+    ∙ ap (λ (n : ℕ). isDue (isRunning i v m) n (len v)) none
 true-along i len c m (x ∷ before) reports rest h z a v =
     let later = rest-true (isReleaseOf i m x) _ _ (and-eq-true-iff (isTrue i len c m x) _ .0 h .1) z in
-    let grouped : ranNext i m x c v + runsIn i v (step m x .model) before + 1 ≡ c v + runsIn i v m (x ∷ before) + 1 = omega arith in
+    let grouped : ranNext i m x c v + runsIn i v (step m x .model) before ≡ c v + runsIn i v m (x ∷ before) = omega arith in
     true-along i len (ranNext i m x c) (step m x .model) before reports rest (later .0) (later .1) a v
-    ∙ ap (λ (n : ℕ). isRunning i v (after m (x ∷ before)) && eqb n (len v)) grouped
+    ∙ ap (λ (n : ℕ). isDue (isRunning i v (after m (x ∷ before))) n (len v)) grouped
 
 pub true-reports : (i : ℕ) (len : ℕ → ℕ) (m : Model) (calls : List Call) → allTrue i len (λ _. 0) m calls ≡ true → TrueReports i len m calls
 unfolding TrueReports
 true-reports i len m calls h before reports rest e z a v =
     true-along i len (λ _. 0) m before reports rest (subst (λ (l : List Call). allTrue i len (λ _. 0) m l ≡ true) e h) z a v
-    ∙ ap (λ (n : ℕ). isRunning i v (after m before) && eqb (n + 1) (len v)) (zero-add (runsIn i v m before))
+    ∙ ap (λ (n : ℕ). isDue (isRunning i v (after m before)) n (len v)) (zero-add (runsIn i v m before))
 
 -- What a claim about jobs says at each accepted Release of a run: of the task, the model just after it, and the calls since.
 abbrev pub AtReleases : (ℕ → Model → List Call → Type 0) → Model → List Call → Type 0
