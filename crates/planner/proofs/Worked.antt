@@ -2,7 +2,7 @@
 use Prim.Native.Nat.{ℕ, zero, suc, _≤_, _<_}
 use mathlib.Core.Path.{_≡_, refl, sym}
 use mathlib.Core.Bool.{true, false, false≢true}
-use mathlib.Core.List.{List, [], _∷_}
+use mathlib.Core.List.{List, [], _∷_, _++_}
 use mathlib.Core.Option.{none, some}
 use native.Mathlib.Omega.{arith}
 use lib.Dec.{lit≤}
@@ -63,6 +63,19 @@ sheetOn M =
 abbrev pub ab : List Task
 ab = high taskA ∷ high taskB ∷ []
 
+-- Their plan: A has (1, 2) and V 9, B has (3, 4) and V 6.
+abbrev pub planAB : List ℕ
+planAB = typical ++ (critical ++ virtuals)
+  where
+    typical : List ℕ
+    typical = 0 ∷ 1 ∷ 1 ∷ 3 ∷ []
+
+    critical : List ℕ
+    critical = 0 ∷ 2 ∷ 2 ∷ 4 ∷ []
+
+    virtuals : List ℕ
+    virtuals = 9 ∷ 0 ∷ 6 ∷ 0 ∷ []
+
 -- E of S11, and A, B and E.
 abbrev pub taskE : Figures
 taskE = figures 18 66 6 66 6
@@ -114,8 +127,8 @@ pub record Worked : Type 0 where
       ≡ 0 ∷ 1 ∷ 1 ∷ 2 ∷ 0 ∷ 2 ∷ 2 ∷ 0 ∷ 88 ∷ 2 ∷ 0 ∷ 0 ∷ 7 ∷ []
   pub left-alone : planned (sheetOn 4) (replicate 11 7) ≡ replicate 11 7
   -- S11.11: A and B on 8 and on 6 processors, on 5 and on 3.
-  pub on-eight : planBytes (on 8 ab) (sharesOf (chosenFor (on 8 ab))) ≡ 0 ∷ 1 ∷ 1 ∷ 3 ∷ 0 ∷ 2 ∷ 2 ∷ 4 ∷ 9 ∷ 0 ∷ 6 ∷ 0 ∷ []
-  pub on-six : planBytes (on 6 ab) (sharesOf (chosenFor (on 6 ab))) ≡ 0 ∷ 1 ∷ 1 ∷ 3 ∷ 0 ∷ 2 ∷ 2 ∷ 4 ∷ 9 ∷ 0 ∷ 6 ∷ 0 ∷ []
+  pub on-eight : planBytes (on 8 ab) (sharesOf (chosenFor (on 8 ab))) ≡ planAB
+  pub on-six : planBytes (on 6 ab) (sharesOf (chosenFor (on 6 ab))) ≡ planAB
   pub on-five : choiceAnswer (on 5 ab) ≡ Refused 8 255
   pub on-three : choiceAnswer (on 3 ab) ≡ Refused 7 1
   -- S11.12: A, B and E on 7 processors.

@@ -1,6 +1,6 @@
--- How many ticks a job can stay alive, for any budget of work C and span L. Of its D or more ticks, f₁ are full at share a, f₂ full at
--- share b and p partial; while it is alive, p + 1 ≤ L and a·f₁ + b·f₂ + p + 1 ≤ C. Each law is linear once the products are at
--- hand.
+-- How many ticks a job can stay alive, for any budget of work C and span L. Of its D or more ticks, f₁ are full at share a, f₂
+-- full at share b and p partial; while it is alive, p + 1 ≤ L and a·f₁ + b·f₂ + p + 1 ≤ C. Each law is linear once the
+-- products are at hand.
 use Prim.Native.Nat.{ℕ, _+_, _-_, _*_, _≤_}
 use mathlib.Core.Path.{_≡_, ap}
 use native.Mathlib.Nat.{mul-le-mul-left, mul-le-mul-right}
