@@ -65,7 +65,7 @@ loop-again c =
     let loop = c .before .before .before .before .before .loop in
     let args = c .before .before .before .before .before .before .before .before .before .args in
     let f = sumAt (cellAt (now (args .row))) (entryAt (now (args .rest))) (args .t) in
-    let next : c .before .sum2 .result ≡ f (loop .a + 1) = c .before .sum2 .ensures in (
+    let next : c .before .sum2 .result ≡ f (loop .a + 1) = omega arith in (
       omega arith,
       omega arith,
       least-taken f 1 (loop .a) (loop .best) (omega arith) (loop .inv .2) (omega (arith, next, loop .inv .3)),
@@ -81,7 +81,7 @@ loop-again-2 c =
     let loop = c .before .before .before .before .before .loop in
     let args = c .before .before .before .before .before .before .before .before .before .args in
     let f = sumAt (cellAt (now (args .row))) (entryAt (now (args .rest))) (args .t) in
-    let next : c .before .sum2 .result ≡ f (loop .a + 1) = c .before .sum2 .ensures in (
+    let next : c .before .sum2 .result ≡ f (loop .a + 1) = omega arith in (
       omega arith,
       omega arith,
       least-kept f 1 (loop .a) (loop .best) (omega arith) (loop .inv .2) (omega (arith, next, loop .inv .3)),
