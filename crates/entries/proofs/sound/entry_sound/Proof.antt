@@ -1,6 +1,7 @@
 -- `entries::sound::entry_sound` meets its contract: k is tested first, and each other test is the definition's. Assumes nothing.
 use mathlib.Core.Bool.{true}
 use mathlib.Core.Path.{_≡_, sym, _∙_}
+use native.Mathlib.Omega.{arith}
 use borrow.Author.Tests.{not-true, not-false}
 use Rattle.sheet.specs.Rules.{within}
 use Rattle.entries.proofs.Soundness.{within-bounds, nodes-broken, entry-by-tests}
@@ -22,7 +23,7 @@ nodes-kept : (c : tie.Else1) → within 1 32 (c .before .before .args .e .nodes)
 nodes-kept c = sym (c .before .is-within .ensures) ∙ not-false _ (c .if1 .left)
 
 masks-lawful-requires : tie.Need-masks-lawful-requires
-masks-lawful-requires c κs = within-bounds 1 32 _ (nodes-kept (c .before .before)) .1
+masks-lawful-requires c κs = omega (arith, within-bounds 1 32 (c .before .before .before .before .args .e .nodes) (nodes-kept (c .before .before)) .1)
 
 is-within-requires-2 : tie.Need-is-within-requires-2
 is-within-requires-2 c κs = search needs
