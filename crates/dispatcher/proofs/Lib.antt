@@ -7,3 +7,4 @@ pub mod Ticks
 pub mod Boards
 pub mod Laws
 pub mod Shown
+pub mod Worked

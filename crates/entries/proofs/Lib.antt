@@ -2,3 +2,4 @@
 pub mod NodeSets
 pub mod Soundness
 pub mod Refusals
+pub mod Worked

@@ -1,0 +1,113 @@
+-- Worked facts by computation: soundness at the edge of each range, and a fresh entry.
+use Prim.Native.Nat.{ℕ}
+use mathlib.Core.Bool.{Bool, true, false}
+use mathlib.Core.List.{List, [], _∷_}
+use mathlib.Core.Path.{_≡_, refl}
+use lib.ListN.{replicate}
+use Rattle.nodes.specs.Sets.{has, range}
+use Rattle.sheet.specs.declared.task.Task.{Task}
+use Rattle.sheet.specs.Rules.{levelLawful, maskLawful, allBelow, masksLawful}
+use Rattle.shares.specs.Low.{isLow}
+use Rattle.shares.specs.Test.{virtualDeadline}
+use Rattle.shares.specs.Deadline.{virtualOf}
+use Rattle.model.specs.Row.{allEnded}
+use Rattle.entries.specs.declared.state.TaskState.{TaskState}
+use Rattle.entries.specs.Fresh.{freshEntry, zeroEntry}
+use Rattle.entries.specs.Sound.{entrySound}
+
+-- An entry with the shares (1, 2): level, k, masks, D, V, age, ended set, alive.
+abbrev entry : ℕ → ℕ → List ℕ → ℕ → ℕ → ℕ → ℕ → Bool → TaskState
+entry level nodes masks deadline threshold age ended alive =
+    record {
+      level = level;
+      nodes = nodes;
+      predecessors = masks;
+      deadline = deadline;
+      threshold = threshold;
+      share = record { typical = 1; critical = 2 };
+      age = age;
+      ended = ended;
+      alive = alive;
+    }
+
+-- Node 1 waits for node 0.
+abbrev chain : List ℕ
+chain = 0 ∷ 1 ∷ []
+
+-- Task A of S11 with two nodes.
+abbrev taskA : Task
+taskA =
+    record {
+      level = 1;
+      nodes = 2;
+      figures = record { deadline = 45; nominal = record { work = 9; span = 4 }; overload = record { work = 52; span = 20 } };
+      predecessors = chain;
+    }
+
+pub record Worked : Type 0 where
+  -- S7.2: V is at most D.
+  pub virtual-below : entrySound (entry 1 2 chain 45 9 45 0 false) ≡ true
+  pub virtual-equal : entrySound (entry 1 2 chain 45 45 45 0 false) ≡ true
+  pub virtual-above : entrySound (entry 1 2 chain 45 46 45 0 false) ≡ false
+  -- S7.2: the age is at most D.
+  pub age-zero : entrySound (entry 1 2 chain 45 9 0 0 true) ≡ true
+  pub age-above : entrySound (entry 1 2 chain 45 9 46 0 false) ≡ false
+  -- S7.2: D is from 1 to 10,000.
+  pub deadline-highest : entrySound (entry 1 2 chain 10000 9 45 0 false) ≡ true
+  pub deadline-above : entrySound (entry 1 2 chain 10001 9 45 0 false) ≡ false
+  pub deadline-lowest : entrySound (entry 1 2 chain 1 0 1 0 false) ≡ true
+  pub deadline-zero : entrySound (entry 1 2 chain 0 0 0 0 false) ≡ false
+  -- S2.7: the level is 0 or 1.
+  pub level-low : entrySound (entry 0 2 chain 45 0 45 0 false) ≡ true
+  pub level-two : entrySound (entry 2 2 chain 45 9 45 0 false) ≡ false
+  -- S2.7: k is from 1 to 32.
+  pub nodes-none : entrySound (entry 1 0 chain 45 9 45 0 false) ≡ false
+  pub nodes-most : entrySound (entry 1 32 (replicate 32 0) 45 9 45 0 false) ≡ true
+  pub nodes-above : entrySound (entry 1 33 (replicate 33 0) 45 9 45 0 false) ≡ false
+  -- S2.12: no node is its own predecessor, and none has a later one. S7.3: a mask behind the k nodes is not read.
+  pub mask-own : entrySound (entry 1 2 (0 ∷ 2 ∷ []) 45 9 45 0 false) ≡ false
+  pub mask-first : entrySound (entry 1 2 (1 ∷ 0 ∷ []) 45 9 45 0 false) ≡ false
+  pub mask-later : entrySound (entry 1 2 (2 ∷ 0 ∷ []) 45 9 45 0 false) ≡ false
+  pub mask-unread : entrySound (entry 1 2 (0 ∷ 1 ∷ 255 ∷ []) 45 9 45 0 false) ≡ true
+  -- S7.2: the ended set has nodes below k only.
+  pub ended-all : entrySound (entry 1 2 chain 45 9 45 3 false) ≡ true
+  pub ended-beyond : entrySound (entry 1 2 chain 45 9 45 4 false) ≡ false
+  -- S7.2: an alive job has a node that has not ended.
+  pub alive-some : entrySound (entry 1 2 chain 45 9 5 1 true) ≡ true
+  pub alive-none : entrySound (entry 1 2 chain 45 9 5 3 true) ≡ false
+  -- S8.1: a fresh entry has the sheet's shape, V by its share, and the age D. S7.3: the entries behind the tasks are zero.
+  pub fresh : freshEntry taskA (record { typical = 1; critical = 2 }) ≡ entry 1 2 chain 45 9 45 0 false
+  pub fresh-two : freshEntry taskA (record { typical = 2; critical = 2 }) .threshold ≡ 6
+  pub zeros : zeroEntry
+      ≡ record { level = 0; nodes = 0; predecessors = replicate 32 0; deadline = 0; threshold = 0; share = record { typical = 0; critical = 0 }; age = 0; ended = 0; alive = false }
+
+worked : Worked
+unfolding has range levelLawful maskLawful allBelow masksLawful isLow virtualDeadline virtualOf allEnded freshEntry zeroEntry entrySound
+worked =
+    record {
+      virtual-below = refl;
+      virtual-equal = refl;
+      virtual-above = refl;
+      age-zero = refl;
+      age-above = refl;
+      deadline-highest = refl;
+      deadline-above = refl;
+      deadline-lowest = refl;
+      deadline-zero = refl;
+      level-low = refl;
+      level-two = refl;
+      nodes-none = refl;
+      nodes-most = refl;
+      nodes-above = refl;
+      mask-own = refl;
+      mask-first = refl;
+      mask-later = refl;
+      mask-unread = refl;
+      ended-all = refl;
+      ended-beyond = refl;
+      alive-some = refl;
+      alive-none = refl;
+      fresh = refl;
+      fresh-two = refl;
+      zeros = refl;
+    }
