@@ -1,5 +1,6 @@
--- What Release and Tick keep: a sound state stays sound and answers as the model does, the state after a call holds the model after its
--- step, a refused call hands back an equal state, and entries from n on are handed back. From the model's laws, entry by entry.
+-- What Release and Tick keep: a sound state stays sound and answers as the model does, the state after a call holds the model
+-- after its step, a refused call hands back an equal state, and entries behind the tasks come back as they were. From the model's
+-- laws, entry by entry.
 use Prim.Native.Nat.{ℕ, zero, suc, _+_, _≤_, _<_}
 use mathlib.Core.Path.{_≡_, refl, sym, ap, ap₂, subst, _∙_}
 use mathlib.Core.Bool.{Bool, true, false, cond, not, _&&_, true≢false, and-eq-true-iff}
@@ -135,7 +136,7 @@ module _ (s : State) (sound : isSound s ≡ true) (c : Call) where
   pub step-sound : isSound stepped ≡ true
   step-sound = sound-state stepped (facts-kept (state-facts s sound))
 
--- A sound state stays sound under Release and Tick.
+-- S7.2: a sound state stays sound under Release and Tick.
 pub release-sound : (s : State) (i : ℕ) → isSound s ≡ true → isSound (releaseOf s i .state) ≡ true
 unfolding releaseOf
 release-sound s i sound = rw sound (step-sound s sound (release i))
@@ -144,7 +145,7 @@ pub tick-sound : (s : State) (reports : List ℕ) → isSound s ≡ true → isS
 unfolding tickOf
 tick-sound s reports sound = rw sound (step-sound s sound (tick reports))
 
--- A call on a sound state answers as the model does.
+-- S10.3: a call on a sound state answers as the model does.
 pub release-answered : (s : State) (i : ℕ) → isSound s ≡ true → releaseOf s i .answer ≡ releaseAnswer (step (modelOf s) (release i) .answer)
 unfolding releaseOf
 release-answered s i sound = rw sound
@@ -153,7 +154,7 @@ pub tick-answered : (s : State) (reports : List ℕ) → isSound s ≡ true → 
 unfolding tickOf
 tick-answered s reports sound = rw sound
 
--- The state after a call holds the model after its step.
+-- S10.3: the state after a call holds the model after its step.
 pub release-model : (s : State) (i : ℕ) → isSound s ≡ true → modelOf (releaseOf s i .state) ≡ step (modelOf s) (release i) .model
 unfolding releaseOf
 release-model s i sound = rw sound (step-model s sound (release i))
@@ -162,7 +163,7 @@ pub tick-model : (s : State) (reports : List ℕ) → isSound s ≡ true → mod
 unfolding tickOf
 tick-model s reports sound = rw sound (step-model s sound (tick reports))
 
--- A refused call hands back an equal state.
+-- S3.4: a refused call hands back an equal state.
 pub release-back : (s : State) (i : ℕ) {number task : ℕ} → releaseOf s i .answer ≡ Refused number task → releaseOf s i .state ≡ s
 unfolding releaseOf step released
 release-back s i {number} {task} refused = go (isSound s) (releaseRefusal (modelOf s) i) refused
@@ -194,7 +195,7 @@ tick-back s reports {number} {task} refused = go (isSound s) (tickRefusal (model
     go true (some r) e = model-own s
     go false o e = refl
 
--- Entries from n on are handed back, whatever the state.
+-- S7.3: entries behind the tasks come back as they were, whatever the state.
 step-rest : (s : State) (c : Call) → drop (s .count) (withModel s (step (modelOf s) c .model) .entries) ≡ drop (s .count) (s .entries)
 unfolding withModel modelOf entriesOf
 step-rest s c =

@@ -1,4 +1,4 @@
--- Release on a state, row by row, and the state that it leaves.
+-- Release on a state, refusal by refusal, and the state that it leaves.
 use Prim.Native.Nat.{ℕ, _≤_, _<_}
 use mathlib.Core.Path.{_≡_, refl, sym, ap, _∙_}
 use mathlib.Core.Bool.{Bool, true, false, cond, not, _&&_, _||_, Bool·not-not}
@@ -25,7 +25,7 @@ use Rattle.dispatcher.specs.Calls.{releasedBy, releaseOf}
 use Rattle.dispatcher.proofs.Entries.{entryAt}
 use Rattle.dispatcher.proofs.Rows.{model-own, model-length, model-row, rows-set}
 
--- Rows in order, as the model has them and as the code does.
+-- Refusals in order, as the model has them and as the code does.
 in-order : (a b : Bool) (i : ℕ) → refusalAnswer (cond a (refusal lowInCritical i) (cond b (refusal tooEarly i) none)) ≡ (refusedIf a lowInCritical i orElse refusedIf b tooEarly i)
 in-order true b i = refl
 in-order false true i = refl
@@ -37,7 +37,7 @@ no-refusal none e = refl
 no-refusal (some r) e = let never : _≡_ {A = ℕ} 0 1 = cc in absurd (omega arith)
 
 module _ (s : State) (i : ℕ) (long : s .count ≤ length (s .entries)) where
-  -- Row 11.
+  -- Refusal 11.
   pub unknown : s .count ≤ i → refusalAnswer (releaseRefusal (modelOf s) i) ≡ Refused 11 255
   unfolding releaseRefusal unknownTask
   unknown h = rw (model-length s long, le-leb (s .count) i h)
@@ -49,7 +49,7 @@ module _ (s : State) (i : ℕ) (long : s .count ≤ length (s .entries)) where
   unfolding modelOf rowOf fixedOf jobOf
   entry-rows e = in-order (s .critical && not (isHigh (fixedOf e))) (e .alive || ltb (e .age) (e .deadline)) i
 
-  -- Rows 12 and 13.
+  -- Refusals 12 and 13.
   pub known : i < s .count
       → refusalAnswer (releaseRefusal (modelOf s) i)
       ≡ (refusedIf (s .critical && not (isHigh (fixedOf (entryAt s i)))) lowInCritical i

@@ -1,4 +1,4 @@
--- What the board shows: each running node once, in its task's block, and 255, 255 elsewhere. Pair by pair, block by block.
+-- What the board shows (S8.8): each running node once, in its task's block, and 255, 255 elsewhere. Pair by pair, block by block.
 use Prim.Native.Nat.{ℕ, zero, suc, _+_, _-_, _*_, _≤_, _<_}
 use mathlib.Core.Path.{_≡_, refl, sym, ap, _∙_}
 use mathlib.Core.Bool.{Bool, true}
@@ -104,7 +104,7 @@ rises-between (v ∷ vs) low k j zero r h b = absurd (omega arith)
 rises-between (v ∷ vs) low k zero (suc l) r h b = rises-at vs (suc v) k l (r .2) (omega arith)
 rises-between (v ∷ vs) low k (suc j) (suc l) r h b = rises-between vs (suc v) k j l (r .2) (omega arith) (omega arith)
 
--- What the board of a state shows.
+-- S8.8: what the board of a state shows.
 pub record BoardShows (s : State) (bytes : List ℕ) : Type 0 where
   -- It has M pairs.
   pub size : length bytes ≡ 2 * s .processors

@@ -59,7 +59,7 @@ cond-not : {A : Type 0} (t : Bool) (a b : A) → cond t a b ≡ cond (not t) b a
 cond-not true a b = refl
 cond-not false a b = refl
 
--- Row 15 put to the tasks from i on.
+-- Refusal 15 put to the tasks from i on.
 unfoldable pub reportsFrom : State → List ℕ → ℕ → Option Refusal
 reportsFrom s reports i = reportRefusal (s .critical) i (map rowOf (drop i (entriesOf s))) (drop i reports)
 
@@ -227,7 +227,7 @@ module _ (s : State) (reports : List ℕ) where
   unfolding tickOf step ticked modelOf
   tick-accepted sound accepted = rw (sound, accepted)
 
--- Row 14.
+-- Refusal 14.
 wrong-count : (s : State) (reports : List ℕ) → s .count ≤ length (s .entries) → (length reports ≡ s .count → ⊥)
     → tickRefusal (modelOf s) reports ≡ refusal wrongCount noTask
 unfolding tickRefusal

@@ -1,4 +1,4 @@
--- The answers of the state calls, and their numbers in 01, "Refusals by cause".
+-- What the state calls answer (S3.1, S8.7), and the refusals that the model does not know (S9).
 use Prim.Native.Nat.{ℕ}
 use mathlib.Core.Option.{Option, none, some}
 use mathlib.Core.Path.{_≡_}
@@ -9,41 +9,40 @@ use Rattle.model.specs.Step.{Refusal, Answer as ModelAnswer, accepted, ran, swi
 use Rattle.dispatcher.specs.declared.tick.TickAnswer.{TickAnswer}
 use Rattle.dispatcher.specs.declared.tick.TickAnswer.the-variants.{Ran, Switched, Refused as TickRefused}
 
--- Row 10: state not sound.
+-- S9.10: the state is not sound.
 abbrev pub notSound : ℕ
 notSound = 10
 
--- Row 16: Board: buffer not 2M.
+-- S9.16: Board's buffer has another length than the board.
 abbrev pub wrongLength : ℕ
 wrongLength = 16
 
--- What a refusal of the model, if there is one, is as an answer.
+-- S3.1: the answer where the model meets this refusal, or none.
 abbrev pub refusalAnswer : Option Refusal → Answer
 refusalAnswer none = Accepted
 refusalAnswer (some r) = Refused (r .number) (r .task)
 
--- Release's answer. 01: "Accepted calls answer 0, 255", as `numberOf` and `taskOf` of an Answer say; the model answers a Release by
--- the first or the last of its cases.
+-- S3.1: Release's answer. The model answers a Release by the first or the last of its cases; the others are there to be complete.
 abbrev pub releaseAnswer : ModelAnswer → Answer
 releaseAnswer accepted = Accepted
 releaseAnswer ran = Accepted
 releaseAnswer (switched task) = Accepted
 releaseAnswer (refused r) = Refused (r .number) (r .task)
 
--- Tick's answer. 01, Dispatch: "one of: ran, switched (with the lowest such task), refused (number, task)".
+-- S8.7: Tick's answer. The model never answers a Tick by the first of its cases.
 abbrev pub tickAnswer : ModelAnswer → TickAnswer
 tickAnswer accepted = Ran
 tickAnswer ran = Ran
 tickAnswer (switched task) = Switched task
 tickAnswer (refused r) = TickRefused (r .number) (r .task)
 
--- The number of a tick's answer: 0 unless it was refused.
+-- S8.7: the number of a tick's answer: 0 unless it was refused.
 abbrev pub tickNumber : TickAnswer → ℕ
 tickNumber Ran = 0
 tickNumber (Switched task) = 0
 tickNumber (TickRefused number task) = number
 
--- The task of a tick's answer: the lowest late one of a switch, the one that a refusal names, else none.
+-- S8.7: the task of a tick's answer: that of a switch, that of a refusal, and else 255.
 abbrev pub tickTask : TickAnswer → ℕ
 tickTask Ran = noTask
 tickTask (Switched task) = task

@@ -1,4 +1,4 @@
--- 01, Board: which node each processor runs, as M pairs of bytes.
+-- S8.8: Board. Which node each processor runs, as M pairs of bytes.
 use Prim.Native.Nat.{ℕ, suc, _-_, _*_}
 use mathlib.Core.Bool.{Bool, not}
 use mathlib.Core.List.{List, [], _∷_, _++_}
@@ -16,49 +16,49 @@ use Rattle.dispatcher.specs.Holds.{modelOf, sharesOf}
 use Rattle.dispatcher.specs.Sound.{isSound}
 use Rattle.dispatcher.specs.Answers.{notSound, wrongLength}
 
--- 01, Board: a byte of "255, 255".
+-- S8.8: a byte of a processor that runs nothing.
 abbrev pub unused : ℕ
 unused = 255
 
--- 01, Board: "all else is 255, 255": the pairs of processors that run nothing.
+-- S8.8: the pairs of so many processors that run nothing.
 unfoldable pub idle : ℕ → List ℕ
 idle processors = replicate (2 * processors) unused
 
--- 01, Board: pairs (task u8, node u8), one for each of a task's nodes.
+-- S8.8: a pair of task and node for each of these nodes of a task.
 abbrev pub pairsOf : ℕ → List ℕ → List ℕ
 pairsOf task [] = []
 pairsOf task (v ∷ nodes) = task ∷ v ∷ pairsOf task nodes
 
--- 01, Board: "A task's running nodes, lowest first, fill its block from the front". The block is as long as the share.
+-- S8.8: a task's block, as long as its share (S5.4): the running nodes, and behind them processors that run nothing.
 unfoldable pub block : Bool → ℕ → Row → List ℕ
 block critical task r =
     pairsOf task (running critical r) ++ idle (shareIn critical (r .fixed .share) - length (running critical r))
 
--- 01, Shares: "Task i's block starts, in each state, at the sum of the shares before it": the blocks, from task i on.
+-- S5.4: the blocks of these tasks, one behind the other; the first is task i.
 abbrev pub blocks : Bool → ℕ → List Row → List ℕ
 blocks critical i [] = []
 blocks critical i (r ∷ rows) = block critical i r ++ blocks critical (suc i) rows
 
--- 01, Board: the 2M bytes: the blocks, and 255, 255 for the processors behind them.
+-- S8.8: the board: the blocks, and the processors behind all of them.
 unfoldable pub boardBytes : ℕ → Model → List ℕ
 boardBytes processors m =
     blocks (m .critical) 0 (m .rows) ++ idle (processors - shareTotal (m .critical) (sharesOf (m .rows)))
 
--- 01, Board: rows 10 and 16, for a buffer of so many bytes.
+-- S9.10, S9.16: Board's answer, where the buffer has so many bytes.
 unfoldable pub boardAnswer : State → ℕ → Answer
 boardAnswer s bytes =
     refusedIf (not (isSound s)) notSound noTask
     orElse refusedIf (not (eqb bytes (2 * s .processors))) wrongLength noTask
 
--- 01, Board: the answer, and the state as it came.
+-- S8.8: what Board returns. The state is the one that was handed in.
 unfoldable pub boardedOf : State → ℕ → Boarded
 boardedOf s bytes = record { state = s; answer = boardAnswer s bytes }
 
--- What an answer leaves in the buffer: the board if accepted, all as it was if refused.
+-- S3.4: what an answer leaves in the buffer: the board if accepted, each byte as it was if refused.
 abbrev pub boardLeft : Answer → State → List ℕ → List ℕ
 boardLeft Accepted s buffer = boardBytes (s .processors) (modelOf s)
 boardLeft (Refused number task) s buffer = buffer
 
--- 01, Board: the buffer after the call.
+-- S8.8: the buffer after the call.
 unfoldable pub boardOf : State → List ℕ → List ℕ
 boardOf s buffer = boardLeft (boardAnswer s (length buffer)) s buffer

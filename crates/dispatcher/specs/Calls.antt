@@ -1,4 +1,4 @@
--- Release and Tick on a state: refusal 10 if it is not sound, else the model's step put back.
+-- Release and Tick on a state: refusal 10 if it is not sound (S9.10), else the model's step (S10.2) put back.
 use Prim.Native.Nat.{ℕ}
 use mathlib.Core.Bool.{cond}
 use mathlib.Core.List.{List}
@@ -13,22 +13,22 @@ use Rattle.dispatcher.specs.Holds.{modelOf, withModel}
 use Rattle.dispatcher.specs.Sound.{isSound}
 use Rattle.dispatcher.specs.Answers.{notSound, releaseAnswer, tickAnswer}
 
--- The model's step of a Release, put back into the state.
+-- S10.3: the model's step of a Release, put back into the state.
 abbrev pub releasedBy : State → Step → Released
 releasedBy s t = record { state = withModel s (t .model); answer = releaseAnswer (t .answer) }
 
--- 01, Release(i): row 10, then the model's rows 11 to 13 and its step. A refused call hands the state back.
+-- S8.4: Release of task i. The model's step has refusals 11 to 13; a step that is refused puts back what was there (S3.4).
 unfoldable pub releaseOf : State → ℕ → Released
 releaseOf s i =
     cond (isSound s)
     (releasedBy s (step (modelOf s) (release i)))
     (record { state = s; answer = Refused notSound noTask })
 
--- The model's step of a Tick, put back into the state.
+-- S10.3: the model's step of a Tick, put back into the state.
 abbrev pub tickedBy : State → Step → Ticked
 tickedBy s t = record { state = withModel s (t .model); answer = tickAnswer (t .answer) }
 
--- 01, Tick(reports): row 10, then the model's rows 14 and 15 and its step. A refused call hands the state back.
+-- S8.5 to S8.7: Tick with these reports. The model's step has refusals 14 and 15, and the switch.
 unfoldable pub tickOf : State → List ℕ → Ticked
 tickOf s reports =
     cond (isSound s)

@@ -1,4 +1,4 @@
--- 01, Dispatch: "A state is sound if ..": one test for each part of the sentence.
+-- S7.2: when a state is sound.
 use mathlib.Core.Bool.{Bool, true, _&&_}
 use mathlib.Core.List.{List, [], _∷_}
 use lib.Dec.{leb}
@@ -9,13 +9,12 @@ use Rattle.entries.specs.Sound.{entrySound}
 use Rattle.dispatcher.specs.declared.state.State.{State}
 use Rattle.dispatcher.specs.Holds.{entriesOf, modelOf, sharesOf}
 
--- Whether every entry is sound.
+-- S7.2: whether each of these entries is sound.
 abbrev pub entriesSound : List TaskState → Bool
 entriesSound [] = true
 entriesSound (e ∷ entries) = entrySound e && entriesSound entries
 
--- 01, Dispatch: a state is sound if M and n keep the sheet's ranges, each entry that is read is sound, and "each state's shares
--- total at most M".
+-- S7.2: M, n, the entries of the tasks, and what the shares total in each mode.
 unfoldable pub isSound : State → Bool
 isSound s =
     within 1 64 (s .processors)

@@ -1,4 +1,4 @@
-// Board.
+// S8.8: Board.
 ghost use mathlib.Core.Path.{_≡_};
 ghost use mathlib.Core.Bool.{true};
 ghost use Prim.Native.Nat.{_+_, _*_, _≤_};
@@ -21,13 +21,13 @@ const WRONG_LENGTH: u8 = 16;
 
 const UNUSED: u8 = 255;
 
-// Board's answer beside the state.
+// Board's answer beside the state, which comes back as it is.
 pub struct Boarded {
     pub state: State,
     pub answer: Answer,
 }
 
-// Sets every byte to 255.
+// S8.8: a board on which nothing runs.
 fn clear(buffer: &mut [u8])
     ensures { λ _. ⌜ now (buffer .exit) ≡ replicate (length (now (buffer .entry))) unused ⌝ }
 {
@@ -38,7 +38,7 @@ fn clear(buffer: &mut [u8])
     }
 }
 
-// Writes a pair for each of a task's nodes, lowest first, from a place on.
+// S8.8: a pair for each of a task's nodes, lowest first, from a place on.
 fn put_nodes(buffer: &mut [u8], at: usize, task: u8, nodes: u32)
     requires { ⌜ at + 2 * length (members 32 nodes) ≤ length (now buffer) ⌝ }
     ensures { λ _. ⌜ now (buffer .exit) ≡ sets (now (buffer .entry)) at (pairsOf task (members 32 nodes)) ⌝ }
@@ -54,7 +54,7 @@ fn put_nodes(buffer: &mut [u8], at: usize, task: u8, nodes: u32)
     }
 }
 
-// Writes each task's running nodes to the front of its block, on a board that shows nothing.
+// S8.8: each task's running nodes, at the front of its block (S5.4), on a board that shows nothing.
 fn put_tasks(buffer: &mut [u8], state: State)
     requires { ⌜ (isSound state ≡ true) × (now buffer ≡ idle (state .processors)) ⌝ }
     ensures { λ _. ⌜ now (buffer .exit) ≡ boardBytes (state .processors) (modelOf state) ⌝ }
@@ -70,7 +70,7 @@ fn put_tasks(buffer: &mut [u8], state: State)
     }
 }
 
-// Board: writes the 2M bytes that show which node each processor runs; a refusal writes nothing. The state comes back as it is.
+// S8.8: writes the 2M bytes that show which node each processor runs. S3.4: a refusal writes nothing.
 pub fn board(state: State, buffer: &mut [u8]) -> Boarded
     ensures answered { λ r. ⌜ r ≡ boardedOf state (length (now (buffer .entry))) ⌝ }
     ensures says { λ r. ⌜ Says (r .answer) (numberOf (boardedOf state (length (now (buffer .entry))) .answer)) (taskOf (boardedOf state (length (now (buffer .entry))) .answer)) ⌝ }

@@ -1,4 +1,4 @@
-// The dispatcher: a state by value, and the calls Release, Tick and Board on it.
+// The dispatcher: a state by value (S7), and the calls Release, Tick and Board on it (S8).
 pub mod board;
 pub mod release;
 mod sound;

@@ -1,4 +1,4 @@
-// Release.
+// S8.4: Release.
 ghost use mathlib.Core.Path.{_≡_};
 ghost use mathlib.Core.Bool.{true};
 ghost use Rattle.sheet.specs.Answers.{numberOf, taskOf, Says};
@@ -17,13 +17,13 @@ use sheet::answer::NO_TASK;
 
 const UNKNOWN_TASK: u8 = 11;
 
-// Release's answer beside the state.
+// Release's answer beside the state that it returns.
 pub struct Released {
     pub state: State,
     pub answer: Answer,
 }
 
-// Rows 11 to 13.
+// Refusals 11 to 13 (S9), the first that holds.
 fn release_answer(state: State, task: usize) -> Answer
     requires { ⌜ isSound state ≡ true ⌝ }
     ensures { λ r. ⌜ r ≡ refusalAnswer (releaseRefusal (modelOf state) task) ⌝ }
@@ -35,7 +35,7 @@ fn release_answer(state: State, task: usize) -> Answer
     entry_answer(e, state.critical, task as u8)
 }
 
-// Release: begins a job of a task. A refused call hands the state back.
+// S8.4: begins a job of a task. S3.4: a refused call hands the state back.
 pub fn release(state: State, task: usize) -> Released
     ensures whole { λ r. ⌜ r ≡ releaseOf state task ⌝ }
     ensures says { λ r. ⌜ Says (r .answer) (numberOf (releaseOf state task .answer)) (taskOf (releaseOf state task .answer)) ⌝ }

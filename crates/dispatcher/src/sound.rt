@@ -1,4 +1,4 @@
-// Soundness of a state.
+// S7.2: soundness of a state.
 ghost use mathlib.Core.Path.{_≡_};
 ghost use mathlib.Core.Bool.{_&&_};
 ghost use Prim.Native.Nat.{_≤_};
@@ -13,7 +13,7 @@ use sheet::rules::is_within;
 
 pub const NOT_SOUND: u8 = 10;
 
-// Whether each of the first n entries is sound, and their shares total at most M in either mode.
+// S7.2: whether each of the first n entries is sound and their shares fit M processors in either mode.
 fn entries_sound(state: State) -> bool
     requires { ⌜ state .count ≤ 16 ⌝ }
     ensures { λ r. ⌜ r ≡ (entriesSound (entriesOf state) && leb (typicalTotal (sharesOf (modelOf state .rows))) (state .processors) && leb (criticalTotal (sharesOf (modelOf state .rows))) (state .processors)) ⌝ }
@@ -35,14 +35,14 @@ fn entries_sound(state: State) -> bool
     (typical <= processors) & (critical <= processors)
 }
 
-// Whether M and n are in range.
+// S2.1, S2.2: whether M and n are in their ranges.
 pub fn ranges_kept(processors: u8, count: u8) -> bool
     ensures { λ r. ⌜ r ≡ (within 1 64 processors && within 1 16 count) ⌝ }
 {
     is_within(1, 64, processors as u32) & is_within(1, 16, count as u32)
 }
 
-// Whether the state is sound.
+// S7.2: whether the state is sound.
 pub fn is_sound(state: State) -> bool
     ensures { λ r. ⌜ r ≡ isSound state ⌝ }
 {

@@ -1,7 +1,7 @@
-// The dispatcher's state, by value.
+// S7.1: the dispatcher's state, by value.
 use entries::state::TaskState;
 
-// The processors (01's M), the number of tasks (01's n), the mode (01's standing state), and the line of sixteen entries.
+// S7.1: `processors` is M and `count` is n; the mode is typical or critical; tasks have the first n of the sixteen entries.
 pub struct State {
     pub processors: u8,
     pub count: u8,

@@ -1,4 +1,4 @@
-// Tick.
+// S8.5, S8.6: Tick.
 ghost use mathlib.Core.Path.{_≡_};
 ghost use mathlib.Core.Bool.{true, cond};
 ghost use mathlib.Core.List.{map};
@@ -27,20 +27,20 @@ const WRONG_COUNT: u8 = 14;
 
 const NOT_RUNNING: u8 = 15;
 
-// What a tick answers: it ran, it switched with the lowest late task, or it was refused with 01's number and task.
+// S8.7: a tick ran, it switched for a task, or it was refused with a number and a task.
 pub enum TickAnswer {
     Ran,
     Switched(u8),
     Refused(u8, u8),
 }
 
-// A tick's answer beside the state.
+// A tick's answer beside the state that it returns.
 pub struct Ticked {
     pub state: State,
     pub answer: TickAnswer,
 }
 
-// The state turned critical: low jobs are dropped.
+// S8.6: the state turned critical, without the jobs of low tasks.
 fn switched_all(state: State) -> State
     requires { ⌜ state .count ≤ 16 ⌝ }
     ensures { λ r. ⌜ r ≡ withModel state (record { critical = true; rows = map switchedRow (modelOf state .rows) }) ⌝ }
@@ -57,7 +57,7 @@ fn switched_all(state: State) -> State
     next
 }
 
-// The number of the refusal where the reports are not one for each task: row 10, or else row 14.
+// S9.10, S9.14: the number of the refusal where the reports are not one for each task. Soundness comes first.
 fn miscounted(state: State) -> u8
     ensures { λ r. ⌜ r ≡ cond (isSound state) wrongCount notSound ⌝ }
 {
@@ -68,7 +68,7 @@ fn miscounted(state: State) -> u8
     }
 }
 
-// A refusal beside the state as it came.
+// S3.4: a refusal beside the state as it came.
 fn refused(state: State, number: u8, task: u8) -> Ticked
     ensures { λ r. ⌜ r ≡ (record { state = state; answer = TickAnswer.Refused number task }) ⌝ }
 {
@@ -78,8 +78,8 @@ fn refused(state: State, number: u8, task: u8) -> Ticked
     }
 }
 
-// Tick: the reported nodes end, the ages grow, and the mode may turn critical. A refused call hands the state back. The tasks are
-// passed once: soundness, reports and each task's part of the tick.
+// S8.5 to S8.7: the reported nodes end, the ages grow, and the mode may turn critical. S3.4: a refused call hands the state back.
+// The tasks are passed once: soundness, reports and each task's part of the tick.
 pub fn tick(state: State, reports: &[u32]) -> Ticked
     ensures whole { λ r. ⌜ r ≡ tickOf state (now (reports .entry)) ⌝ }
     ensures says { λ r. ⌜ TickSays (r .answer) (tickNumber (tickOf state (now (reports .entry)) .answer)) (tickTask (tickOf state (now (reports .entry)) .answer)) ⌝ }

@@ -5,7 +5,7 @@ use mathlib.Core.Bool.{Bool, not, Bool·not-not}
 use Rattle.sheet.specs.declared.answer.Answer.{Answer}
 use Rattle.sheet.specs.Answers.{refusedIf, _orElse_}
 
--- Two rows whose causes the code tests by their opposites.
-pub two-rows : (a b : Bool) (n m i : ℕ) (first later whole : Answer) → first ≡ refusedIf (not (not a)) n i → later ≡ refusedIf (not (not b)) m i
+-- The code tests each of the two by its opposite.
+pub two-causes : (a b : Bool) (n m i : ℕ) (first later whole : Answer) → first ≡ refusedIf (not (not a)) n i → later ≡ refusedIf (not (not b)) m i
     → whole ≡ (first orElse later) → whole ≡ (refusedIf a n i orElse refusedIf b m i)
-two-rows a b n m i first later whole f l w = w ∙ rw (f, l, Bool·not-not a, Bool·not-not b)
+two-causes a b n m i first later whole f l w = w ∙ rw (f, l, Bool·not-not a, Bool·not-not b)

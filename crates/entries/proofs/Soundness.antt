@@ -15,7 +15,7 @@ use Rattle.model.specs.Row.{allEnded}
 use Rattle.entries.specs.declared.state.TaskState.{TaskState}
 use Rattle.entries.specs.Sound.{entrySound}
 
--- Tests in a row that all hold.
+-- Eight tests that all hold.
 pub record All (a b c d e f g h : Bool) : Type 0 where
   pub first : a ≡ true
   pub second : b ≡ true

@@ -2,7 +2,7 @@
 use Rattle.model.specs.Row.{Fixed, Job, Row}
 use Rattle.entries.specs.declared.state.TaskState.{TaskState}
 
--- 01, Dispatch: an entry's level, k, masks, D, V and both shares.
+-- S7.1: what the sheet and the plan fix of a task; the entry calls V its threshold.
 unfoldable pub fixedOf : TaskState → Fixed
 fixedOf e =
     record {
@@ -14,15 +14,15 @@ fixedOf e =
       share = e .share;
     }
 
--- 01, Dispatch: an entry's age, the set of ended nodes and whether a job is alive.
+-- S7.1: what calls change of it.
 unfoldable pub jobOf : TaskState → Job
 jobOf e = record { age = e .age; ended = e .ended; alive = e .alive }
 
--- An entry as a row of the model.
+-- S10.2: an entry as a task's row of the model.
 unfoldable pub rowOf : TaskState → Row
 rowOf e = record { fixed = fixedOf e; job = jobOf e }
 
--- The entry with another job, and all else as it was.
+-- The entry with another job. What is fixed stays, and so do the masks behind the k nodes (S7.3).
 unfoldable pub withJob : TaskState → Job → TaskState
 withJob e job =
     record {

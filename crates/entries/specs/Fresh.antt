@@ -1,4 +1,4 @@
--- A fresh entry, and one of zeros.
+-- S8.1: a fresh entry, and one of zeros.
 use mathlib.Core.Bool.{false}
 use lib.ListN.{replicate}
 use Rattle.sheet.specs.declared.task.Task.{Task}
@@ -7,7 +7,7 @@ use Rattle.shares.specs.Deadline.{virtualOf}
 use Rattle.shares.specs.Totals.{noProcessors}
 use Rattle.entries.specs.declared.state.TaskState.{TaskState}
 
--- A fresh entry: what the sheet and the plan give the task; no job alive, no node ended, age = D.
+-- S8.1: the task's part of the sheet, its shares and its V, without a job, and as old as D.
 unfoldable pub freshEntry : Task → Share → TaskState
 freshEntry t s =
     record {
@@ -22,7 +22,7 @@ freshEntry t s =
       alive = false;
     }
 
--- 01: "Entries from n on, and an entry's masks from node k on, are unread and handed back; Start sets them to zero."
+-- S7.3: what Start puts where no task stands.
 unfoldable pub zeroEntry : TaskState
 zeroEntry =
     record {

@@ -1,4 +1,4 @@
--- When an entry is sound: one test for each part of the clause.
+-- S7.2: when an entry is sound, one test for each part of the clause.
 use Prim.Native.Nat.{_^_}
 use mathlib.Core.Bool.{Bool, not, _&&_}
 use lib.Dec.{leb, ltb}
@@ -6,8 +6,8 @@ use Rattle.sheet.specs.Rules.{within, levelLawful, figureLimit, masksLawful}
 use Rattle.model.specs.Row.{allEnded}
 use Rattle.entries.specs.declared.state.TaskState.{TaskState}
 
--- 01, Dispatch, of one entry: "levels, k and masks keep the sheet's ranges; each D is in 1 to 10,000; V ≤ D; .. age ≤ D; ended sets
--- name only nodes below k; an alive job has a node not ended".
+-- S7.2, of one entry, in the clause's order. An ended set without a node from k on is a number below 2 to the power of k; and no
+-- alive job has ended all its nodes.
 unfoldable pub entrySound : TaskState → Bool
 entrySound e =
     levelLawful (e .level)

@@ -1,4 +1,4 @@
-// One entry: its ready and running nodes, and what the calls make of it.
+// One entry: its ready and running nodes (S8.2, S8.3), and what Release and Tick make of it (S8.4 to S8.6).
 ghost use mathlib.Core.Path.{_≡_};
 ghost use mathlib.Core.List.{[]};
 ghost use Prim.Native.Nat.{suc, min, _≤_, _<_};
@@ -10,7 +10,7 @@ use crate::state::TaskState;
 
 pub const HIGH: u8 = 1;
 
-// Whether all nodes have ended.
+// S8.5: whether all nodes have ended.
 pub fn all_ended(nodes: u8, ended: u32) -> bool
     requires { ⌜ nodes ≤ 32 ⌝ }
     ensures { λ r. ⌜ r ≡ allEnded nodes ended ⌝ }
@@ -18,7 +18,7 @@ pub fn all_ended(nodes: u8, ended: u32) -> bool
     nodes::is_within(nodes::full(nodes as u32), ended)
 }
 
-// Whether all predecessors of a node have ended.
+// S8.2: whether all predecessors of a node have ended.
 fn is_unblocked(predecessors: u32, ended: u32) -> bool
     ensures { λ r. ⌜ r ≡ isSubset predecessors ended ⌝ }
 {
@@ -33,7 +33,7 @@ fn node_if(kept: bool, v: u32) -> u32
     if kept { 1 << v } else { 0 }
 }
 
-// The ready nodes, as a set: of an alive job those whose predecessors have all ended, less the ended ones.
+// S8.2: the ready nodes, as a set: none without an alive job, else those that wait for no node, less the ended ones.
 fn ready(e: TaskState) -> u32
     requires { ⌜ e .nodes ≤ 32 ⌝ }
     ensures { λ r. ⌜ r ≡ setOf (ready (rowOf e)) ⌝ }
@@ -53,7 +53,7 @@ fn ready(e: TaskState) -> u32
     set - (set & e.ended)
 }
 
-// The share in the standing mode.
+// S8.3: the share that the mode allows.
 pub fn share_in(e: TaskState, critical: bool) -> u8
     ensures { λ r. ⌜ r ≡ shareIn critical (e .share) ⌝ }
 {
@@ -64,7 +64,7 @@ pub fn share_in(e: TaskState, critical: bool) -> u8
     }
 }
 
-// The running nodes, as a set.
+// S8.3: the running nodes, as a set.
 pub fn running(e: TaskState, critical: bool) -> u32
     requires { ⌜ e .nodes ≤ 32 ⌝ }
     ensures { λ r. ⌜ r ≡ runningSet critical (rowOf e) ⌝ }
@@ -72,7 +72,7 @@ pub fn running(e: TaskState, critical: bool) -> u32
     nodes::lowest(ready(e), share_in(e, critical) as u32)
 }
 
-// The entry after a Release.
+// S8.4: the entry with a job that begins.
 pub fn released(e: TaskState) -> TaskState
     ensures { λ r. ⌜ r ≡ withJob e (releasedRow (rowOf e) .job) ⌝ }
 {
@@ -83,14 +83,14 @@ pub fn released(e: TaskState) -> TaskState
     next
 }
 
-// The age after a tick: it grows by 1, up to the deadline.
+// S8.5: the age one tick on; D is the most that it gets to.
 fn older(age: u32, deadline: u32) -> u32
     ensures { λ r. ⌜ r ≡ min (suc age) deadline ⌝ }
 {
     if age < deadline { age + 1 } else { deadline }
 }
 
-// The entry after its part of a tick.
+// S8.5: the entry after its part of a tick.
 pub fn ticked(e: TaskState, report: u32) -> TaskState
     requires { ⌜ e .nodes ≤ 32 ⌝ }
     ensures { λ r. ⌜ r ≡ withJob e (tickedRow (rowOf e) report .job) ⌝ }
@@ -103,14 +103,14 @@ pub fn ticked(e: TaskState, report: u32) -> TaskState
     next
 }
 
-// Whether the entry has an alive high job that has reached its threshold.
+// S8.6: whether an alive job of a high task is as old as V, or older.
 pub fn is_late(e: TaskState) -> bool
     ensures { λ r. ⌜ r ≡ isLate (rowOf e) ⌝ }
 {
     (e.level == HIGH) & e.alive & (e.threshold <= e.age)
 }
 
-// The entry after the switch.
+// S8.6: the entry in the mode turned critical: a low task's job is dropped.
 pub fn switched(e: TaskState) -> TaskState
     ensures { λ r. ⌜ r ≡ withJob e (switchedRow (rowOf e) .job) ⌝ }
 {

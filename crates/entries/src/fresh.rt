@@ -1,4 +1,4 @@
-// A fresh entry, and one of zeros.
+// S8.1: a fresh entry, and one of zeros.
 ghost use mathlib.Core.Path.{_≡_};
 ghost use Prim.Native.Nat.{_≤_};
 ghost use Rattle.entries.specs.Fresh.{freshEntry, zeroEntry};
@@ -7,7 +7,7 @@ use shares::deadline::virtual_of;
 use shares::share::Share;
 use sheet::task::Task;
 
-// An entry that stands for no task.
+// S7.3: an entry that stands for no task.
 pub fn zero_entry() -> TaskState
     ensures { λ r. ⌜ r ≡ zeroEntry ⌝ }
 {
@@ -27,7 +27,7 @@ pub fn zero_entry() -> TaskState
     }
 }
 
-// The entry of a task with its shares: no job alive, no node ended, the age at D.
+// S8.1: a task's entry with its shares, as old as D, so that it may be released at once.
 pub fn fresh_entry(t: Task, s: Share) -> TaskState
     requires { ⌜ 1 ≤ s .typical ⌝ }
     ensures { λ r. ⌜ r ≡ freshEntry t s ⌝ }

@@ -1,4 +1,4 @@
-// A pass over the entries of a tick: what it has found so far.
+// A tick's pass over the entries: what it has found so far (S7.2, S9.15, S8.6).
 ghost use mathlib.Core.Path.{_≡_};
 ghost use mathlib.Core.Bool.{cond, _&&_};
 ghost use Prim.Native.Nat.{_+_, _≤_};
@@ -7,7 +7,7 @@ ghost use Rattle.sheet.specs.Answers.{noTask};
 use shares::share::Share;
 use sheet::answer::NO_TASK;
 
-// What a pass over the first tasks found: the sums of their shares, the first task whose report has a node that isn't running,
+// What a pass over the first tasks found: the sums of their shares, the first task that reports a node that is not running,
 // and the lowest late task; 255 for none.
 pub struct Pass {
     pub typical: u32,
@@ -28,7 +28,7 @@ pub fn no_pass() -> Pass
     }
 }
 
-// The task found before, or else task i where the test holds.
+// S3.2, S8.7: the task found before, or else task i where the test holds.
 fn first_of(found: u8, i: u8, holds: bool) -> u8
     ensures { λ r. ⌜ r ≡ cond (eqb found noTask && holds) i found ⌝ }
 {
@@ -52,7 +52,7 @@ pub fn passed(pass: Pass, i: u8, share: Share, wrong: bool, late: bool) -> Pass
     }
 }
 
-// Whether the sums are at most M.
+// S7.2: whether the sums are at most M.
 pub fn shares_fit(pass: Pass, processors: u8) -> bool
     ensures { λ r. ⌜ r ≡ (leb (pass .typical) processors && leb (pass .critical) processors) ⌝ }
 {

@@ -1,4 +1,4 @@
-// Whether an entry's task may be released.
+// S9.12, S9.13: whether an entry's task may be released.
 ghost use mathlib.Core.Path.{_≡_};
 ghost use mathlib.Core.Bool.{not, _&&_, _||_};
 ghost use lib.Dec.{ltb};
@@ -16,7 +16,7 @@ const LOW_IN_CRITICAL: u8 = 12;
 
 const TOO_EARLY: u8 = 13;
 
-// Refusals 12 and 13 of one entry.
+// Refusals 12 and 13, put to one entry.
 pub fn entry_answer(e: TaskState, critical: bool, task: u8) -> Answer
     ensures { λ r. ⌜ r ≡ refusedIf (critical && not (isHigh (fixedOf e))) lowInCritical task orElse refusedIf (e .alive || ltb (e .age) (e .deadline)) tooEarly task ⌝ }
 {

@@ -1,4 +1,4 @@
-// Soundness of an entry.
+// S7.2: soundness of an entry.
 ghost use mathlib.Core.Path.{_≡_};
 ghost use Rattle.entries.specs.Sound.{entrySound};
 use crate::entry::all_ended;
@@ -7,7 +7,7 @@ use sheet::rules::FIGURE_LIMIT;
 use sheet::rules::is_within;
 use sheet::rules::masks_lawful;
 
-// Whether the entry is sound.
+// S7.2, of one entry. k is tested before the masks and the ended set are read by it.
 pub fn entry_sound(e: TaskState) -> bool
     ensures { λ r. ⌜ r ≡ entrySound e ⌝ }
 {

@@ -1,8 +1,8 @@
-// The entry of one task, by value.
+// S7.1: the entry of one task, by value.
 use shares::share::Share;
 
-// One task's entry: what the sheet and the plan fix, and below `share` what calls change. `predecessors` are 01's masks,
-// `threshold` is 01's V, the age at which an alive high job turns the mode critical.
+// S7.1: what the sheet and the plan fix, and below `share` what calls change. `nodes` is k, `predecessors` are the masks, and
+// `threshold` is V: the age at which an alive job of a high task turns the mode critical.
 pub struct TaskState {
     pub level: u8,
     pub nodes: u8,

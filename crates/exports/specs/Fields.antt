@@ -10,11 +10,11 @@ use Rattle.sheet.specs.declared.task.TaskSet.{TaskSet}
 use Rattle.sheet.specs.Answers.{numberOf, taskOf}
 use Rattle.sheet.specs.Format.{taskIn}
 
--- An answer in one number: 01's number, and 256 times its task.
+-- S3.1: an answer in one number: its number, and 256 times its task.
 unfoldable pub answerWord : Answer → ℕ
 answerWord a = numberOf a + 256 * taskOf a
 
--- The fields of a task in order: level, k, D, CN, LN, CO, LO, and the 32 masks.
+-- S2.6: the fields of a task in order: level, k, D, CN, LN, CO, LO, and the 32 masks.
 unfoldable pub taskFields : Task → List ℕ
 taskFields t =
     t .level
@@ -26,7 +26,7 @@ taskFields t =
     ∷ t .figures .overload .span
     ∷ t .predecessors
 
--- The fields of the whole sheet: M and n.
+-- S2.1, S2.2: the fields of the whole sheet: M and n.
 unfoldable pub sheetFields : TaskSet → List ℕ
 sheetFields set = set .processors ∷ set .count ∷ []
 

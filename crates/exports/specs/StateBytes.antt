@@ -1,4 +1,4 @@
--- A state as bytes, for the tests: 3 bytes, then 16 entries of 149 bytes each. Numbers of four bytes are little-endian.
+-- A state (S7.1) as bytes, for the tests: 3 bytes, then 16 entries of 149 bytes each. Numbers stand as S1.1 says.
 use Prim.Native.Nat.{ℕ, _+_, _*_, _/_, _%_}
 use mathlib.Core.Bool.{Bool, true, false, not, cond}
 use mathlib.Core.List.{List, [], _∷_, _++_, map}
@@ -60,7 +60,7 @@ abbrev pub flag : Bool → ℕ
 flag true = 1
 flag false = 0
 
--- A number of four bytes, lowest byte first.
+-- S1.1: a number of four bytes.
 unfoldable pub u32Bytes : ℕ → List ℕ
 u32Bytes x = x % 256 ∷ x / 256 % 256 ∷ x / 65536 % 256 ∷ x / 16777216 ∷ []
 

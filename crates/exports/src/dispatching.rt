@@ -1,4 +1,4 @@
-// The dispatcher, on states as bytes.
+// The calls of S8, on states as bytes.
 ghost use mathlib.Core.Path.{_≡_};
 ghost use lib.ListN.{length};
 ghost use Rattle.dispatcher.specs.Calls.{releaseOf, tickOf};
@@ -16,7 +16,7 @@ pub const ACCEPTED: u32 = 65280;
 
 const SWITCH: u32 = 65536;
 
-// A tick's answer as a number.
+// S8.7: a tick's answer as a number.
 pub fn tick_word(a: TickAnswer) -> u32
     ensures { λ r. ⌜ r ≡ tickWord a ⌝ }
 {
@@ -27,7 +27,7 @@ pub fn tick_word(a: TickAnswer) -> u32
     }
 }
 
-// Start's answer; its state goes to `out`.
+// S8.1: Start's answer; its state goes to `out`.
 #[no_mangle]
 pub extern "C" fn dibwunek_start(sheet: &[u8], out: &mut [u8]) -> u32
     ensures answered { λ r. ⌜ r ≡ answerWord (startOf (now (sheet .entry)) .answer) ⌝ }
@@ -40,7 +40,7 @@ pub extern "C" fn dibwunek_start(sheet: &[u8], out: &mut [u8]) -> u32
     answer_word(answer)
 }
 
-// Release's answer; the state that it returns goes to `out`.
+// S8.4: Release's answer; the state that it returns goes to `out`.
 #[no_mangle]
 pub extern "C" fn dibwunek_release(state: &[u8], task: usize, out: &mut [u8]) -> u32
     ensures answered { λ r. ⌜ r ≡ answerWord (releaseOf (stateFrom (now (state .entry))) task .answer) ⌝ }
@@ -54,7 +54,7 @@ pub extern "C" fn dibwunek_release(state: &[u8], task: usize, out: &mut [u8]) ->
     answer_word(answer)
 }
 
-// Tick's answer; the state that it returns goes to `out`.
+// S8.5: Tick's answer; the state that it returns goes to `out`.
 #[no_mangle]
 pub extern "C" fn dibwunek_tick(state: &[u8], reports: &[u32], out: &mut [u8]) -> u32
     ensures answered { λ r. ⌜ r ≡ tickWord (tickOf (stateFrom (now (state .entry))) (now (reports .entry)) .answer) ⌝ }
@@ -68,7 +68,7 @@ pub extern "C" fn dibwunek_tick(state: &[u8], reports: &[u32], out: &mut [u8]) -
     tick_word(answer)
 }
 
-// Board's answer; the board goes to the buffer.
+// S8.8: Board's answer; the board goes to the buffer.
 #[no_mangle]
 pub extern "C" fn dibwunek_board(state: &[u8], buffer: &mut [u8]) -> u32
     ensures answered { λ r. ⌜ r ≡ answerWord (boardedOf (stateFrom (now (state .entry))) (length (now (buffer .entry))) .answer) ⌝ }

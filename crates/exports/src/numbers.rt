@@ -1,4 +1,4 @@
-// Numbers as bytes, lowest byte first.
+// S1.1: numbers as bytes, lowest byte first.
 ghost use mathlib.Core.Path.{_≡_};
 ghost use Prim.Native.Nat.{_+_, _≤_};
 ghost use lib.ListN.{length};

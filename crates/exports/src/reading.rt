@@ -1,11 +1,11 @@
-// The sheet reader.
+// The reader of sheets (S2).
 ghost use mathlib.Core.Path.{_≡_};
 ghost use Rattle.reader.specs.Reading.{readOf};
 ghost use Rattle.exports.specs.Fields.{answerWord, fieldOf};
 use crate::fields::answer_word;
 use crate::fields::field_of;
 
-// The reader's answer: its number, and 256 times its task.
+// S3.1: the reader's answer: its number, and 256 times its task.
 #[no_mangle]
 pub extern "C" fn dibwunek_read(sheet: &[u8]) -> u32
     ensures { λ r. ⌜ r ≡ answerWord (readOf (now (sheet .entry)) .answer) ⌝ }

@@ -1,4 +1,5 @@
--- A fresh state, entry by entry; that each task of an accepted sheet has a share to start with; and Start's answer, row by row.
+-- A fresh state, entry by entry; that each task of an accepted sheet has a share to start with; and Start's answer, refusal by
+-- refusal.
 use Prim.Native.Nat.{ℕ, zero, suc, _≤_, _<_, _+_}
 use mathlib.Core.Bool.{Bool, false, cond}
 use mathlib.Core.List.{List, _∷_}
@@ -90,7 +91,7 @@ module _ (tasks : TaskSet) (lawful : LawfulSet tasks) (accepted : choiceAnswer t
   unfolding choice
   shares-given = record { few = lawful .few-tasks; some-share = λ i h. rw (shares-same i h) (positive i h) }
 
--- Start's answer, row by row.
+-- Start's answer, refusal by refusal.
 module _ (s : List ℕ) where
   pub start-read : {number task : ℕ} → readOf s .answer ≡ Refused number task → startAnswer s ≡ Refused number task
   unfolding startAnswer

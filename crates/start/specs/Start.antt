@@ -1,4 +1,4 @@
--- 01, Dispatch: "Start reads a sheet, plans it and returns a fresh state: typical, nothing alive, no node ended, each age = D."
+-- S8.1: Start. What it answers to a sheet, and the state that it returns.
 use Prim.Native.Nat.{ℕ, _≤_, _<_}
 use mathlib.Core.Bool.{false}
 use mathlib.Core.List.{List}
@@ -17,11 +17,11 @@ use Rattle.dispatcher.specs.declared.state.State.{State}
 use Rattle.start.specs.declared.Started.{Started}
 use Rattle.entries.specs.Fresh.{freshEntry, zeroEntry}
 
--- The fresh entries of the first count tasks, and zeros in the place of the others.
+-- S8.1: the fresh entries of the first count tasks. S7.3: zeros in the place of the others.
 unfoldable pub entriesBelow : TaskSet → List Share → ℕ → List TaskState
 entriesBelow set shares count = cells 16 (λ i. freshEntry (taskIn set i) (shareAt shares i)) zeroEntry count
 
--- The fresh state of a task set and the shares of its tasks.
+-- S8.1: the fresh state of a task set and the shares of its tasks.
 unfoldable pub freshState : TaskSet → List Share → State
 freshState set shares =
     record {
@@ -31,25 +31,25 @@ freshState set shares =
       entries = entriesBelow set shares (set .count);
     }
 
--- 01: "Start's refused state is all zeros, typical, nothing alive."
+-- S8.1: the state that a refused Start returns.
 unfoldable pub zeroState : State
 zeroState = record { processors = 0; count = 0; critical = false; entries = replicate 16 zeroEntry }
 
--- 01: "Where reading refused, Start gives that refusal on and plans nothing"; then rows 7 and 8. "Start has no 9."
+-- S8.1, S3.3: the reading's refusal, if there is one, and else the choice's, 7 or 8.
 unfoldable pub startAnswer : List ℕ → Answer
 startAnswer sheet = readOf sheet .answer orElse choiceAnswer (readOf sheet .set)
 
--- An answer with the state that it returns: a fresh one if accepted, zeros if refused.
+-- S8.1: an answer with the state that goes with it: the fresh one if accepted, zeros if refused.
 abbrev pub startedWith : Answer → State → Started
 startedWith Accepted fresh = record { state = fresh; answer = Accepted }
 startedWith (Refused number task) fresh = record { state = zeroState; answer = Refused number task }
 
--- What Start makes of a list of bytes.
+-- S8.1: what Start makes of a list of bytes.
 unfoldable pub startOf : List ℕ → Started
 startOf sheet =
     startedWith (startAnswer sheet) (freshState (readOf sheet .set) (sharesOf (chosenFor (readOf sheet .set))))
 
--- Each of a task set's tasks has a typical share.
+-- Each task of the set has a typical share, so that its V (S4.5) is a number.
 pub record SharesGiven (set : TaskSet) (shares : List Share) : Type 0 where
   pub few : set .count ≤ 16
   pub some-share : (i : ℕ) → i < set .count → 1 ≤ shareAt shares i .typical

@@ -1,4 +1,4 @@
-// Start: from a sheet to a fresh state.
+// S8.1: Start, from a sheet to a fresh state.
 ghost use mathlib.Core.Path.{_≡_};
 ghost use Rattle.sheet.specs.Answers.{numberOf, taskOf, Says};
 ghost use Rattle.planner.specs.Lawful.{LawfulSet};
@@ -29,7 +29,7 @@ fn zero_state() -> State
     }
 }
 
-// The fresh state of a task set whose tasks have these shares.
+// S8.1: the fresh state of a task set whose tasks have these shares.
 fn fresh_state(set: TaskSet, shares: [Share; 16]) -> State
     requires { ⌜ SharesGiven set shares ⌝ }
     ensures { λ r. ⌜ r ≡ freshState set shares ⌝ }
@@ -48,7 +48,7 @@ fn fresh_state(set: TaskSet, shares: [Share; 16]) -> State
     state
 }
 
-// Start: reads a sheet, plans it and returns a fresh state. Where reading refused, nothing is planned.
+// S8.1: reads a sheet, chooses the shares and makes the state. Where the reading is refused, nothing is chosen.
 pub fn start(sheet: &[u8]) -> Started
     ensures whole { λ r. ⌜ r ≡ startOf (now (sheet .entry)) ⌝ }
     ensures says { λ r. ⌜ Says (r .answer) (numberOf (startOf (now (sheet .entry)) .answer)) (taskOf (startOf (now (sheet .entry)) .answer)) ⌝ }

@@ -1,4 +1,4 @@
--- `start::start` meets its contract: the reader's refusal is given on, else the planner's, else the state is fresh.
+-- `start::start` meets its contract: the reading's refusal is passed on, else the choice's, else the state is fresh.
 -- Assumes nothing.
 use mathlib.Core.Path.{_≡_, sym, ap, _∙_, subst⁻¹}
 use denote.Ref.{now}

@@ -1,4 +1,4 @@
--- `dispatcher::board::board` meets its contract: rows 10 and 16, then the board. Assumes nothing.
+-- `dispatcher::board::board` meets its contract: refusals 10 and 16, then the board. Assumes nothing.
 use mathlib.Core.Bool.{true}
 use Prim.Native.Nat.{ℕ, _*_}
 use mathlib.Core.Path.{_≡_, sym, ap, _∙_}

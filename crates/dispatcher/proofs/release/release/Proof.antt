@@ -1,4 +1,4 @@
--- `dispatcher::release::release` meets its contract: row 10, the model's rows, and then the entry's job. Assumes nothing.
+-- `dispatcher::release::release` meets its contract: refusal 10, the model's refusals, and then the entry's job. Assumes nothing.
 use Prim.Native.Nat.{_≤_, _<_}
 use mathlib.Core.Bool.{true}
 use mathlib.Core.Path.{_≡_, sym, ap, _∙_}

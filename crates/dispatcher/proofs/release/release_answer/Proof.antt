@@ -1,4 +1,4 @@
--- `dispatcher::release::release_answer` meets its contract: row 11, then the entry's rows. Assumes nothing.
+-- `dispatcher::release::release_answer` meets its contract: refusal 11, then those of the entry. Assumes nothing.
 use Prim.Native.Nat.{_≤_}
 use mathlib.Core.Path.{_≡_, sym, _∙_}
 use native.Mathlib.Omega.{arith}

@@ -1,10 +1,10 @@
--- `entries::release::entry_answer` meets its contract: each row is what its callees ensure. Assumes nothing.
+-- `entries::release::entry_answer` meets its contract: each refusal is what its callee ensures. Assumes nothing.
 use mathlib.Core.Bool.{not, _&&_, _||_}
 use lib.Dec.{ltb}
 use Rattle.model.specs.Row.{isHigh, highLevel}
 use Rattle.model.specs.Step.{lowInCritical, tooEarly}
 use Rattle.entries.specs.Entry.{fixedOf}
-use Rattle.entries.proofs.Refusals.{two-rows}
+use Rattle.entries.proofs.Refusals.{two-causes}
 use borrow.Author.Needs.{needs}
 use Rattle.entries.proofs.release.entry_answer.Statement.{statement}
 use Rattle.entries.proofs.release.entry_answer.Tie as tie
@@ -23,7 +23,7 @@ unfolding isHigh highLevel fixedOf lowInCritical tooEarly
 returns c =
     let args = c .before .before .before .before .before .before .args in
     let e = args .e in
-    two-rows (args .critical && not (isHigh (fixedOf e))) (e .alive || ltb (e .age) (e .deadline)) 12 13 (args .task) _ _ _
+    two-causes (args .critical && not (isHigh (fixedOf e))) (e .alive || ltb (e .age) (e .deadline)) 12 13 (args .task) _ _ _
     (c .before .before .before .before .refused-unless .ensures)
     (c .before .refused-unless2 .ensures)
     (c .or-else .ensures)
