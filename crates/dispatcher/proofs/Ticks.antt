@@ -227,6 +227,13 @@ module _ (s : State) (reports : List ℕ) where
   unfolding tickOf step ticked modelOf
   tick-accepted sound accepted = rw (sound, accepted)
 
+-- S3.4: a refusal beside the state that was given, where this is the state as it came.
+pub handed-back : (s : State) (reports : List ℕ) (given : State) (number task : ℕ) {returned : Ticked}
+    → _≡_ {A = Ticked} returned (record { state = given; answer = TickRefused number task }) → given ≡ s
+    → record { state = s; answer = TickRefused number task } ≡ tickOf s reports → returned ≡ tickOf s reports
+handed-back s reports given number task e same refused =
+    e ∙ ap (λ (t : State). record { state = t; answer = TickRefused number task }) same ∙ refused
+
 -- Refusal 14.
 wrong-count : (s : State) (reports : List ℕ) → s .count ≤ length (s .entries) → (length reports ≡ s .count → ⊥)
     → tickRefusal (modelOf s) reports ≡ refusal wrongCount noTask

@@ -2,7 +2,7 @@
 -- left, is the whole. The measure is the tasks left. Assumes nothing.
 use Prim.Native.Nat.{ℕ, _+_, _-_, _≤_}
 use mathlib.Core.Bool.{true, not, _&&_}
-use mathlib.Core.Path.{_≡_, sym, ap, _∙_}
+use mathlib.Core.Path.{_≡_, refl, sym, ap, _∙_}
 use native.Mathlib.Omega.{arith}
 use borrow.Author.Needs.{needs}
 use borrow.Author.Tests.{not-true, not-false}
@@ -11,7 +11,7 @@ use lib.Dec.{leb}
 use lib.ListN.{length, length-map, getD}
 use Rattle.nodes.specs.Sets.{isWithin}
 use Rattle.sheet.specs.Rules.{within}
-use Rattle.model.specs.Row.{isSubset, runningSet, tickedRow}
+use Rattle.model.specs.Row.{isSubset, runningSet, tickedRow, isLate}
 use Rattle.entries.specs.declared.state.TaskState.{TaskState}
 use Rattle.dispatcher.specs.declared.tick.TickAnswer.the-variants.{Refused}
 use Rattle.entries.specs.Entry.{rowOf, withJob}
@@ -21,7 +21,7 @@ use Rattle.entries.proofs.Soundness.{few-nodes}
 use Rattle.dispatcher.proofs.Soundness.{ranges-broken, count-within}
 use Rattle.dispatcher.proofs.Entries.{noEntry, entryAt, Passed}
 use Rattle.dispatcher.proofs.Rows.{written-at}
-use Rattle.dispatcher.proofs.Ticks.{tickedBelow, ticked-below, late-after, Scanned, scanned-none, scanned-count, scanned-broken, scanned-more, tick-unsound, tick-miscounted, scanned-unfit, scanned-wrong, scanned-ran, scanned-switched, tick-said}
+use Rattle.dispatcher.proofs.Ticks.{tickedBelow, ticked-below, late-after, Scanned, scanned-none, scanned-count, scanned-broken, scanned-more, tick-unsound, tick-miscounted, handed-back, scanned-unfit, scanned-wrong, scanned-ran, scanned-switched, tick-said}
 use Rattle.dispatcher.proofs.tick.tick.Statement.{statement}
 use Rattle.dispatcher.proofs.tick.tick.Tie as tie
 
@@ -123,10 +123,10 @@ returns-3 c =
     let at = turn .before .before .before .before in
     let args = at .before .before .before .before .args in
     tick-said
-    (c .refused3 .ensures
-    ∙ tick-unsound (args .state) (now (args .reports))
+    (handed-back (args .state) (now (args .reports)) _ _ _ (c .refused3 .ensures) refl
+    (tick-unsound (args .state) (now (args .reports))
     (scanned-broken (args .state) (now (args .reports)) (long at) (loop .i) _ _ _ _ _ (loop .inv .1) (ranges at) (omega arith)
-    (ap entrySound (sym (untouched turn)) ∙ sym (c .before .before .entry-sound .ensures) ∙ not-true _ (c .before .if3 .taken))))
+    (ap entrySound (sym (untouched turn)) ∙ sym (c .before .before .entry-sound .ensures) ∙ not-true _ (c .before .if3 .taken)))))
 
 -- Past the third test the entry is sound.
 sound : (c : tie.Else3 Inv-loop μ-loop)
@@ -189,6 +189,7 @@ loop-again c =
     let e = entryAt s (loop .i) in
     let stored : c .before .before .ticked .result ≡ withJob e (tickedRow (rowOf e) report .job) =
     c .before .before .ticked .ensures ∙ ap (λ (x : TaskState). withJob x (tickedRow (rowOf x) report .job)) (untouched turn) in
+    let late : c .before .is-late .result ≡ isLate (rowOf (c .before .before .ticked .result)) = c .before .is-late .ensures in
     let read = getD (loop .next .entries) (loop .i) noEntry in
     let typicals : c .passed .result .typical ≡ loop .pass .typical + read .share .typical = c .passed .ensures .0 in
     let criticals : c .passed .result .critical ≡ loop .pass .critical + read .share .critical = c .passed .ensures .1 .0 in
@@ -215,7 +216,7 @@ loop-again c =
           (c .passed .ensures .1 .1 .0)
           (c .passed .ensures .1 .1 .1 .0)
           (ap not inside)
-          (c .before .is-late .ensures ∙ late-after e report _ stored)
+          (late ∙ late-after e report _ stored)
           stored,
     )
 
@@ -252,9 +253,9 @@ returns-5 c =
     let at = fits .before .before .before .before .before in
     let args = at .before .before .before .before .args in
     tick-said
-    (c .refused5 .ensures
-    ∙ scanned-wrong (args .state) (now (args .reports)) (long at) (same at) (loop .i) _ _ _ _ _ (loop .inv .1) (fits .before .before .loop-test .left) (ranges at) (fit fits)
-    (c .before .if5 .taken))
+    (handed-back (args .state) (now (args .reports)) _ _ _ (c .refused5 .ensures) refl
+    (scanned-wrong (args .state) (now (args .reports)) (long at) (same at) (loop .i) _ _ _ _ _ (loop .inv .1) (fits .before .before .loop-test .left) (ranges at) (fit fits)
+    (c .before .if5 .taken)))
 
 returns-6 : tie.Need-returns-6 Inv-loop μ-loop
 returns-6 c =
