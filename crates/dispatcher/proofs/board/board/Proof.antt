@@ -2,6 +2,7 @@
 use mathlib.Core.Bool.{true}
 use Prim.Native.Nat.{ℕ, _*_}
 use mathlib.Core.Path.{_≡_, sym, ap, _∙_}
+use native.Mathlib.Omega.{arith}
 use borrow.Author.Tests.{not-true, not-false}
 use denote.Ref.{now}
 use lib.ListN.{length, replicate}
@@ -39,12 +40,12 @@ returns-2 : tie.Need-returns-2
 returns-2 c =
     let s = c .before .before .before .before .before .args .state in
     let buffer = now (c .before .before .before .before .before .args .buffer) in
-    let answer = answer-length s (length buffer) (sound (c .before .before)) (c .if2 .taken) in
+    let answer = answer-length s (length buffer) (sound (c .before .before)) (λ e. c .if2 .taken (omega (arith, e))) in
     let answered = boarded-by s (length buffer) answer in
     (answered, (said (ap (λ (r : Boarded). r .answer) answered), buffer-kept s buffer answer))
 
 pairs : (c : tie.Else2) → length (now (c .before .before .before .before .before .args .buffer)) ≡ 2 * c .before .before .before .before .before .args .state .processors
-pairs c = c .if2 .left
+pairs c = omega (arith, c .if2 .left)
 
 clear-requires : tie.Need-clear-requires
 clear-requires c κs = search needs

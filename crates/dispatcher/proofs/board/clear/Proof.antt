@@ -6,7 +6,6 @@ use native.Mathlib.Omega.{arith}
 use borrow.Author.Needs.{needs}
 use denote.Ref.{now}
 use lib.ListN.{length, length-set}
-use Rattle.dispatcher.specs.Board.{unused}
 use Rattle.dispatcher.proofs.Boards.{clearedTo, cleared-more, cleared-all}
 use Rattle.dispatcher.proofs.board.clear.Statement.{statement}
 use Rattle.dispatcher.proofs.board.clear.Tie as tie
@@ -33,7 +32,7 @@ loop-again : tie.Need-loop-again Inv-loop μ-loop
 loop-again c =
     let loop = c .before .loop in (
       omega arith,
-      length-set (loop .buffer) (loop .at) unused ∙ loop .inv .1,
+      length-set (loop .buffer) (loop .at) _ ∙ loop .inv .1,
       rw (loop .inv .2) (cleared-more (now (c .before .before .args .buffer)) (loop .at) (omega arith)),
     )
 
