@@ -7,7 +7,7 @@ use borrow.Author.Tests.{lt-ltb, le-ltb}
 use lib.ListN.{length, getD, drop, set, length-append}
 use lib.Seq.{sets, sets-eq}
 use Rattle.nodes.specs.Sets.{range}
-use Rattle.planner.specs.Enumeration.{each}
+use Rattle.allocation.specs.Enumeration.{each}
 use Rattle.planner.specs.Writing.{laid}
 use Rattle.planner.proofs.Bytes.{laid-none, laid-length, laid-more, each-next}
 use Rattle.entries.specs.declared.state.TaskState.{TaskState}

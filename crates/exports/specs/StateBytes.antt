@@ -6,7 +6,7 @@ use lib.Dec.{ltb, eqb}
 use lib.ListN.{length, getD, drop}
 use Rattle.nodes.specs.Sets.{range}
 use Rattle.sheet.specs.Format.{byteAt, u32At}
-use Rattle.planner.specs.Enumeration.{each}
+use Rattle.allocation.specs.Enumeration.{each}
 use Rattle.entries.specs.declared.state.TaskState.{TaskState}
 use Rattle.dispatcher.specs.declared.state.State.{State}
 

@@ -16,12 +16,12 @@ use Rattle.sheet.specs.Rules.{figureLimit}
 use Rattle.sheet.proofs.Cells.{cells-length}
 use Rattle.shares.specs.declared.share.Share.{Share}
 use Rattle.shares.specs.Totals.{shareTotal, shareAt}
-use Rattle.planner.specs.Blocks.{lengthIn}
-use Rattle.planner.specs.Lawful.{LawfulSet}
-use Rattle.planner.specs.Plan.{chosenFor}
-use Rattle.planner.proofs.Lawfulness.{figures-kept}
-use Rattle.planner.proofs.Laws.{chosen-virtual}
-use Rattle.planner.proofs.Lines.{cells-at}
+use Rattle.allocation.specs.Blocks.{lengthIn}
+use Rattle.allocation.specs.Lawful.{LawfulSet}
+use Rattle.allocation.specs.Allocation.{chosenFor}
+use Rattle.allocation.proofs.Lawfulness.{figures-kept}
+use Rattle.allocation.proofs.Laws.{chosen-virtual}
+use Rattle.allocation.proofs.Lines.{cells-at}
 use Rattle.model.specs.Row.{Row}
 use Rattle.model.specs.Step.{noRow, rowAt}
 use Rattle.model.specs.Plan.{freshRow, freshRows, fresh}

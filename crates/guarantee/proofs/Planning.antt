@@ -15,10 +15,10 @@ use Rattle.shares.specs.declared.share.Share.{Share}
 use Rattle.shares.specs.Low.{isLow}
 use Rattle.shares.specs.Totals.{shareAt, shareTotal}
 use Rattle.shares.proofs.Levels.{has-below}
-use Rattle.planner.specs.Lawful.{LawfulSet, LawfulTask}
-use Rattle.planner.specs.Plan.{chosenFor}
-use Rattle.planner.proofs.Lawfulness.{within-from, figures-kept, low-equal, heavy-work}
-use Rattle.planner.proofs.Laws.{chosen-length, chosen-typical, chosen-critical, chosen-high, chosen-low}
+use Rattle.allocation.specs.Lawful.{LawfulSet, LawfulTask}
+use Rattle.allocation.specs.Allocation.{chosenFor}
+use Rattle.allocation.proofs.Lawfulness.{within-from, figures-kept, low-equal, heavy-work}
+use Rattle.allocation.proofs.Laws.{chosen-length, chosen-typical, chosen-critical, chosen-high, chosen-low}
 use Rattle.model.specs.Row.{lowLevel, highLevel, predecessorsOf}
 use Rattle.model.specs.Plan.{LawfulTask as ModelTask, PassingPair, LowPair, Planned}
 use Rattle.model.proofs.Sums.{all-at}

@@ -17,8 +17,8 @@ use Rattle.sheet.specs.Format.{taskIn}
 use Rattle.reader.specs.Reading.{readOf}
 use Rattle.sheet.proofs.Cells.{cells-length}
 use Rattle.shares.specs.Totals.{shareAt}
-use Rattle.planner.specs.Plan.{chosenFor, choiceAnswer, sharesOf}
-use Rattle.planner.proofs.Accepted.{both-accepted, accepted-lawful}
+use Rattle.allocation.specs.Allocation.{chosenFor, choiceAnswer, sharesOf}
+use Rattle.allocation.proofs.Accepted.{both-accepted, accepted-lawful}
 use Rattle.model.specs.Row.{Row}
 use Rattle.model.specs.Step.{Call, release, tick, step}
 use Rattle.dispatcher.specs.declared.state.State.{State}

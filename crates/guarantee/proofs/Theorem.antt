@@ -7,10 +7,10 @@ use mathlib.Core.Path.{_≡_, refl, sym, ap, _∙_}
 use Rattle.sheet.specs.declared.answer.Answer.{Answer}
 use Rattle.sheet.specs.declared.answer.Answer.the-variants.{Accepted, Refused}
 use Rattle.reader.specs.Reading.{readOf}
-use Rattle.planner.specs.Lawful.{LawfulSet}
-use Rattle.planner.specs.Plan.{chosenFor, choiceAnswer}
-use Rattle.planner.proofs.Accepted.{both-accepted, accepted-lawful}
-use Rattle.planner.proofs.Plans.{accepted-choice}
+use Rattle.allocation.specs.Lawful.{LawfulSet}
+use Rattle.allocation.specs.Allocation.{chosenFor, choiceAnswer}
+use Rattle.allocation.proofs.Accepted.{both-accepted, accepted-lawful}
+use Rattle.allocation.proofs.Accepted.{accepted-choice}
 use Rattle.model.specs.Step.{Model, Call}
 use Rattle.model.specs.Run.{after}
 use Rattle.model.proofs.Theorem.{demand3}

@@ -6,7 +6,7 @@ use Rattle.sheet.specs.declared.answer.Answer.the-variants.{Accepted}
 use Rattle.sheet.specs.declared.task.TaskSet.{TaskSet}
 use Rattle.reader.specs.Reading.{readOf}
 use Rattle.shares.specs.declared.share.Share.{Share}
-use Rattle.planner.specs.Plan.{chosenFor, sharesOf}
+use Rattle.allocation.specs.Allocation.{chosenFor, sharesOf}
 use Rattle.model.specs.Step.{Model, Call}
 use Rattle.model.specs.Run.{after}
 use Rattle.model.specs.Plan.{fresh}

@@ -14,8 +14,9 @@ use Rattle.sheet.specs.declared.answer.Answer.the-variants.{Accepted, Refused}
 use Rattle.sheet.specs.Answers.{noTask, refusedIf, _orElse_}
 use Rattle.sheet.specs.Format.{byteAt, countOf, taskSetOf}
 use Rattle.reader.specs.Reading.{readOf}
-use Rattle.planner.specs.Plan.{shortBuffer, chosenFor, sharesOf, choiceAnswer, planBytes, planAnswer, planned}
-use Rattle.planner.proofs.Accepted.{accepted-set, accepted-lawful}
+use Rattle.allocation.specs.Allocation.{chosenFor, sharesOf, choiceAnswer}
+use Rattle.planner.specs.Plan.{shortBuffer, planBytes, planAnswer, planned}
+use Rattle.allocation.proofs.Accepted.{accepted-set, accepted-lawful}
 use Rattle.plan_text.specs.Printed.{refusalLine, linesFor, printedAnswer, textOf}
 use Rattle.plan_text.specs.Fields.{linesAt}
 use Rattle.plan_text.proofs.Places.{lines-back}

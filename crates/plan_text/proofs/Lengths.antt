@@ -7,7 +7,7 @@ use native.Mathlib.Omega.{arith}
 use lib.ListN.{length, getD, length-append}
 use Rattle.sheet.specs.Format.{byteAt, u16At}
 use Rattle.nodes.specs.Sets.{range}
-use Rattle.planner.specs.Enumeration.{each}
+use Rattle.allocation.specs.Enumeration.{each}
 use Rattle.plan_text.specs.Decimal.{digit, decimal}
 use Rattle.plan_text.specs.Lines.{mark, line}
 use Rattle.plan_text.specs.Printed.{refusalLine}

@@ -13,8 +13,8 @@ use Rattle.sheet.specs.Format.{byteAt, u16At, taskIn}
 use Rattle.shares.specs.declared.share.Share.{Share}
 use Rattle.shares.specs.Deadline.{virtualOf}
 use Rattle.nodes.specs.Sets.{range}
-use Rattle.planner.specs.Enumeration.{each}
-use Rattle.planner.specs.Blocks.{offsetIn, lengthIn}
+use Rattle.allocation.specs.Enumeration.{each}
+use Rattle.allocation.specs.Blocks.{offsetIn, lengthIn}
 use Rattle.planner.specs.Plan.{blockBytes, virtualBytes, planBytes}
 use Rattle.plan_text.specs.Printed.{fieldsOf, planLines}
 use Rattle.plan_text.specs.Fields.{fieldsAt, linesAt}

@@ -10,9 +10,9 @@ use Rattle.shares.specs.Test.{excess, demand, passes, virtualDeadline}
 use Rattle.shares.specs.Low.{isLow, ceilDiv, lowShare, hasLowShare}
 use Rattle.shares.specs.Deadline.{virtualOf}
 use Rattle.nodes.specs.Sets.{range}
-use Rattle.planner.specs.Choice.{lowOptions, pairsWithin, highOptions, optionsOf, fits, leastOf, fitting, chosen}
-use Rattle.planner.specs.Blocks.{offsetIn, lengthIn}
-use Rattle.planner.specs.Plan.{chosenFor, shareAnswer, choiceAnswer}
+use Rattle.allocation.specs.Choice.{lowOptions, pairsWithin, highOptions, optionsOf, fits, leastOf, fitting, chosen}
+use Rattle.allocation.specs.Blocks.{offsetIn, lengthIn}
+use Rattle.allocation.specs.Allocation.{chosenFor, shareAnswer, choiceAnswer}
 use Rattle.plan_text.specs.Decimal.{digitsWithin, decimal}
 use Rattle.plan_text.specs.Printed.{fieldsOf, planLines, refusalLine, printedAnswer, textOf}
 

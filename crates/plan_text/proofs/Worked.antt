@@ -11,7 +11,7 @@ use Rattle.shares.specs.Test.{virtualDeadline}
 use Rattle.shares.specs.Low.{isLow}
 use Rattle.shares.specs.Deadline.{virtualOf}
 use Rattle.nodes.specs.Sets.{range}
-use Rattle.planner.specs.Blocks.{offsetIn, lengthIn}
+use Rattle.allocation.specs.Blocks.{offsetIn, lengthIn}
 use Rattle.plan_text.specs.Decimal.{digitsWithin, decimal, valueOf}
 use Rattle.plan_text.specs.Lines.{line}
 use Rattle.plan_text.specs.Printed.{fieldsOf, planLines, refusalLine, linesFor}

@@ -3,7 +3,7 @@ use Prim.Native.Nat.{ℕ, _+_, _*_}
 use mathlib.Core.List.{List, [], _∷_}
 use Rattle.sheet.specs.Format.{byteAt, u16At}
 use Rattle.nodes.specs.Sets.{range}
-use Rattle.planner.specs.Enumeration.{each}
+use Rattle.allocation.specs.Enumeration.{each}
 use Rattle.plan_text.specs.Lines.{line}
 
 -- S5.5, S6.1: the six numbers of task i in a plan of n tasks. The typical pairs stand first, the critical ones from byte 2n on,

@@ -13,9 +13,9 @@ use Rattle.reader.specs.Reading.{readOf}
 use Rattle.shares.specs.declared.share.Share.{Share}
 use Rattle.shares.specs.Deadline.{virtualOf}
 use Rattle.nodes.specs.Sets.{range}
-use Rattle.planner.specs.Enumeration.{each}
-use Rattle.planner.specs.Blocks.{offsetIn, lengthIn}
-use Rattle.planner.specs.Plan.{chosenFor, sharesOf, choiceAnswer}
+use Rattle.allocation.specs.Enumeration.{each}
+use Rattle.allocation.specs.Blocks.{offsetIn, lengthIn}
+use Rattle.allocation.specs.Allocation.{chosenFor, sharesOf, choiceAnswer}
 use Rattle.plan_text.specs.Lines.{blank, line}
 
 -- S6.1: the six numbers of task i: itself, its block in the typical and in the critical mode (where it begins, and its

@@ -4,32 +4,32 @@ use Prim.Native.Nat.{ℕ, zero, suc, _+_, _*_, _≤_, _<_}
 use mathlib.Core.Path.{_≡_, refl, sym, ap, _∙_}
 use mathlib.Core.Bool.{Bool, true, false}
 use mathlib.Core.List.{List, [], _∷_, _++_}
-use mathlib.Core.Option.{Option, none, some}
+use mathlib.Core.Option.{some}
 use native.Mathlib.Omega.{arith}
 use lib.ListN.{length, getD, take, drop, length-append}
 use lib.Seq.{ext-getD, getD-take, length-take-le}
 use borrow.Author.Tests.{lt-ltb, le-ltb}
 use Rattle.sheet.specs.declared.answer.Answer.the-variants.{Accepted, Refused}
 use Rattle.sheet.specs.declared.task.TaskSet.{TaskSet}
-use Rattle.sheet.specs.Answers.{noTask, refusedIf, firstOver}
+use Rattle.sheet.specs.Answers.{noTask}
 use Rattle.sheet.specs.Format.{taskIn}
 use Rattle.reader.specs.Reading.{readOf}
 use Rattle.sheet.proofs.Cells.{cells-length}
 use Rattle.shares.specs.declared.share.Share.{Share}
 use Rattle.shares.specs.Deadline.{virtualOf}
 use Rattle.nodes.specs.Sets.{range}
-use Rattle.planner.specs.Enumeration.{each, isNone}
+use Rattle.allocation.specs.Enumeration.{each}
 use Rattle.shares.specs.Totals.{noProcessors, shareTotal}
-use Rattle.planner.specs.Blocks.{offsetIn, lengthIn}
-use Rattle.planner.specs.Plan.{noFit, shortBuffer, chosenFor, shareAnswer, choiceAnswer, sharesOf, sixteen, blockBytes, virtualBytes, wordBytes, planBytes, planAnswer, planned}
-use Rattle.planner.specs.Lawful.{LawfulSet}
+use Rattle.allocation.specs.Blocks.{offsetIn, lengthIn}
+use Rattle.allocation.specs.Allocation.{chosenFor, choiceAnswer, sharesOf, sixteen}
+use Rattle.planner.specs.Plan.{shortBuffer, blockBytes, virtualBytes, wordBytes, planBytes, planAnswer, planned}
+use Rattle.allocation.specs.Lawful.{LawfulSet}
 use Rattle.planner.specs.Writing.{laid, BlocksFit, VirtualsFit, PlanFits}
-use Rattle.planner.proofs.Accepted.{both-accepted}
-use Rattle.planner.proofs.Blocks.{total-part}
+use Rattle.allocation.proofs.Blocks.{total-part}
 use Rattle.planner.proofs.Bytes.{laid-more}
 use Rattle.planner.proofs.Parts.{blocks-length}
-use Rattle.planner.proofs.Lines.{cells-at}
-use Rattle.planner.proofs.Laws.{chosen-length, chosen-typical, chosen-critical, chosen-positive, chosen-deadline}
+use Rattle.allocation.proofs.Lines.{cells-at}
+use Rattle.allocation.proofs.Laws.{chosen-length, chosen-typical, chosen-critical, chosen-positive, chosen-deadline}
 
 -- Three parts laid one behind the other.
 module _ (set : TaskSet) (shares : List Share) (old : List ℕ) (inside : 6 * set .count ≤ length old) where
@@ -155,15 +155,6 @@ module _ (set : TaskSet) (lawful : LawfulSet set) (choice : List Share) (chosen-
   plan-laid old =
       let e : 0 + length (planBytes set choice) ≡ length (planBytes set choice) = omega arith in
       rw (plan-same set choice few-shares all-shares, e)
-
--- The answer on a task set that is accepted comes with a choice.
-pub accepted-choice : (set : TaskSet) → choiceAnswer set ≡ Accepted → chosenFor set ≡ some (sharesOf (chosenFor set))
-unfolding choiceAnswer
-accepted-choice set e = go (chosenFor set) (both-accepted (firstOver (shareAnswer set) 0 (set .count)) _ e .1)
-  where
-    go : (o : Option (List Share)) → refusedIf (isNone o) noFit noTask ≡ Accepted → o ≡ some (sharesOf o)
-    go none h = absurd (let z : _≡_ {A = ℕ} 0 1 = cc in omega arith)
-    go (some choice) h = refl
 
 -- The answer of a plan, refusal by refusal.
 module _ (s : List ℕ) (room : ℕ) where

@@ -1,68 +1,25 @@
--- S5.5 and S9: the plan of a task set and of a sheet, its bytes, and refusals 7, 8 and 9 after the reader's.
+-- S5.5 and S9.9: the plan of a task set and of a sheet, its bytes, and refusal 9 after those of the reader and of the choice.
 use Prim.Native.Nat.{ℕ, _*_, _/_, _%_}
 use mathlib.Core.Bool.{Bool, true, false}
 use mathlib.Core.List.{List, [], _∷_, _++_}
-use mathlib.Core.Option.{Option, none, some}
 use lib.Dec.{ltb}
-use lib.ListN.{length, getD, take, drop}
+use lib.ListN.{length, drop}
 use Rattle.sheet.specs.declared.answer.Answer.{Answer}
 use Rattle.sheet.specs.declared.answer.Answer.the-variants.{Accepted, Refused}
-use Rattle.sheet.specs.declared.task.Task.{Task}
 use Rattle.sheet.specs.declared.task.TaskSet.{TaskSet}
-use Rattle.sheet.specs.Answers.{noTask, refusedIf, _orElse_, firstOver}
-use Rattle.sheet.specs.Format.{cells, taskIn}
+use Rattle.sheet.specs.Answers.{noTask, refusedIf, _orElse_}
+use Rattle.sheet.specs.Format.{taskIn}
 use Rattle.reader.specs.Reading.{readOf}
 use Rattle.shares.specs.declared.share.Share.{Share}
 use Rattle.shares.specs.Deadline.{virtualOf}
-use Rattle.planner.specs.declared.choice.Chosen.{Chosen}
 use Rattle.nodes.specs.Sets.{range}
-use Rattle.planner.specs.Enumeration.{each, isEmpty, isNone}
-use Rattle.planner.specs.Choice.{optionsOf, chosen}
-use Rattle.shares.specs.Totals.{noProcessors}
-use Rattle.planner.specs.Blocks.{offsetIn, lengthIn}
-
--- S9.7: a task may take nothing.
-abbrev pub noShare : ℕ
-noShare = 7
-
--- S9.8: no choice fits.
-abbrev pub noFit : ℕ
-noFit = 8
+use Rattle.allocation.specs.Enumeration.{each}
+use Rattle.allocation.specs.Blocks.{offsetIn, lengthIn}
+use Rattle.allocation.specs.Allocation.{chosenFor, choiceAnswer, sharesOf}
 
 -- S9.9: the plan does not fit the buffer.
 abbrev pub shortBuffer : ℕ
 shortBuffer = 9
-
--- The tasks of a task set.
-abbrev pub tasksOf : TaskSet → List Task
-tasksOf set = take (set .count) (set .tasks)
-
--- S5.3: what is chosen for a task set, or none.
-unfoldable pub chosenFor : TaskSet → Option (List Share)
-chosenFor set = chosen (set .processors) (tasksOf set)
-
--- S9.7: refusal 7, of task i.
-unfoldable pub shareAnswer : TaskSet → ℕ → Answer
-shareAnswer set i = refusedIf (isEmpty (optionsOf (set .processors) (taskIn set i))) noShare i
-
--- S3.3: refusal 7 over the tasks in order, and then refusal 8.
-unfoldable pub choiceAnswer : TaskSet → Answer
-choiceAnswer set =
-    firstOver (shareAnswer set) 0 (set .count)
-    orElse refusedIf (isNone (chosenFor set)) noFit noTask
-
--- The shares of a choice; none have no shares.
-abbrev pub sharesOf : Option (List Share) → List Share
-sharesOf none = []
-sharesOf (some choice) = choice
-
--- The shares as a line of sixteen, with zeros in the place of the tasks that are not there.
-unfoldable pub sixteen : List Share → List Share
-sixteen shares = cells 16 (λ i. getD shares i noProcessors) noProcessors (length shares)
-
--- The answer on a task set with the shares that are chosen; zeros where nothing is.
-unfoldable pub choiceOf : TaskSet → Chosen
-choiceOf set = record { answer = choiceAnswer set; shares = sixteen (sharesOf (chosenFor set)) }
 
 -- S5.5: the blocks of n tasks in a mode, an offset and a length for each.
 unfoldable pub blockBytes : Bool → List Share → ℕ → List ℕ

@@ -7,7 +7,7 @@ use Rattle.sheet.specs.declared.task.TaskSet.{TaskSet}
 use Rattle.sheet.specs.Format.{taskIn}
 use Rattle.shares.specs.declared.share.Share.{Share}
 use Rattle.shares.specs.Deadline.{virtualOf}
-use Rattle.planner.specs.Blocks.{offsetIn, lengthIn}
+use Rattle.allocation.specs.Blocks.{offsetIn, lengthIn}
 
 -- The bytes laid over what a buffer holds, from a place on.
 unfoldable pub laid : ℕ → List ℕ → List ℕ → List ℕ

@@ -1,5 +1,2 @@
-// The planner: the choice of shares for a task set, and the plan of a sheet.
-pub mod choice;
+// The planner: the plan of a sheet.
 pub mod plan;
-mod rows;
-mod selection;

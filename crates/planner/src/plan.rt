@@ -7,7 +7,7 @@ ghost use Rattle.sheet.specs.Answers.{numberOf, taskOf, Says};
 ghost use Rattle.shares.specs.Totals.{shareIn};
 ghost use Rattle.planner.specs.Plan.{blockBytes, virtualBytes, planBytes, planAnswer, planned};
 ghost use Rattle.planner.specs.Writing.{laid, PairsFit, BlocksFit, VirtualsFit, PlanFits};
-use crate::choice::choose;
+use allocation::choice::choose;
 use reader::read;
 use shares::deadline::virtual_of;
 use shares::share::Share;

@@ -18,12 +18,12 @@ use Rattle.reader.specs.Reading.{readOf}
 use Rattle.sheet.proofs.Cells.{cells-none, cells-store}
 use Rattle.shares.specs.declared.share.Share.{Share}
 use Rattle.shares.specs.Totals.{noProcessors, shareAt}
-use Rattle.planner.specs.Blocks.{lengthIn}
-use Rattle.planner.specs.Lawful.{LawfulSet}
-use Rattle.planner.specs.Plan.{chosenFor, choiceAnswer, sharesOf, sixteen}
-use Rattle.planner.proofs.Lines.{cells-at}
-use Rattle.planner.proofs.Laws.{chosen-length, chosen-positive}
-use Rattle.planner.proofs.Plans.{accepted-choice}
+use Rattle.allocation.specs.Blocks.{lengthIn}
+use Rattle.allocation.specs.Lawful.{LawfulSet}
+use Rattle.allocation.specs.Allocation.{chosenFor, choiceAnswer, sharesOf, sixteen}
+use Rattle.allocation.proofs.Lines.{cells-at}
+use Rattle.allocation.proofs.Laws.{chosen-length, chosen-positive}
+use Rattle.allocation.proofs.Accepted.{accepted-choice}
 use Rattle.entries.specs.declared.state.TaskState.{TaskState}
 use Rattle.dispatcher.specs.declared.state.State.{State}
 use Rattle.entries.specs.Fresh.{freshEntry, zeroEntry}

@@ -11,7 +11,7 @@ use Rattle.sheet.specs.Format.{cells, taskIn}
 use Rattle.reader.specs.Reading.{readOf}
 use Rattle.shares.specs.declared.share.Share.{Share}
 use Rattle.shares.specs.Totals.{shareAt}
-use Rattle.planner.specs.Plan.{chosenFor, choiceAnswer, sharesOf}
+use Rattle.allocation.specs.Allocation.{chosenFor, choiceAnswer, sharesOf}
 use Rattle.entries.specs.declared.state.TaskState.{TaskState}
 use Rattle.dispatcher.specs.declared.state.State.{State}
 use Rattle.start.specs.declared.Started.{Started}

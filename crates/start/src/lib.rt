@@ -1,12 +1,12 @@
 // S8.1: Start, from a sheet to a fresh state.
 ghost use mathlib.Core.Path.{_≡_};
 ghost use Rattle.sheet.specs.Answers.{numberOf, taskOf, Says};
-ghost use Rattle.planner.specs.Lawful.{LawfulSet};
+ghost use Rattle.allocation.specs.Lawful.{LawfulSet};
 ghost use Rattle.start.specs.Start.{freshState, zeroState, startOf, SharesGiven};
+use allocation::choice::choose;
 use dispatcher::state::State;
 use entries::fresh::fresh_entry;
 use entries::fresh::zero_entry;
-use planner::choice::choose;
 use reader::read;
 use shares::share::Share;
 use sheet::answer::Answer;

@@ -6,12 +6,12 @@ use Rattle.sheet.specs.declared.answer.Answer.the-variants.{Accepted}
 use Rattle.sheet.proofs.Said.{with-said}
 use Rattle.reader.specs.Reading.{readOf}
 use Rattle.sheet.specs.declared.task.TaskSet.{TaskSet}
-use Rattle.planner.specs.declared.choice.Chosen.{Chosen}
-use Rattle.planner.specs.Plan.{chosenFor, choiceAnswer, choiceOf, sharesOf, sixteen}
-use Rattle.planner.specs.Lawful.{LawfulSet}
+use Rattle.allocation.specs.declared.choice.Chosen.{Chosen}
+use Rattle.allocation.specs.Allocation.{chosenFor, choiceAnswer, choiceOf, sharesOf, sixteen}
+use Rattle.allocation.specs.Lawful.{LawfulSet}
 use Rattle.start.specs.declared.Started.{Started}
 use Rattle.start.specs.Start.{freshState, startAnswer}
-use Rattle.planner.proofs.Accepted.{accepted-lawful}
+use Rattle.allocation.proofs.Accepted.{accepted-lawful}
 use Rattle.reader.specs.declared.Reading.{Reading}
 use Rattle.start.proofs.Starts.{fresh-same, shares-given, start-read, start-choice, start-refused, start-accepted}
 use borrow.Author.Needs.{needs}

@@ -1,7 +1,6 @@
 -- `entries::pass::passed` meets its contract: the sums are those of the code, and what is found is what `first_of` ensures.
 -- Assumes nothing.
 use mathlib.Core.Path.{refl}
-use native.Mathlib.Omega.{arith}
 use borrow.Author.Needs.{needs}
 use Rattle.entries.proofs.pass.passed.Statement.{statement}
 use Rattle.entries.proofs.pass.passed.Tie as tie

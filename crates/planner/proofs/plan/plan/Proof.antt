@@ -1,7 +1,8 @@
--- `plan::plan` meets its contract: the reader's rows, rows 7 and 8, row 9, and then the plan's bytes.
+-- `plan::plan` meets its contract: the reader's refusals, 7 and 8, 9, and then the plan's bytes.
 use mathlib.Core.List.{List}
 use Rattle.shares.specs.declared.share.Share.{Share}
-use Rattle.planner.specs.Plan.{planBytes, choiceAnswer, choiceOf, chosenFor, sharesOf, sixteen}
+use Rattle.allocation.specs.Allocation.{choiceAnswer, choiceOf, chosenFor, sharesOf, sixteen}
+use Rattle.planner.specs.Plan.{planBytes}
 use Rattle.planner.specs.Writing.{laid, PlanFits}
 use Prim.Native.Nat.{_*_, _≤_}
 use mathlib.Core.Path.{_≡_, sym, ap, _∙_, subst}
@@ -11,10 +12,11 @@ use Rattle.sheet.specs.declared.answer.Answer.the-variants.{Accepted}
 use Rattle.sheet.proofs.Said.{said}
 use Rattle.reader.specs.declared.Reading.{Reading}
 use Rattle.reader.specs.Reading.{readOf}
-use Rattle.planner.specs.declared.choice.Chosen.{Chosen}
-use Rattle.planner.specs.Lawful.{LawfulSet}
-use Rattle.planner.proofs.Accepted.{accepted-lawful}
-use Rattle.planner.proofs.Plans.{accepted-choice, plan-fits, plan-laid, plan-read, plan-choice, plan-room, plan-accepted, planned-refused, planned-accepted}
+use Rattle.allocation.specs.declared.choice.Chosen.{Chosen}
+use Rattle.allocation.specs.Lawful.{LawfulSet}
+use Rattle.allocation.proofs.Accepted.{accepted-lawful}
+use Rattle.allocation.proofs.Accepted.{accepted-choice}
+use Rattle.planner.proofs.Plans.{plan-fits, plan-laid, plan-read, plan-choice, plan-room, plan-accepted, planned-refused, planned-accepted}
 use borrow.Author.Needs.{needs}
 use Rattle.planner.proofs.plan.plan.Statement.{statement}
 use Rattle.planner.proofs.plan.plan.Tie as tie

@@ -7,10 +7,11 @@ use mathlib.Core.List.{[], _∷_}
 use native.Mathlib.Omega.{arith}
 use lib.ListN.{length}
 use denote.Ref.{now}
-use Rattle.planner.specs.Blocks.{offsetIn, lengthIn}
+use Rattle.allocation.specs.Blocks.{offsetIn, lengthIn}
 use Rattle.planner.specs.Plan.{blockBytes}
 use Rattle.planner.specs.Writing.{laid}
-use Rattle.planner.proofs.Parts.{offset-first, offset-next, blocks-none, blocks-more}
+use Rattle.allocation.proofs.Blocks.{offset-first, offset-next}
+use Rattle.planner.proofs.Parts.{blocks-none, blocks-more}
 use Rattle.planner.proofs.plan.write_blocks.Statement.{statement}
 use Rattle.planner.proofs.plan.write_blocks.Tie as tie
 

@@ -6,7 +6,7 @@ use native.Mathlib.Omega.{arith}
 use lib.ListN.{length}
 use denote.Ref.{now}
 use Rattle.sheet.specs.Format.{taskIn}
-use Rattle.planner.specs.Blocks.{lengthIn}
+use Rattle.allocation.specs.Blocks.{lengthIn}
 use Rattle.planner.specs.Plan.{virtualBytes, wordBytes}
 use Rattle.planner.specs.Writing.{laid}
 use Rattle.planner.proofs.Parts.{virtuals-none, virtuals-more}

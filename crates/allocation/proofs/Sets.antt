@@ -1,0 +1,242 @@
+-- A lawful task set: its rows are rows of its tasks' options, so that what they select is what is chosen, and a row that offers
+-- nothing is a task without an option.
+use Prim.Native.Nat.{ℕ, zero, suc, _+_, _≤_, _<_}
+use mathlib.Core.Path.{_≡_, refl, sym, ap, _∙_, subst}
+use mathlib.Core.Bool.{Bool, true, false, false≢true}
+use mathlib.Core.List.{List, [], _∷_, map, List·Memᴰ, List·Memᴰ·head, List·Memᴰ·not-nil}
+use mathlib.Core.Option.{none}
+use native.Mathlib.Numerals.{add-one}
+use native.Mathlib.Omega.{arith}
+use native.Mathlib.Decide.{decLe, decLt}
+use lib.Dec.{ltb}
+use lib.ListN.{length, getD, take, drop, replicate, drop-of-length-le}
+use lib.Seq.{drop-cons, length-take-le, getD-take}
+use borrow.Author.Tests.{ltb-true, lt-ltb}
+use Rattle.sheet.specs.declared.answer.Answer.{Answer}
+use Rattle.sheet.specs.declared.answer.Answer.the-variants.{Accepted, Refused}
+use Rattle.sheet.specs.declared.task.Task.{Task}
+use Rattle.sheet.specs.declared.task.TaskSet.{TaskSet}
+use Rattle.sheet.specs.Answers.{refusedIf, _orElse_, firstOver}
+use Rattle.sheet.specs.Format.{cells, taskIn, missingTask}
+use Rattle.sheet.proofs.Cells.{cells-length}
+use Rattle.shares.specs.declared.share.Share.{Share}
+use Rattle.shares.specs.Row.{tabulate, criticalAt, rowOf}
+use Rattle.shares.proofs.Levels.{critical-within}
+use Rattle.shares.proofs.Rows.{row-at}
+use Rattle.allocation.specs.declared.choice.Chosen.{Chosen}
+use Rattle.allocation.specs.declared.rows.Row.{Row}
+use Rattle.allocation.specs.Enumeration.{isEmpty}
+use Rattle.allocation.specs.Choice.{optionsOf, choices, fits, leastOf, fitting, chosen}
+use Rattle.shares.specs.Totals.{noProcessors}
+use Rattle.allocation.specs.Allocation.{noShare, tasksOf, chosenFor, shareAnswer, choiceAnswer, choiceOf}
+use Rattle.allocation.specs.Lawful.{LawfulTask, LawfulSet}
+use Rattle.allocation.specs.Selection.{cellAt, offered, selected, zeroRow, missingRow, rowsOf, offersNone, rowAnswer, rowsUpTo, selectionOf}
+use Rattle.allocation.proofs.Members.{keep-from, all-member, all-members, none-empty, empty-none}
+use Rattle.allocation.proofs.Ranks.{least-of-none}
+use Rattle.allocation.proofs.Optimal.{RowOf, Rows, no-row, row-and, Takes, choice-takes, select-least}
+use Rattle.allocation.proofs.Offers.{row-of, row-agrees}
+use Rattle.allocation.proofs.Cells.{tabulate-from, tabulate-has}
+use Rattle.allocation.proofs.Lines.{cells-at, rows-open, rows-length, sixteen-none}
+
+-- The row of a lawful task, as 64 numbers.
+module _ (M : ℕ) (t : Task) (small : M ≤ 64) (lawful : LawfulTask t) where
+  cell-is : (a : ℕ) → 1 ≤ a → a ≤ M → cellAt (rowOf M t) a ≡ criticalAt M t a
+  unfolding cellAt
+  cell-is a from to = row-at M t a from (omega arith)
+
+  pub row-rows : RowOf M (optionsOf M t) (cellAt (rowOf M t))
+  row-rows = row-agrees M (optionsOf M t) (criticalAt M t) (cellAt (rowOf M t)) cell-is (row-of M t lawful)
+
+  offers-nothing : optionsOf M t ≡ [] → offersNone M (rowOf M t) ≡ true
+  unfolding offersNone rowOf
+  offers-nothing e =
+      all-members _ (tabulate (criticalAt M t) 1 64)
+      (λ b m.
+      let found = tabulate-from (criticalAt M t) 1 64 b m in
+      past (found .0) (found .1 .0) b (found .1 .1) (decLe b M))
+    where
+      past : (a : ℕ) → 1 ≤ a → (b : ℕ) → b ≡ criticalAt M t a → Dec (b ≤ M) → ltb M b ≡ true
+      past a from b same (no beyond) = lt-ltb M b (omega arith)
+      past a from b same (yes within) =
+          let few : criticalAt M t a ≤ M = rw (← same) within in
+          absurd (List·Memᴰ·not-nil (subst (λ (o : List Share). List·Memᴰ (offered (criticalAt M t) a) o) e
+          (row-of M t lawful .offers a from (critical-within M t a few) few)))
+
+  offers-something : (s : Share) → List·Memᴰ s (optionsOf M t) → offersNone M (rowOf M t) ≡ true → ⊥
+  unfolding offersNone rowOf
+  offers-something s m e =
+      let row = row-of M t lawful in
+      let to = row .within s m in
+      let there = tabulate-has (criticalAt M t) 1 64 (s .typical) (row .positive s m) (omega arith) in
+      let past = ltb-true M _ (all-member _ (tabulate (criticalAt M t) 1 64) _ e there) in
+      omega (arith, row .least s m, row .small s m)
+
+  -- The row offers nothing just where the task has no option.
+  pub offers-empty : offersNone M (rowOf M t) ≡ isEmpty (optionsOf M t)
+  offers-empty = go (optionsOf M t) refl (offersNone M (rowOf M t)) refl
+    where
+      go : (options : List Share) → optionsOf M t ≡ options → (b : Bool) → offersNone M (rowOf M t) ≡ b → b ≡ isEmpty options
+      go [] e true h = refl
+      go [] e false h = absurd (false≢true (sym h ∙ offers-nothing e))
+      go (s ∷ rest) e true h =
+          absurd (offers-something s (subst (λ (o : List Share). List·Memᴰ s o) (sym e) (List·Memᴰ·head refl)) h)
+      go (s ∷ rest) e false h = refl
+
+-- A cause put to tasks on which two causes agree.
+over-same : (f g : ℕ → Answer) (first count : ℕ) → ((i : ℕ) → first ≤ i → i < first + count → f i ≡ g i) →
+    firstOver f first count ≡ firstOver g first count
+unfolding firstOver
+over-same f g first zero same = refl
+over-same f g first (suc count) same =
+    rw (same first (omega arith) (omega arith), over-same f g (suc first) count (λ i from to. same i (omega arith) (omega arith)))
+
+-- A refusal over the tasks is that of the first task that is refused.
+pub over-first : (row : ℕ → Answer) (first count number task : ℕ) → firstOver row first count ≡ Refused number task →
+    (i : ℕ) × ((i < first + count) × (row i ≡ Refused number task) × ((j : ℕ) → first ≤ j → j < i → row j ≡ Accepted))
+unfolding firstOver
+over-first row first zero number task e = absurd (let z : _≡_ {A = ℕ} 0 1 = cc in omega arith)
+over-first row first (suc count) number task e = go (row first) refl (over-first row (suc first) count number task) e
+  where
+    earlier : (i : ℕ) → row first ≡ Accepted → ((j : ℕ) → suc first ≤ j → j < i → row j ≡ Accepted) → (j : ℕ) → first ≤ j → j < i →
+        Dec (first < j) → row j ≡ Accepted
+    earlier i q rest j from before (yes later) = rest j later before
+    earlier i q rest j from before (no not-later) = let same : j ≡ first = omega arith in ap row same ∙ q
+
+    go : (a : Answer) → row first ≡ a →
+        (firstOver row (suc first) count ≡ Refused number task →
+        (i : ℕ) × ((i < suc first + count) × (row i ≡ Refused number task) × ((j : ℕ) → suc first ≤ j → j < i → row j ≡ Accepted))) →
+        (a orElse firstOver row (suc first) count) ≡ Refused number task →
+        (i : ℕ) × ((i < first + suc count) × (row i ≡ Refused number task) × ((j : ℕ) → first ≤ j → j < i → row j ≡ Accepted))
+    go Accepted q rest h =
+        let found = rest h in
+        let to = found .1 .0 in
+        (found .0, (omega arith, found .1 .1, λ j from before. earlier (found .0) q (found .1 .2) j from before (decLt first j)))
+    go (Refused k j) q rest h = (first, (omega arith, q ∙ h, λ j′ from before. absurd (omega arith)))
+
+-- Refusal 7 of a task says that it has no option, and has its number.
+pub share-refused : (set : TaskSet) (i number task : ℕ) → shareAnswer set i ≡ Refused number task →
+    (isEmpty (optionsOf (set .processors) (taskIn set i)) ≡ true) × (number ≡ noShare) × (task ≡ i)
+unfolding shareAnswer
+share-refused set i number task e = go (isEmpty (optionsOf (set .processors) (taskIn set i))) e
+  where
+    go : (t : Bool) → refusedIf t noShare i ≡ Refused number task → (t ≡ true) × (number ≡ noShare) × (task ≡ i)
+    go true h = (refl, cc, cc)
+    go false h = absurd (let z : _≡_ {A = ℕ} 0 1 = cc in omega arith)
+
+-- An option of each task, by the task's number.
+pub takes-at : {A : Type 0} (options : A → List Share) (tasks : List A) (choice : List Share) → Takes (map options tasks) choice →
+    (i : ℕ) (d : A) → i < length tasks → List·Memᴰ (getD choice i noProcessors) (options (getD tasks i d))
+takes-at options [] choice t i d inside = absurd (omega arith)
+takes-at options (task ∷ tasks) [] t i d inside = absurd t
+takes-at options (task ∷ tasks) (s ∷ choice) (m, t) zero d inside = m
+takes-at options (task ∷ tasks) (s ∷ choice) (m, t) (suc i) d inside = takes-at options tasks choice t i d (omega arith)
+
+pub takes-length : {A : Type 0} (options : A → List Share) (tasks : List A) (choice : List Share) → Takes (map options tasks) choice →
+    length choice ≡ length tasks
+takes-length options [] [] t = refl
+takes-length options [] (s ∷ choice) t = absurd t
+takes-length options (task ∷ tasks) [] t = absurd t
+takes-length options (task ∷ tasks) (s ∷ choice) (m, t) = ap suc (takes-length options tasks choice t)
+
+module _ (set : TaskSet) (lawful : LawfulSet set) where
+  there : set .count ≤ length (set .tasks)
+  there = let long = lawful .all-there in let few = lawful .few-tasks in omega arith
+
+  rows-there : set .count ≤ length (rowsOf set)
+  unfolding rowsOf
+  rows-there =
+      let few = lawful .few-tasks in
+      let long : length (rowsOf set) ≡ 16 = cells-length (λ i. record { cells = rowOf (set .processors) (taskIn set i) }) zeroRow 0 16 (set .count) in
+      omega arith
+
+  -- The row of task i.
+  pub rows-at : (i : ℕ) → i < set .count → getD (rowsOf set) i missingRow ≡ record { cells = rowOf (set .processors) (taskIn set i) }
+  unfolding rowsOf
+  rows-at i inside =
+      let few = lawful .few-tasks in
+      cells-at (λ j. record { cells = rowOf (set .processors) (taskIn set j) }) zeroRow 16 (set .count) i missingRow (omega arith) inside
+
+  row-at-task : (i : ℕ) → i < set .count →
+      RowOf (set .processors) (optionsOf (set .processors) (taskIn set i)) (cellAt (getD (rowsOf set) i missingRow .cells))
+  row-at-task i inside =
+      rw (rows-at i inside) (row-rows (set .processors) (taskIn set i) (lawful .few-processors) (lawful .lawful i inside))
+
+  -- The rows of the last tasks, one task after the other.
+  rows-from : (count i : ℕ) → i + count ≡ set .count →
+      Rows (set .processors) (map (optionsOf (set .processors)) (take count (drop i (set .tasks)))) (drop i (rowsUpTo (set .count) (rowsOf set)))
+  unfolding taskIn
+  rows-from zero i e =
+      let past : length (rowsUpTo (set .count) (rowsOf set)) ≤ i = omega (arith, rows-length (set .count) (rowsOf set) rows-there) in
+      rw (drop-of-length-le (rowsUpTo (set .count) (rowsOf set)) past) no-row
+  rows-from (suc count) i e =
+      let inside : i < length (set .tasks) = omega (arith, there) in
+      let later = rows-from count (i + 1) (omega arith) in
+      rw (drop-cons (set .tasks) i missingTask inside, rows-open (set .count) (rowsOf set) rows-there i (omega arith))
+      (row-and (row-at-task i (omega arith))
+      (subst (λ (j : ℕ). Rows (set .processors) (map (optionsOf (set .processors)) (take count (drop j (set .tasks)))) (drop (i + 1) (rowsUpTo (set .count) (rowsOf set)))) (add-one i) later))
+
+  set-rows : Rows (set .processors) (map (optionsOf (set .processors)) (tasksOf set)) (rowsUpTo (set .count) (rowsOf set))
+  set-rows = rows-from (set .count) 0 (omega arith)
+
+  -- What the rows select is what is chosen.
+  pub selected-chosen : chosenFor set ≡ selected (set .processors) (rowsUpTo (set .count) (rowsOf set))
+  unfolding chosenFor chosen fitting
+  selected-chosen = select-least set-rows
+
+  -- Refusal 7 by the rows and by the options.
+  answer-same : (i : ℕ) → i < set .count → rowAnswer (set .processors) (rowsOf set) i ≡ shareAnswer set i
+  unfolding rowAnswer shareAnswer
+  answer-same i inside =
+      ap (λ (t : Bool). refusedIf t noShare i)
+      (ap (λ (row : Row). offersNone (set .processors) (row .cells)) (rows-at i inside)
+      ∙ offers-empty (set .processors) (taskIn set i) (lawful .few-processors) (lawful .lawful i inside))
+
+  pub answers-same : firstOver (rowAnswer (set .processors) (rowsOf set)) 0 (set .count) ≡ firstOver (shareAnswer set) 0 (set .count)
+  answers-same = over-same _ _ 0 (set .count) (λ i from to. answer-same i (omega arith))
+
+  -- An option of each task, in a choice that fits.
+  pub fitting-takes : (choice : List Share) → List·Memᴰ choice (fitting (set .processors) (tasksOf set)) →
+      Takes (map (optionsOf (set .processors)) (tasksOf set)) choice
+  unfolding fitting
+  fitting-takes choice m =
+      let options = map (optionsOf (set .processors)) (tasksOf set) in
+      choice-takes options choice (keep-from (fits (set .processors)) (choices options) choice m .0)
+
+  pub fitting-option : (choice : List Share) → List·Memᴰ choice (fitting (set .processors) (tasksOf set)) → (i : ℕ) → i < set .count →
+      List·Memᴰ (getD choice i noProcessors) (optionsOf (set .processors) (taskIn set i))
+  unfolding taskIn
+  fitting-option choice m i inside =
+      let long = length-take-le (set .count) (set .tasks) there in
+      subst (λ (t : Task). List·Memᴰ (getD choice i noProcessors) (optionsOf (set .processors) t)) (getD-take (set .count) (set .tasks) i missingTask inside)
+      (takes-at (optionsOf (set .processors)) (tasksOf set) choice (fitting-takes choice m) i missingTask (omega arith))
+
+  -- Nothing is chosen where a task has no option.
+  pub refused-none : (number task : ℕ) → firstOver (shareAnswer set) 0 (set .count) ≡ Refused number task → chosenFor set ≡ none
+  unfolding chosenFor chosen
+  refused-none number task e =
+      let found = over-first (shareAnswer set) 0 (set .count) number task e in
+      let inside = found .1 .0 in
+      ap leastOf
+      (none-empty (fitting (set .processors) (tasksOf set))
+      (λ choice m.
+      empty-none _ _ (share-refused set (found .0) number task (found .1 .1) .0) (fitting-option choice m (found .0) (omega arith))))
+      ∙ least-of-none
+
+  -- The answers of `choose`, by the rows.
+  module _ (rows : List Row) (of-set : rows ≡ rowsOf set) where
+    answers-are : firstOver (shareAnswer set) 0 (set .count) ≡ firstOver (rowAnswer (set .processors) rows) 0 (set .count)
+    answers-are = rw of-set (sym answers-same)
+
+    pub choice-refused : (number task : ℕ) → firstOver (rowAnswer (set .processors) rows) 0 (set .count) ≡ Refused number task →
+        record { answer = Refused number task; shares = replicate 16 noProcessors } ≡ choiceOf set
+    unfolding choiceOf choiceAnswer
+    choice-refused number task refused =
+        let here = answers-are ∙ refused in
+        rw (here, refused-none number task here, sixteen-none)
+
+    pub choice-selected : (chosen-shares : Chosen) → firstOver (rowAnswer (set .processors) rows) 0 (set .count) ≡ Accepted →
+        chosen-shares ≡ selectionOf (set .processors) (rowsUpTo (set .count) rows) → chosen-shares ≡ choiceOf set
+    unfolding choiceOf choiceAnswer selectionOf
+    choice-selected chosen-shares accepted same =
+        let here = answers-are ∙ accepted in
+        same ∙ rw (here, selected-chosen, of-set)

@@ -1,0 +1,102 @@
+-- `choice::choose` meets its contract: refusal 7 by the rows, then what the rows select. The loop's invariant: refusal 7 over
+-- the tasks left is refusal 7 over all tasks. The measure is the tasks left.
+use Prim.Native.Nat.{_-_, _≤_}
+use mathlib.Core.Path.{_≡_, sym, ap, _∙_}
+use mathlib.Core.Bool.{Bool}
+use native.Mathlib.Omega.{arith}
+use borrow.Author.Needs.{needs}
+use Rattle.sheet.specs.Answers.{refusedIf, firstOver}
+use Rattle.sheet.proofs.Faults.{over-next, over-stop, over-end, over-all}
+use Rattle.sheet.proofs.Said.{with-said}
+use Rattle.allocation.specs.declared.choice.Chosen.{Chosen}
+use Rattle.allocation.specs.Allocation.{noShare}
+use Rattle.allocation.specs.Selection.{rowAnswer}
+use Rattle.allocation.proofs.Sets.{choice-refused, choice-selected}
+use Rattle.allocation.proofs.choice.choose.Statement.{statement}
+use Rattle.allocation.proofs.choice.choose.Tie as tie
+
+abbrev Inv-loop : tie.InvT-loop
+Inv-loop n m rows i₀ i = (i ≤ n) × (firstOver (rowAnswer m rows) i (n - i) ≡ firstOver (rowAnswer m rows) 0 n)
+
+abbrev μ-loop : tie.MeasureT-loop
+μ-loop n m rows i₀ i = n - i
+
+rows-of-requires : tie.Need-rows-of-requires Inv-loop μ-loop
+rows-of-requires c κs = search needs
+
+loop-holds : tie.Need-loop-holds Inv-loop μ-loop
+loop-holds c =
+    let set = c .before .args .set in
+    (omega arith, over-all (rowAnswer (set .processors) (c .rows-of .result)) (set .count))
+
+cast-row : tie.Need-cast-row Inv-loop μ-loop
+cast-row c = search needs
+
+mul-row : tie.Need-mul-row Inv-loop μ-loop
+mul-row c = search needs
+
+array-copy-out-row : tie.Need-array-copy-out-row Inv-loop μ-loop
+array-copy-out-row c = search needs
+
+offers-none-requires : tie.Need-offers-none-requires Inv-loop μ-loop
+offers-none-requires c κs = search needs
+
+returns : tie.Need-returns Inv-loop μ-loop
+unfolding rowAnswer
+returns c =
+    let at = c .before .before .before .before .before in
+    let start = at .before .before in
+    let set = start .args .set in
+    let refused = ap (λ (t : Bool). refusedIf t noShare (at .loop .i)) (sym (c .before .offers-none .ensures) ∙ c .if1 .taken) in
+    with-said (λ (r : Chosen). r .answer)
+    (choice-refused set (start .pre) _ (at .before .rows-of .ensures) noShare (at .loop .i)
+    (sym (at .loop .inv .1) ∙ over-stop (rowAnswer (set .processors) (at .before .rows-of .result)) (at .loop .i) (set .count) (omega arith) refused))
+
+add-i : tie.Need-add-i Inv-loop μ-loop
+add-i c = search needs
+
+loop-less : tie.Need-loop-less Inv-loop μ-loop
+loop-less c = search needs
+
+loop-again : tie.Need-loop-again Inv-loop μ-loop
+unfolding rowAnswer
+loop-again c =
+    let at = c .before .before .before .before .before in
+    let set = at .before .before .args .set in
+    let accepted = ap (λ (t : Bool). refusedIf t noShare (at .loop .i)) (sym (c .before .offers-none .ensures) ∙ c .if1 .left) in (
+      omega arith,
+      over-next (rowAnswer (set .processors) (at .before .rows-of .result)) (at .loop .i) (set .count) (omega arith) accepted
+          ∙ at .loop .inv .1,
+    )
+
+select-requires : tie.Need-select-requires Inv-loop μ-loop
+select-requires c κs = search needs
+
+returns-2 : tie.Need-returns-2 Inv-loop μ-loop
+returns-2 c =
+    let at = c .before .before in
+    let start = at .before .before in
+    let set = start .args .set in
+    with-said (λ (r : Chosen). r .answer)
+    (choice-selected set (start .pre) _ (at .before .rows-of .ensures) (c .select .result)
+    (sym (at .loop .inv .1) ∙ over-end (rowAnswer (set .processors) (at .before .rows-of .result)) (at .loop .i) (set .count) (omega arith))
+    (c .select .ensures))
+
+pub choose-spec : {M : Type 1} → statement M
+choose-spec =
+    tie.close
+    (tie.spec
+    Inv-loop
+    μ-loop
+    rows-of-requires
+    loop-holds
+    cast-row
+    mul-row
+    array-copy-out-row
+    offers-none-requires
+    returns
+    add-i
+    loop-less
+    loop-again
+    select-requires
+    returns-2)

@@ -1,0 +1,46 @@
+// The choice of shares for a task set.
+ghost use mathlib.Core.Path.{_≡_};
+ghost use Rattle.sheet.specs.Answers.{numberOf, taskOf, Says};
+ghost use Rattle.allocation.specs.Lawful.{LawfulSet};
+ghost use Rattle.allocation.specs.Allocation.{choiceOf};
+use crate::rows::offers_none;
+use crate::rows::rows_of;
+use crate::selection::select;
+use shares::share::Share;
+use sheet::answer::Answer;
+use sheet::task::TaskSet;
+
+const NO_SHARE: u8 = 7;
+
+// The answer on a task set, and the shares of its tasks; zeros where nothing is chosen and after the last task.
+pub struct Chosen {
+    pub answer: Answer,
+    pub shares: [Share; 16],
+}
+
+// S5.3: refusal 7 over the tasks in order, then refusal 8, and the shares that are chosen.
+pub fn choose(set: TaskSet) -> Chosen
+    requires { ⌜ LawfulSet set ⌝ }
+    ensures whole { λ r. ⌜ r ≡ choiceOf set ⌝ }
+    ensures says { λ r. ⌜ Says (r .answer) (numberOf (choiceOf set .answer)) (taskOf (choiceOf set .answer)) ⌝ }
+{
+    let n = set.count;
+    let m = set.processors;
+    let rows = rows_of(set);
+    let mut i: u8 = 0;
+    while i < n {
+        let row = rows[i as usize];
+        let cells = row.cells;
+        if offers_none(cells, m) {
+            return Chosen {
+                answer: Answer::Refused(NO_SHARE, i),
+                shares: [Share {
+                    typical: 0,
+                    critical: 0,
+                }; 16],
+            };
+        }
+        i += 1;
+    }
+    select(rows, n, m)
+}
