@@ -21,7 +21,8 @@ use Rattle.dispatcher.specs.Answers.{tickNumber, tickTask}
 use Rattle.dispatcher.specs.Calls.{releaseOf, tickOf}
 use Rattle.guarantee.specs.declared.turn.Turn.{Turn}
 use Rattle.guarantee.specs.Runs.{Said, released, ticked}
-use Rattle.guarantee.specs.Record.{outcomeOf, markByte, u32Bytes, jobBytes, rowsBytes, modelBytes, recordOf, turnOf, turnBytes}
+use Rattle.sheet.specs.Encoding.{u32Bytes}
+use Rattle.guarantee.specs.Record.{outcomeOf, markByte, jobBytes, rowsBytes, modelBytes, recordOf, turnOf, turnBytes}
 
 -- Bytes stored behind others.
 pub sets-append : (out : List ℕ) (at : ℕ) (xs ys : List ℕ) → sets out at (xs ++ ys) ≡ sets (sets out at xs) (at + length xs) ys

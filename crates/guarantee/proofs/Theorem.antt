@@ -9,17 +9,18 @@ use Rattle.sheet.specs.declared.answer.Answer.the-variants.{Accepted, Refused}
 use Rattle.reader.specs.Reading.{readOf}
 use Rattle.allocation.specs.Lawful.{LawfulSet}
 use Rattle.allocation.specs.Allocation.{chosenFor, choiceAnswer}
-use Rattle.allocation.proofs.Accepted.{both-accepted, accepted-lawful}
-use Rattle.allocation.proofs.Accepted.{accepted-choice}
+use Rattle.allocation.proofs.Accepted.{both-accepted, accepted-lawful, accepted-choice}
 use Rattle.model.specs.Step.{Model, Call}
 use Rattle.model.specs.Run.{after}
-use Rattle.model.proofs.Theorem.{demand3}
+use Rattle.model.specs.Beside.{Beside}
+use Rattle.model.specs.Plan.{Planned}
+use Rattle.model.proofs.Theorem.{demand3, beside}
 use Rattle.dispatcher.specs.declared.state.State.{State}
 use Rattle.dispatcher.specs.Holds.{modelOf}
 use Rattle.dispatcher.specs.Sound.{isSound}
 use Rattle.start.specs.Start.{freshState, startAnswer, startedWith, startOf}
 use Rattle.guarantee.specs.Runs.{allModelSaid}
-use Rattle.guarantee.specs.Guarantee.{tasksOf, sharesFor, modelFor, startState, Guaranteed, Guarantee}
+use Rattle.guarantee.specs.Guarantee.{tasksOf, sharesFor, modelFor, startState, Guaranteed, Guarantee, BesideGuarantee}
 use Rattle.guarantee.proofs.Together.{run-said, run-model}
 use Rattle.guarantee.proofs.Planning.{planned}
 use Rattle.guarantee.proofs.Freshness.{fresh-model, fresh-sound}
@@ -57,10 +58,13 @@ module _ (sheet : List ℕ) (accepted : startOf sheet .answer ≡ Accepted) wher
   unfolding modelFor
   state-model = rw state-is (fresh-model (tasksOf sheet) lawful (sharesFor sheet) chosen-it)
 
+  sheet-planned : Planned (tasksOf sheet) (sharesFor sheet)
+  sheet-planned = planned (tasksOf sheet) lawful (sharesFor sheet) chosen-it
+
   guaranteed : (calls : List Call) → Guaranteed sheet calls
   unfolding modelFor
   guaranteed calls =
-      let whole = demand3 (tasksOf sheet) (sharesFor sheet) (planned (tasksOf sheet) lawful (sharesFor sheet) chosen-it) calls in
+      let whole = demand3 (tasksOf sheet) (sharesFor sheet) sheet-planned calls in
       record {
         answers = run-said (startState sheet) state-sound calls ∙ ap (λ (m : Model). allModelSaid m calls) state-model;
         states = run-model (startState sheet) state-sound calls ∙ ap (λ (m : Model). after m calls) state-model;
@@ -69,6 +73,13 @@ module _ (sheet : List ℕ) (accepted : startOf sheet .answer ≡ Accepted) wher
         nominal = whole .nominal;
       }
 
+  besides : (calls : List Call) → Beside (tasksOf sheet) (sharesFor sheet) calls
+  besides calls = beside (tasksOf sheet) (sharesFor sheet) sheet-planned calls
+
 pub guarantee : Guarantee
 unfolding Guarantee
 guarantee = guaranteed
+
+pub beside-guarantee : BesideGuarantee
+unfolding BesideGuarantee
+beside-guarantee = besides

@@ -11,6 +11,7 @@ use Rattle.model.specs.Step.{Model, Call}
 use Rattle.model.specs.Run.{after}
 use Rattle.model.specs.Plan.{fresh}
 use Rattle.model.specs.Claim.{Deadline, Capacity, Nominal}
+use Rattle.model.specs.Beside.{Beside}
 use Rattle.dispatcher.specs.declared.state.State.{State}
 use Rattle.dispatcher.specs.Holds.{modelOf}
 use Rattle.start.specs.Start.{startOf}
@@ -48,3 +49,8 @@ pub record Guaranteed (sheet : List ℕ) (calls : List Call) : Type 0 where
 -- S10.1: it holds of every sheet that Start accepts and of every list of calls, whatever their arguments and answers.
 unfoldable pub Guarantee : Type 0
 Guarantee = (sheet : List ℕ) → startOf sheet .answer ≡ Accepted → (calls : List Call) → Guaranteed sheet calls
+
+-- S10.10: what holds of the same runs beside it.
+unfoldable pub BesideGuarantee : Type 0
+BesideGuarantee =
+    (sheet : List ℕ) → startOf sheet .answer ≡ Accepted → (calls : List Call) → Beside (tasksOf sheet) (sharesFor sheet) calls

@@ -1,9 +1,10 @@
 -- S12.2: what Replay writes for a call: its answer, and what the state then holds, in 4 + 9n bytes.
-use Prim.Native.Nat.{ℕ, _/_, _%_}
+use Prim.Native.Nat.{ℕ}
 use mathlib.Core.Bool.{Bool, cond}
 use mathlib.Core.List.{List, [], _∷_, _++_}
 use Rattle.sheet.specs.declared.answer.Answer.{Answer}
 use Rattle.sheet.specs.declared.answer.Answer.the-variants.{Accepted, Refused}
+use Rattle.sheet.specs.Encoding.{u32Bytes}
 use Rattle.sheet.specs.Answers.{noTask, numberOf, taskOf}
 use Rattle.model.specs.Row.{Job, Row}
 use Rattle.model.specs.Step.{Model, Call}
@@ -51,10 +52,6 @@ answerBytes a = numberOf a ∷ taskOf a ∷ []
 -- S12.2: a mark is the byte 1, its absence 0.
 unfoldable pub markByte : Bool → ℕ
 markByte b = cond b 1 0
-
--- S1.1: a number in four bytes.
-unfoldable pub u32Bytes : ℕ → List ℕ
-u32Bytes x = x % 256 ∷ x / 256 % 256 ∷ x / 65536 % 256 ∷ x / 16777216 % 256 ∷ []
 
 -- S12.2: what is held of a task, in 9 bytes: its alive mark, age and ended set.
 unfoldable pub jobBytes : Job → List ℕ

@@ -14,8 +14,7 @@ use Rattle.reader.specs.declared.Reading.{Reading}
 use Rattle.reader.specs.Reading.{readOf}
 use Rattle.allocation.specs.declared.choice.Chosen.{Chosen}
 use Rattle.allocation.specs.Lawful.{LawfulSet}
-use Rattle.allocation.proofs.Accepted.{accepted-lawful}
-use Rattle.allocation.proofs.Accepted.{accepted-choice}
+use Rattle.allocation.proofs.Accepted.{accepted-lawful, accepted-choice}
 use Rattle.planner.proofs.Plans.{plan-fits, plan-laid, plan-read, plan-choice, plan-room, plan-accepted, planned-refused, planned-accepted}
 use borrow.Author.Needs.{needs}
 use Rattle.planner.proofs.plan.plan.Statement.{statement}
