@@ -1,10 +1,10 @@
 -- S11.14 by computation: the bytes of the sheet of A, B and E, and what is printed for it.
-use Prim.Native.Nat.{ℕ}
 use mathlib.Core.Path.{_≡_, refl}
-use mathlib.Core.List.{List, [], _∷_, _++_}
+use mathlib.Core.List.{[], _∷_, _++_}
 use Rattle.sheet.specs.Answers.{firstOver}
 use Rattle.sheet.specs.Format.{byteAt, u16At, u32At, processorsOf, countOf, offsetOf, lengthOf, startOf, cellsFrom, levelAt, nodesAt, figuresAt, masksAt, taskAt, zeroTask, tasksBelow, taskSetOf, zeroTaskSet, taskIn}
 use Rattle.sheet.specs.Rules.{levelLawful, shapeLawful, inRange, inOrder, lowLawful, figuresLawful, maskLawful, allBelow, masksLawful, isHeavy, taskAnswer}
+use Rattle.reader.proofs.Worked.{sheetABE}
 use Rattle.reader.specs.Reading.{headerLawful, headerAnswer, placeAnswer, endAnswer, shapeAnswer, recordAnswer, answerOf, readOf}
 use Rattle.shares.specs.Test.{excess, demand, passes, virtualDeadline}
 use Rattle.shares.specs.Low.{isLow, ceilDiv, lowShare, hasLowShare}
@@ -16,31 +16,20 @@ use Rattle.allocation.specs.Allocation.{chosenFor, shareAnswer, choiceAnswer}
 use Rattle.plan_text.specs.Decimal.{digitsWithin, decimal}
 use Rattle.plan_text.specs.Printed.{fieldsOf, planLines, refusalLine, printedAnswer, textOf}
 
--- The record of a task of one node without predecessors: level, D, CN, CO, LN, LO, each figure below 256.
-abbrev recordOf : ℕ → ℕ → ℕ → ℕ → ℕ → ℕ → List ℕ
-recordOf level D CN CO LN LO =
-    level ∷ 1 ∷ D ∷ 0 ∷ CN ∷ 0 ∷ CO ∷ 0 ∷ LN ∷ 0 ∷ LO ∷ 0 ∷ 0 ∷ 0 ∷ 0 ∷ 0 ∷ []
-
--- A, B and E on M processors: M, n, the directory 14, 16, 30, 16, 46, 16, and the records.
-abbrev sheetOn : ℕ → List ℕ
-sheetOn M =
-    M ∷ 3 ∷ 14 ∷ 0 ∷ 16 ∷ 0 ∷ 30 ∷ 0 ∷ 16 ∷ 0 ∷ 46 ∷ 0 ∷ 16 ∷ 0
-    ∷ recordOf 1 45 9 52 4 20 ++ recordOf 1 54 11 80 4 42 ++ recordOf 0 18 66 66 6 6
-
 pub record Sheets : Type 0 where
   -- S6.2: a sheet of no bytes is `refused 1 255`.
   pub no-bytes : textOf [] ≡ 114 ∷ 101 ∷ 102 ∷ 117 ∷ 115 ∷ 101 ∷ 100 ∷ 32 ∷ 49 ∷ 32 ∷ 50 ∷ 53 ∷ 53 ∷ 10 ∷ []
   -- S11.14: the three lines.
-  pub printed : textOf (sheetOn 8)
+  pub printed : textOf (sheetABE 8)
       ≡ 48 ∷ 32 ∷ 48 ∷ 32 ∷ 49 ∷ 32 ∷ 48 ∷ 32 ∷ 50 ∷ 32 ∷ 57 ∷ 10
       ∷ 49 ∷ 32 ∷ 49 ∷ 32 ∷ 50 ∷ 32 ∷ 50 ∷ 32 ∷ 54 ∷ 32 ∷ 55 ∷ 10
       ∷ 50 ∷ 32 ∷ 51 ∷ 32 ∷ 53 ∷ 32 ∷ 56 ∷ 32 ∷ 48 ∷ 32 ∷ 48 ∷ 10 ∷ []
   -- S11.12: on 7 processors `refused 8 255`.
-  pub no-fit : textOf (sheetOn 7) ≡ 114 ∷ 101 ∷ 102 ∷ 117 ∷ 115 ∷ 101 ∷ 100 ∷ 32 ∷ 56 ∷ 32 ∷ 50 ∷ 53 ∷ 53 ∷ 10 ∷ []
+  pub no-fit : textOf (sheetABE 7) ≡ 114 ∷ 101 ∷ 102 ∷ 117 ∷ 115 ∷ 101 ∷ 100 ∷ 32 ∷ 56 ∷ 32 ∷ 50 ∷ 53 ∷ 53 ∷ 10 ∷ []
   -- S9.7: on 3 processors there is no share for B: `refused 7 1`.
-  pub no-share : textOf (sheetOn 3) ≡ 114 ∷ 101 ∷ 102 ∷ 117 ∷ 115 ∷ 101 ∷ 100 ∷ 32 ∷ 55 ∷ 32 ∷ 49 ∷ 10 ∷ []
+  pub no-share : textOf (sheetABE 3) ≡ 114 ∷ 101 ∷ 102 ∷ 117 ∷ 115 ∷ 101 ∷ 100 ∷ 32 ∷ 55 ∷ 32 ∷ 49 ∷ 10 ∷ []
   -- S9.2: with a byte behind the last record `refused 2 2`.
-  pub too-long : textOf (sheetOn 8 ++ 0 ∷ []) ≡ 114 ∷ 101 ∷ 102 ∷ 117 ∷ 115 ∷ 101 ∷ 100 ∷ 32 ∷ 50 ∷ 32 ∷ 50 ∷ 10 ∷ []
+  pub too-long : textOf (sheetABE 8 ++ 0 ∷ []) ≡ 114 ∷ 101 ∷ 102 ∷ 117 ∷ 115 ∷ 101 ∷ 100 ∷ 32 ∷ 50 ∷ 32 ∷ 50 ∷ 10 ∷ []
 
 sheets : Sheets
 unfolding firstOver byteAt u16At u32At processorsOf countOf offsetOf lengthOf startOf cellsFrom levelAt nodesAt figuresAt masksAt taskAt zeroTask tasksBelow taskSetOf zeroTaskSet taskIn levelLawful shapeLawful inRange inOrder lowLawful figuresLawful maskLawful allBelow masksLawful isHeavy taskAnswer headerLawful headerAnswer placeAnswer endAnswer shapeAnswer recordAnswer answerOf readOf excess demand passes virtualDeadline isLow ceilDiv lowShare hasLowShare virtualOf range lowOptions pairsWithin highOptions optionsOf fits leastOf fitting chosen offsetIn lengthIn chosenFor shareAnswer choiceAnswer digitsWithin decimal fieldsOf planLines refusalLine printedAnswer textOf

@@ -3,11 +3,12 @@ use Prim.Native.Nat.{ℕ}
 use mathlib.Core.Path.{_≡_, refl}
 use mathlib.Core.Bool.{true, false}
 use mathlib.Core.List.{List, [], _∷_, _++_}
-use lib.ListN.{length, replicate}
+use lib.ListN.{replicate}
 use Rattle.sheet.specs.declared.answer.Answer.the-variants.{Accepted, Refused}
 use Rattle.sheet.specs.Answers.{firstOver}
 use Rattle.sheet.specs.Format.{byteAt, u16At, u32At, processorsOf, countOf, offsetOf, lengthOf, startOf, cellsFrom, levelAt, nodesAt, figuresAt, masksAt, taskAt, zeroTask, tasksBelow, taskSetOf, taskIn}
 use Rattle.sheet.specs.Rules.{levelLawful, shapeLawful, inRange, inOrder, lowLawful, figuresLawful, maskLawful, allBelow, masksLawful, isHeavy, taskAnswer}
+use Rattle.reader.proofs.Worked.{sheetABE}
 use Rattle.reader.specs.Reading.{headerLawful, headerAnswer, placeAnswer, endAnswer, shapeAnswer, recordAnswer, answerOf, readOf}
 use Rattle.shares.specs.Deadline.{virtualOf}
 use Rattle.shares.specs.Low.{isLow, ceilDiv, lowShare, hasLowShare}
@@ -42,15 +43,6 @@ planAB = typical ++ (critical ++ virtuals)
     virtuals : List ℕ
     virtuals = 9 ∷ 0 ∷ 6 ∷ 0 ∷ []
 
--- S11.14: the sheet of A, B and E on 8 processors, a node each.
-abbrev pub sheetABE : List ℕ
-sheetABE =
-    8 ∷ 3
-    ∷ 14 ∷ 0 ∷ 16 ∷ 0 ∷ 30 ∷ 0 ∷ 16 ∷ 0 ∷ 46 ∷ 0 ∷ 16 ∷ 0
-    ∷ 1 ∷ 1 ∷ 45 ∷ 0 ∷ 9 ∷ 0 ∷ 52 ∷ 0 ∷ 4 ∷ 0 ∷ 20 ∷ 0 ∷ 0 ∷ 0 ∷ 0 ∷ 0
-    ∷ 1 ∷ 1 ∷ 54 ∷ 0 ∷ 11 ∷ 0 ∷ 80 ∷ 0 ∷ 4 ∷ 0 ∷ 42 ∷ 0 ∷ 0 ∷ 0 ∷ 0 ∷ 0
-    ∷ 0 ∷ 1 ∷ 18 ∷ 0 ∷ 66 ∷ 0 ∷ 66 ∷ 0 ∷ 6 ∷ 0 ∷ 6 ∷ 0 ∷ 0 ∷ 0 ∷ 0 ∷ 0 ∷ []
-
 pub record Worked : Type 0 where
   -- S5.4: the blocks of three tasks, the last of which has none in critical mode.
   pub typical-blocks : blockBytes false (pair 1 3 ∷ pair 2 2 ∷ pair 2 0 ∷ []) 3 ≡ 0 ∷ 1 ∷ 1 ∷ 2 ∷ 3 ∷ 2 ∷ []
@@ -72,10 +64,9 @@ pub record Worked : Type 0 where
   pub on-eight : planBytes (on 8 ab) (sharesOf (chosenFor (on 8 ab))) ≡ planAB
   pub on-six : planBytes (on 6 ab) (sharesOf (chosenFor (on 6 ab))) ≡ planAB
   -- S11.14: the plan of a sheet of 62 bytes, and refusal 9 for a buffer that is a byte short.
-  pub sheet-length : length sheetABE ≡ 62
-  pub sheet-plan : planned sheetABE (replicate 18 255)
+  pub sheet-plan : planned (sheetABE 8) (replicate 18 255)
       ≡ 0 ∷ 1 ∷ 1 ∷ 2 ∷ 3 ∷ 5 ∷ 0 ∷ 2 ∷ 2 ∷ 6 ∷ 8 ∷ 0 ∷ 9 ∷ 0 ∷ 7 ∷ 0 ∷ 0 ∷ 0 ∷ []
-  pub sheet-room : planAnswer sheetABE 17 ≡ Refused 9 255
+  pub sheet-room : planAnswer (sheetABE 8) 17 ≡ Refused 9 255
 
 pub worked : Worked
 unfolding byteAt u16At u32At processorsOf countOf offsetOf lengthOf startOf cellsFrom levelAt nodesAt figuresAt masksAt taskAt zeroTask tasksBelow taskSetOf taskIn levelLawful shapeLawful inRange inOrder lowLawful figuresLawful maskLawful allBelow masksLawful isHeavy taskAnswer firstOver headerLawful headerAnswer placeAnswer endAnswer shapeAnswer recordAnswer answerOf readOf virtualOf isLow ceilDiv lowShare hasLowShare excess demand passes virtualDeadline range lowOptions pairsWithin highOptions optionsOf fits leastOf fitting chosen offsetIn lengthIn chosenFor shareAnswer choiceAnswer blockBytes virtualBytes planBytes planAnswer planned
@@ -94,7 +85,6 @@ worked =
       left-alone = refl;
       on-eight = refl;
       on-six = refl;
-      sheet-length = refl;
       sheet-plan = refl;
       sheet-room = refl;
     }

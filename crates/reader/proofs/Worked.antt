@@ -38,9 +38,9 @@ alone bytes record₀ = 8 ∷ 1 ∷ 6 ∷ 0 ∷ bytes ∷ 0 ∷ record₀
 abbrev both : List ℕ → List ℕ → List ℕ
 both record₀ record₁ = 8 ∷ 2 ∷ 10 ∷ 0 ∷ 16 ∷ 0 ∷ 26 ∷ 0 ∷ 16 ∷ 0 ∷ record₀ ++ record₁
 
--- The sheet of S11.14, without its records.
-abbrev three : List ℕ
-three = 8 ∷ 3 ∷ 14 ∷ 0 ∷ 16 ∷ 0 ∷ 30 ∷ 0 ∷ 16 ∷ 0 ∷ 46 ∷ 0 ∷ 16 ∷ 0 ∷ []
+-- S11.14: the sheet of A, B and E on M processors.
+abbrev pub sheetABE : ℕ → List ℕ
+sheetABE M = M ∷ 3 ∷ 14 ∷ 0 ∷ 16 ∷ 0 ∷ 30 ∷ 0 ∷ 16 ∷ 0 ∷ 46 ∷ 0 ∷ 16 ∷ 0 ∷ taskA ++ taskB ++ taskE
 
 -- A sheet of n times the same task, on 8 processors: the directory from an offset on, and the records.
 unfoldable pub entries : ℕ → ℕ → List ℕ
@@ -98,8 +98,8 @@ pub record Worked : Type 0 where
   pub places-first : answerOf (both (small 2 45 9 52 4 20 0) taskB ++ 0 ∷ []) ≡ Refused 2 1
   pub header-first : answerOf (65 ∷ 1 ∷ 7 ∷ 0 ∷ 16 ∷ 0 ∷ small 2 45 9 52 4 20 0) ≡ Refused 1 255
   -- S11.14: the sheet has 62 bytes, and this is what it says.
-  pub whole-length : length (three ++ taskA ++ taskB ++ taskE) ≡ 62
-  pub whole : readOf (three ++ taskA ++ taskB ++ taskE)
+  pub whole-length : length (sheetABE 8) ≡ 62
+  pub whole : readOf (sheetABE 8)
       ≡ record {
         answer = Accepted;
         set =
