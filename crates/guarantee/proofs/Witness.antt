@@ -1,7 +1,7 @@
--- What S10.7 and S10.9 ask can be met. The sheet is read and planned by computation; its model is run by computation, and the reports
+-- What S10.7, S10.9 and S10.10 ask can be met. The sheet is read and planned by computation; its model is run by computation, and the reports
 -- pass the test of true ones.
 use Prim.Native.Nat.{ℕ, zero, suc, _+_, _≤_, _<_}
-use mathlib.Core.Bool.{true, true≢false}
+use mathlib.Core.Bool.{true, false, true≢false}
 use mathlib.Core.List.{List, [], _∷_}
 use mathlib.Core.Option.{Option, some}
 use mathlib.Core.Path.{_≡_, refl, sym, ap, ap₂, subst₂, _∙_}
@@ -26,16 +26,17 @@ use Rattle.nodes.proofs.Bits.{has-zero, has-power}
 use Rattle.allocation.specs.Choice.{lowOptions, pairsWithin, highOptions, optionsOf, fits, leastOf, fitting, chosen}
 use Rattle.allocation.specs.Allocation.{chosenFor, shareAnswer, choiceAnswer, sharesOf}
 use Rattle.model.specs.Budget.{sumBelow, Chain, alone, link, along}
-use Rattle.model.specs.Row.{highLevel, isHigh, isSubset, allEnded, predecessorsOf, precedes, isReady, ready, running, runningSet, releasedRow, joined, tickedRow, isLate, switchedRow}
+use Rattle.model.specs.Row.{lowLevel, highLevel, isHigh, isSubset, allEnded, predecessorsOf, precedes, isReady, ready, running, runningSet, releasedRow, joined, tickedRow, isLate, switchedRow}
 use Rattle.model.specs.Step.{Model, Call, release, tick, step, rowAt, unknownTask, lowInCritical, tooEarly, wrongCount, notRunning, releaseRefusal, tickRefusal, released, ticked}
 use Rattle.model.specs.Run.{after, isAccepted, ticksIn, releasesIn, isRunning, isDue}
 use Rattle.model.specs.Plan.{freshRow, fresh}
 use Rattle.model.specs.Claim.{begun, KeepsBudget, NominalJob, Ended, StaysTypical, Deadline, EndInTime, Nominal}
+use Rattle.model.specs.Beside.{LowDeadline}
 use Rattle.start.specs.Start.{startAnswer, startOf}
 use Rattle.guarantee.specs.Runs.{allModelSaid}
-use Rattle.guarantee.specs.Guarantee.{tasksOf, sharesFor, modelFor, Guarantee}
-use Rattle.guarantee.specs.Witness.{twoTasks, highTask, longLengths, overrun, overrunSaid, shortLengths, usual, InTimeAsked, NominalAsked, DeadlineMet, NominalMet}
-use Rattle.guarantee.proofs.Theorem.{answer-returned, guarantee}
+use Rattle.guarantee.specs.Guarantee.{tasksOf, sharesFor, modelFor, Guarantee, BesideGuarantee}
+use Rattle.guarantee.specs.Witness.{twoTasks, highTask, longLengths, overrun, overrunSaid, shortLengths, usual, lowTask, lowAlone, InTimeAsked, NominalAsked, DeadlineMet, NominalMet, LowMet}
+use Rattle.guarantee.proofs.Theorem.{answer-returned, guarantee, beside-guarantee}
 use Rattle.guarantee.proofs.Truths.{allTrue, true-reports, at-releases}
 
 -- The tasks of the sheet, and their shares.
@@ -89,12 +90,19 @@ task-is : highTask ≡ high
 unfolding taskIn
 task-is = ap (λ (ts : TaskSet). taskIn ts 0) read-set
 
+low-is : lowTask ≡ low
+unfolding taskIn
+low-is = ap (λ (ts : TaskSet). taskIn ts 1) read-set
+
 -- The model before the runs, and after the Release that each begins with.
 abbrev start : Model
 start = fresh both pairs
 
 abbrev first : Model
 first = step start (release 0) .model
+
+abbrev firstLow : Model
+firstLow = step start (release 1) .model
 
 model-is : modelFor twoTasks ≡ start
 unfolding modelFor sharesFor
@@ -114,6 +122,15 @@ one-edge u zero e = absurd (true≢false (sym e ∙ has-zero u))
 one-edge u (suc zero) e = absurd (true≢false (sym e ∙ has-zero u))
 one-edge u (suc (suc zero)) e = (eqb-true u 1 (sym (has-power 1 u) ∙ e), refl)
 one-edge u (suc (suc (suc v))) e = absurd (true≢false (sym e ∙ ap (λ (n : ℕ). has n u) (no-mask 29 v) ∙ has-zero u))
+
+-- The low task has none, so that a chain is a node alone.
+no-edge : (u v : ℕ) → precedes (low .predecessors) u v ≡ true → ⊥
+unfolding precedes predecessorsOf
+no-edge u v e = true≢false (sym e ∙ ap (λ (n : ℕ). has n u) (no-mask 32 v) ∙ has-zero u)
+
+lone-kept : (u : ℕ) (rest : List ℕ) → Chain 2 (precedes (low .predecessors)) u rest → along shortLengths u rest ≤ 1
+lone-kept u rest (alone l) = lit≤ tt
+lone-kept u rest (link {v = v} l e c) = absurd (no-edge u v e)
 
 module _ (len : ℕ → ℕ) (span : ℕ) (each : (u : ℕ) → u < 4 → len u ≤ span) (chain : len 1 + len 2 ≤ span) where
   chains-kept : (u : ℕ) (rest : List ℕ) → Chain 4 (precedes (high .predecessors)) u rest → along len u rest ≤ span
@@ -154,6 +171,10 @@ short-keeps =
       span = chains-kept shortLengths 2 (λ v h. lit≤ tt) (lit≤ tt);
     }
 
+low-keeps : KeepsBudget low (low .figures .nominal) shortLengths
+unfolding KeepsBudget sumBelow
+low-keeps = record { positive = λ v h. lit≤ tt; work = lit≤ tt; span = lone-kept }
+
 -- The calls between the release of the job that overruns and the D-th tick after it.
 abbrev beforeDue : List Call
 beforeDue = take 10 (drop 1 overrun)
@@ -174,6 +195,13 @@ record Runs : Type 0 where
   pub jobs : releasesIn 0 start usual ≡ 2
   pub short-true : allTrue 0 shortLengths (λ _. 0) first (drop 1 usual) ≡ true
   pub short-again : allTrue 0 shortLengths (λ _. 0) (after start (take 11 usual)) (drop 11 usual) ≡ true
+  -- The run of the low job: its release, true reports, its D-th tick, the mode and the next release.
+  pub low-begins : isAccepted start (release 1) ≡ true
+  pub low-true : allTrue 1 shortLengths (λ _. 0) firstLow (drop 1 lowAlone) ≡ true
+  pub low-due : isAccepted (after firstLow (take 2 (drop 1 lowAlone))) (tick (0 ∷ 0 ∷ [])) ≡ true
+  pub low-ticks : ticksIn firstLow (take 2 (drop 1 lowAlone)) + 1 ≡ 3
+  pub low-typical : after start lowAlone .critical ≡ false
+  pub low-again : isAccepted (after start lowAlone) (release 1) ≡ true
 
 runs : Runs
 unfolding fresh freshRow virtualOf isLow virtualDeadline has range highLevel isHigh isSubset allEnded predecessorsOf isReady ready running runningSet releasedRow joined tickedRow isLate switchedRow step rowAt unknownTask lowInCritical tooEarly wrongCount notRunning releaseRefusal tickRefusal released ticked isAccepted isRunning isDue
@@ -188,14 +216,20 @@ runs =
       jobs = refl;
       short-true = refl;
       short-again = refl;
+      low-begins = refl;
+      low-true = refl;
+      low-due = refl;
+      low-ticks = refl;
+      low-typical = refl;
+      low-again = refl;
     }
 
-overrun-asked : InTimeAsked start high 0 overrun longLengths
+overrun-asked : InTimeAsked highLevel (high .figures .overload) start high 0 overrun longLengths
 unfolding begun highLevel
 overrun-asked =
     record {
       job = record { before = []; since = drop 1 overrun; list = refl; accepted = runs .begins };
-      high = refl;
+      level-is = refl;
       keeps = long-keeps;
       reports = true-reports 0 longLengths first (drop 1 overrun) (runs .long-true);
       passed =
@@ -222,7 +256,27 @@ usual-asked =
     nominal : (m : Model) (since : List Call) → allTrue 0 shortLengths (λ _. 0) m since ≡ true → NominalJob high 0 m since
     nominal m since h = record { lengths = shortLengths; keeps = short-keeps; reports = true-reports 0 shortLengths m since h }
 
--- Both hold of the sheet, whose model this is.
+low-asked : InTimeAsked lowLevel (low .figures .nominal) start low 1 lowAlone shortLengths
+unfolding begun lowLevel
+low-asked =
+    record {
+      job = record { before = []; since = drop 1 lowAlone; list = refl; accepted = runs .low-begins };
+      level-is = refl;
+      keeps = low-keeps;
+      reports = true-reports 1 shortLengths firstLow (drop 1 lowAlone) (runs .low-true);
+      passed =
+          record {
+            before = take 2 (drop 1 lowAlone);
+            reports = 0 ∷ 0 ∷ [];
+            later = [];
+            list = refl;
+            accepted = runs .low-due;
+            ticks = runs .low-ticks;
+            unreleased = refl;
+          };
+    }
+
+-- All of them hold of the sheet, whose model this is.
 pub deadline-met : DeadlineMet
 unfolding Guarantee
 deadline-met =
@@ -234,7 +288,7 @@ deadline-met =
           ∙ runs .said;
       beyond = rw task-is long-beyond;
       asked =
-          subst₂ (λ (m : Model) (t : Task). InTimeAsked m t 0 overrun longLengths) (sym model-is) (sym task-is) overrun-asked;
+          subst₂ (λ (m : Model) (t : Task). InTimeAsked highLevel (t .figures .overload) m t 0 overrun longLengths) (sym model-is) (sym task-is) overrun-asked;
     }
 
 pub nominal-met : NominalMet
@@ -247,14 +301,31 @@ nominal-met =
       asked = subst₂ (λ (ts : TaskSet) (m : Model). NominalAsked ts m usual) (sym read-set) (sym model-is) usual-asked;
     }
 
+pub low-met : LowMet
+low-met =
+    record {
+      started = started;
+      typical = ap (λ (m : Model). after m lowAlone .critical) model-is ∙ runs .low-typical;
+      asked =
+          subst₂ (λ (m : Model) (t : Task). InTimeAsked lowLevel (t .figures .nominal) m t 1 lowAlone shortLengths) (sym model-is) (sym low-is) low-asked;
+      again = ap (λ (m : Model). isAccepted (after m lowAlone) (release 1)) model-is ∙ runs .low-again;
+    }
+
 -- S10.7 of the one run: its job has ended.
 pub job-ended : Ended highTask (rowAt (after (modelFor twoTasks) overrun) 0)
 unfolding Guarantee Deadline EndInTime modelFor
 job-ended =
     let a = deadline-met .asked in
-    guarantee twoTasks started overrun .deadline 0 (a .job) longLengths (a .high) (a .keeps) (a .reports) (a .passed)
+    guarantee twoTasks started overrun .deadline 0 (a .job) longLengths (a .level-is) (a .keeps) (a .reports) (a .passed)
 
 -- S10.9 of the other: the mode stays typical.
 pub mode-typical : StaysTypical (modelFor twoTasks) usual
 unfolding Guarantee Nominal NominalAsked modelFor
 mode-typical = guarantee twoTasks started usual .nominal (nominal-met .asked)
+
+-- S10.10 of the third: the low job has ended.
+pub low-ended : Ended lowTask (rowAt (after (modelFor twoTasks) lowAlone) 1)
+unfolding BesideGuarantee LowDeadline EndInTime modelFor
+low-ended =
+    let a = low-met .asked in
+    beside-guarantee twoTasks started lowAlone .low (low-met .typical) 1 (a .job) shortLengths (a .level-is) (a .keeps) (a .reports) (a .passed)

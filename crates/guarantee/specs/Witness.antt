@@ -1,15 +1,18 @@
--- What the deadline (S10.7) and the nominal clause (S10.9) ask can be met: one sheet, and a run for each of the two clauses.
+-- What the deadline (S10.7), the nominal clause (S10.9) and the clause of low jobs (S10.10) ask can be met: one sheet, and a run for
+-- each of the three clauses.
 use Prim.Native.Nat.{ℕ}
+use mathlib.Core.Bool.{true, false}
 use mathlib.Core.List.{List, [], _∷_, _++_}
 use mathlib.Core.Path.{_≡_}
 use lib.ListN.{getD}
 use Rattle.sheet.specs.declared.answer.Answer.the-variants.{Accepted, Refused}
+use Rattle.sheet.specs.declared.task.Budget.{Budget}
 use Rattle.sheet.specs.declared.task.Task.{Task}
 use Rattle.sheet.specs.declared.task.TaskSet.{TaskSet}
 use Rattle.sheet.specs.Format.{taskIn}
-use Rattle.model.specs.Row.{highLevel}
+use Rattle.model.specs.Row.{lowLevel, highLevel}
 use Rattle.model.specs.Step.{Model, Call, release, tick}
-use Rattle.model.specs.Run.{releasesIn, TrueReports}
+use Rattle.model.specs.Run.{after, isAccepted, releasesIn, TrueReports}
 use Rattle.model.specs.Claim.{ReleaseIn, begun, KeepsBudget, DeadlinePassed, NominalJob}
 use Rattle.dispatcher.specs.declared.tick.TickAnswer.the-variants.{Ran, Switched, Refused as TickRefused}
 use Rattle.start.specs.Start.{startOf}
@@ -76,7 +79,7 @@ overrunSaid =
     ∷ ticked Ran
     ∷ []
 
--- S10.6: lengths of task 0's nodes that use up the nominal budget: together 4, and 2 along the chain.
+-- S10.6: lengths of a tick each. Those of task 0's nodes use up the nominal budget: together 4, and 2 along the chain.
 abbrev pub shortLengths : ℕ → ℕ
 shortLengths v = 1
 
@@ -99,11 +102,19 @@ usual =
     ∷ tick (2 ∷ 0 ∷ [])
     ∷ []
 
--- S10.7: what the deadline asks of a job of task i in a run.
-pub record InTimeAsked (start : Model) (t : Task) (i : ℕ) (calls : List Call) (lengths : ℕ → ℕ) : Type 0 where
+-- S2.5: task 1 of that sheet.
+abbrev pub lowTask : Task
+lowTask = taskIn (tasksOf twoTasks) 1
+
+-- S10.1: a run with a low job whose two nodes take a tick each, beside no other. It ends with the first tick, the third is the D-th.
+abbrev pub lowAlone : List Call
+lowAlone = release 1 ∷ tick (0 ∷ 3 ∷ []) ∷ tick (0 ∷ 0 ∷ []) ∷ tick (0 ∷ 0 ∷ []) ∷ []
+
+-- S10.7, S10.10: what is asked of a job of task i in a run for it to end in time, at a level and under a budget.
+pub record InTimeAsked (level : ℕ) (budget : Budget) (start : Model) (t : Task) (i : ℕ) (calls : List Call) (lengths : ℕ → ℕ) : Type 0 where
   pub job : ReleaseIn start i calls
-  pub high : t .level ≡ highLevel
-  pub keeps : KeepsBudget t (t .figures .overload) lengths
+  pub level-is : t .level ≡ level
+  pub keeps : KeepsBudget t budget lengths
   pub reports : TrueReports i lengths (begun job) (job .since)
   pub passed : DeadlinePassed t i (begun job) (job .since)
 
@@ -122,7 +133,7 @@ pub record DeadlineMet : Type 0 where
   -- The job's lengths do not keep the nominal budget.
   pub beyond : KeepsBudget highTask (highTask .figures .nominal) longLengths → ⊥
   -- All that the deadline asks holds of it.
-  pub asked : InTimeAsked (modelFor twoTasks) highTask 0 overrun longLengths
+  pub asked : InTimeAsked highLevel (highTask .figures .overload) (modelFor twoTasks) highTask 0 overrun longLengths
 
 -- S10.9 is met by a run with two accepted releases of the high task.
 pub record NominalMet : Type 0 where
@@ -133,3 +144,14 @@ pub record NominalMet : Type 0 where
   pub jobs : releasesIn 0 (modelFor twoTasks) usual ≡ 2
   -- All that the nominal clause asks holds of it.
   pub asked : NominalAsked (tasksOf twoTasks) (modelFor twoTasks) usual
+
+-- S10.10 is met by a low job in typical mode, and by its task's next release.
+pub record LowMet : Type 0 where
+  -- Start accepts the sheet.
+  pub started : startOf twoTasks .answer ≡ Accepted
+  -- The mode is typical after the run.
+  pub typical : after (modelFor twoTasks) lowAlone .critical ≡ false
+  -- All else that is asked of a low job holds of it.
+  pub asked : InTimeAsked lowLevel (lowTask .figures .nominal) (modelFor twoTasks) lowTask 1 lowAlone shortLengths
+  -- The task can be released again.
+  pub again : isAccepted (after (modelFor twoTasks) lowAlone) (release 1) ≡ true
