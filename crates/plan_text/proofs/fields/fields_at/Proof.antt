@@ -5,6 +5,7 @@ use mathlib.Core.Path.{_≡_}
 use denote.Ref.{now}
 use Rattle.sheet.specs.Format.{byteAt, u16At}
 use Rattle.plan_text.specs.Fields.{fieldsAt}
+use native.Mathlib.Omega.{arith}
 use borrow.Author.Needs.{needs}
 use Rattle.plan_text.proofs.fields.fields_at.Statement.{statement}
 use Rattle.plan_text.proofs.fields.fields_at.Tie as tie
@@ -67,13 +68,13 @@ add-t18 : tie.Need-add-t18
 add-t18 c = search needs
 
 -- The task and six bytes at their places, of which the last two are V, are the fields.
-six-fields : (plan : List ℕ) (n i : ℕ) {to tl co cl low high : ℕ} →
+six-fields : (plan : List ℕ) (n i : ℕ) {to tl co cl low high v : ℕ} →
     to ≡ byteAt plan (2 * i) → tl ≡ byteAt plan (2 * i + 1) →
     co ≡ byteAt plan (2 * n + 2 * i) → cl ≡ byteAt plan (2 * n + 2 * i + 1) →
-    low ≡ byteAt plan (4 * n + 2 * i) → high ≡ byteAt plan (4 * n + 2 * i + 1) →
+    low ≡ byteAt plan v → high ≡ byteAt plan (v + 1) → v ≡ 4 * n + 2 * i →
     (i ∷ to ∷ tl ∷ co ∷ cl ∷ (low + 256 * high) ∷ []) ≡ fieldsAt plan n i
 unfolding fieldsAt u16At
-six-fields plan n i eto etl eco ecl elow ehigh = rw (eto, etl, eco, ecl, elow, ehigh)
+six-fields plan n i eto etl eco ecl elow ehigh ev = rw (eto, etl, eco, ecl, elow, ehigh, ev)
 
 returns : tie.Need-returns
 returns c =
@@ -85,6 +86,7 @@ returns c =
     (c .before .before .u8-at4 .ensures .0)
     (c .before .u8-at5 .ensures .0)
     (c .u8-at6 .ensures .0)
+    (omega arith)
 
 pub fields-at-spec : {M : Type 1} → statement M
 fields-at-spec =
