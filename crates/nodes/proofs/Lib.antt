@@ -1,3 +1,4 @@
+pub mod Worked
 pub mod Bits
 pub mod Lists
 pub mod Counts
