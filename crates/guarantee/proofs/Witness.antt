@@ -2,7 +2,7 @@
 -- pass the test of true ones.
 use Prim.Native.Nat.{ℕ, zero, suc, _+_, _≤_, _<_}
 use mathlib.Core.Bool.{true, false, true≢false}
-use mathlib.Core.List.{List, [], _∷_}
+use mathlib.Core.List.{List, [], _∷_, _++_}
 use mathlib.Core.Option.{Option, some}
 use mathlib.Core.Path.{_≡_, refl, sym, ap, ap₂, subst₂, _∙_}
 use native.Mathlib.Omega.{arith}
@@ -10,6 +10,7 @@ use borrow.Author.Tests.{eqb-true}
 use lib.Dec.{lit≤}
 use lib.ListN.{getD, take, drop, replicate}
 use Rattle.sheet.specs.declared.answer.Answer.the-variants.{Accepted}
+use Rattle.sheet.specs.declared.task.Budget.{Budget}
 use Rattle.sheet.specs.declared.task.Task.{Task}
 use Rattle.sheet.specs.declared.task.TaskSet.{TaskSet}
 use Rattle.sheet.specs.Answers.{_orElse_, firstOver}
@@ -179,6 +180,10 @@ low-keeps = record { positive = λ v h. lit≤ tt; work = lit≤ tt; span = lone
 abbrev beforeDue : List Call
 beforeDue = take 10 (drop 1 overrun)
 
+-- A tick that reports nothing of either task.
+abbrev noReports : Call
+noReports = tick (0 ∷ 0 ∷ [])
+
 -- The runs on the model, by computation.
 record Runs : Type 0 where
   -- The first call of each run is accepted.
@@ -188,7 +193,7 @@ record Runs : Type 0 where
   -- Its reports are true.
   pub long-true : allTrue 0 longLengths (λ _. 0) first (drop 1 overrun) ≡ true
   -- Its D-th tick, and that task 0 is not released again.
-  pub due : isAccepted (after first beforeDue) (tick (0 ∷ 0 ∷ [])) ≡ true
+  pub due : isAccepted (after first beforeDue) noReports ≡ true
   pub ticks : ticksIn first beforeDue + 1 ≡ 8
   pub unreleased : releasesIn 0 (after first (take 11 (drop 1 overrun))) (drop 12 overrun) ≡ 0
   -- The other run has two high jobs, and the reports of both are true.
@@ -198,7 +203,7 @@ record Runs : Type 0 where
   -- The run of the low job: its release, true reports, its D-th tick, the mode and the next release.
   pub low-begins : isAccepted start (release 1) ≡ true
   pub low-true : allTrue 1 shortLengths (λ _. 0) firstLow (drop 1 lowAlone) ≡ true
-  pub low-due : isAccepted (after firstLow (take 2 (drop 1 lowAlone))) (tick (0 ∷ 0 ∷ [])) ≡ true
+  pub low-due : isAccepted (after firstLow (take 2 (drop 1 lowAlone))) noReports ≡ true
   pub low-ticks : ticksIn firstLow (take 2 (drop 1 lowAlone)) + 1 ≡ 3
   pub low-typical : after start lowAlone .critical ≡ false
   pub low-again : isAccepted (after start lowAlone) (release 1) ≡ true
@@ -224,25 +229,46 @@ runs =
       low-again = refl;
     }
 
-overrun-asked : InTimeAsked highLevel (high .figures .overload) start high 0 overrun longLengths
-unfolding begun highLevel
-overrun-asked =
+-- A run that begins with a release of task i, and has a tick that reports nothing as the D-th after it, asks the rest of the job.
+asked-of : (level : ℕ) (budget : Budget) (t : Task) (i : ℕ) (before later : List Call) (len : ℕ → ℕ) →
+    isAccepted start (release i) ≡ true →
+    t .level ≡ level →
+    KeepsBudget t budget len →
+    allTrue i len (λ _. 0) (step start (release i) .model) (before ++ noReports ∷ later) ≡ true →
+    isAccepted (after (step start (release i) .model) before) noReports ≡ true →
+    ticksIn (step start (release i) .model) before + 1 ≡ t .figures .deadline →
+    releasesIn i (after (step start (release i) .model) (before ++ noReports ∷ [])) later ≡ 0 →
+    InTimeAsked level budget start t i (release i ∷ before ++ noReports ∷ later) len
+unfolding begun
+asked-of level budget t i before later len begins level-is keeps truth due ticks unreleased =
     record {
-      job = record { before = []; since = drop 1 overrun; list = refl; accepted = runs .begins };
-      level-is = refl;
-      keeps = long-keeps;
-      reports = true-reports 0 longLengths first (drop 1 overrun) (runs .long-true);
+      job = record { before = []; since = before ++ noReports ∷ later; list = refl; accepted = begins };
+      level-is = level-is;
+      keeps = keeps;
+      reports = true-reports i len (step start (release i) .model) (before ++ noReports ∷ later) truth;
       passed =
           record {
-            before = beforeDue;
+            before = before;
             reports = 0 ∷ 0 ∷ [];
-            later = drop 12 overrun;
+            later = later;
             list = refl;
-            accepted = runs .due;
-            ticks = runs .ticks;
-            unreleased = runs .unreleased;
+            accepted = due;
+            ticks = ticks;
+            unreleased = unreleased;
           };
     }
+
+overrun-asked : InTimeAsked highLevel (high .figures .overload) start high 0 overrun longLengths
+unfolding highLevel
+overrun-asked =
+    asked-of highLevel (high .figures .overload) high 0 beforeDue (drop 12 overrun) longLengths
+    (runs .begins) refl long-keeps (runs .long-true) (runs .due) (runs .ticks) (runs .unreleased)
+
+low-asked : InTimeAsked lowLevel (low .figures .nominal) start low 1 lowAlone shortLengths
+unfolding lowLevel
+low-asked =
+    asked-of lowLevel (low .figures .nominal) low 1 (take 2 (drop 1 lowAlone)) [] shortLengths
+    (runs .low-begins) refl low-keeps (runs .low-true) (runs .low-due) (runs .low-ticks) refl
 
 -- Of the three releases of the other run that of the low task asks nothing.
 usual-asked : NominalAsked both start usual
@@ -255,26 +281,6 @@ usual-asked =
   where
     nominal : (m : Model) (since : List Call) → allTrue 0 shortLengths (λ _. 0) m since ≡ true → NominalJob high 0 m since
     nominal m since h = record { lengths = shortLengths; keeps = short-keeps; reports = true-reports 0 shortLengths m since h }
-
-low-asked : InTimeAsked lowLevel (low .figures .nominal) start low 1 lowAlone shortLengths
-unfolding begun lowLevel
-low-asked =
-    record {
-      job = record { before = []; since = drop 1 lowAlone; list = refl; accepted = runs .low-begins };
-      level-is = refl;
-      keeps = low-keeps;
-      reports = true-reports 1 shortLengths firstLow (drop 1 lowAlone) (runs .low-true);
-      passed =
-          record {
-            before = take 2 (drop 1 lowAlone);
-            reports = 0 ∷ 0 ∷ [];
-            later = [];
-            list = refl;
-            accepted = runs .low-due;
-            ticks = runs .low-ticks;
-            unreleased = refl;
-          };
-    }
 
 -- All of them hold of the sheet, whose model this is.
 pub deadline-met : DeadlineMet

@@ -37,6 +37,10 @@ twoTasks = 3 ∷ 2 ∷ 10 ∷ 0 ∷ 28 ∷ 0 ∷ 38 ∷ 0 ∷ 20 ∷ 0 ∷ (high
 abbrev pub highTask : Task
 highTask = taskIn (tasksOf twoTasks) 0
 
+-- S2.5: task 1 of that sheet.
+abbrev pub lowTask : Task
+lowTask = taskIn (tasksOf twoTasks) 1
+
 -- S10.6: lengths of task 0's nodes that use up the overload budget: together 9, and 3 along the chain of nodes 1 and 2.
 abbrev pub longLengths : ℕ → ℕ
 longLengths v = getD (3 ∷ 2 ∷ 1 ∷ 3 ∷ []) v 1
@@ -101,10 +105,6 @@ usual =
     ∷ tick (1 ∷ 0 ∷ [])
     ∷ tick (2 ∷ 0 ∷ [])
     ∷ []
-
--- S2.5: task 1 of that sheet.
-abbrev pub lowTask : Task
-lowTask = taskIn (tasksOf twoTasks) 1
 
 -- S10.1: a run with a low job whose two nodes take a tick each, beside no other. It ends with the first tick, the third is the D-th.
 abbrev pub lowAlone : List Call
