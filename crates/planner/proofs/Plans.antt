@@ -33,20 +33,20 @@ use Rattle.allocation.proofs.Laws.{chosen-length, chosen-typical, chosen-critic
 
 -- Three parts laid one behind the other.
 module _ (set : TaskSet) (shares : List Share) (old : List ℕ) (inside : 6 * set .count ≤ length old) where
-  pub parts-laid : (first second third : List ℕ) →
+  pub parts-laid : (first second third : List ℕ) {from : ℕ} →
       first ≡ laid 0 (blockBytes false shares (set .count)) old →
-      second ≡ laid (2 * set .count) (blockBytes true shares (set .count)) first →
+      second ≡ laid from (blockBytes true shares (set .count)) first → from ≡ 2 * set .count →
       third ≡ laid (4 * set .count) (virtualBytes set shares (set .count)) second →
       third ≡ laid 0 (planBytes set shares) old
   unfolding planBytes
-  parts-laid first second third e₁ e₂ e₃ =
+  parts-laid first second third {from} e₁ e₂ place e₃ =
       let a = blockBytes false shares (set .count) in
       let b = blockBytes true shares (set .count) in
       let v = virtualBytes set shares (set .count) in
       let la = blocks-length false shares (set .count) in
       let lb = blocks-length true shares (set .count) in
       let lab : length (a ++ b) ≡ 4 * set .count = length-append a b ∙ omega arith in
-      let two : 2 * set .count ≡ 0 + length a = omega arith in
+      let two : from ≡ 0 + length a = omega arith in
       let four : 4 * set .count ≡ 0 + length (a ++ b) = omega arith in
       let joined : second ≡ laid 0 (a ++ b) old =
       e₂ ∙ ap (λ (x : ℕ). laid x b first) two ∙ ap (laid (0 + length a) b) e₁ ∙ laid-more 0 a b old (omega arith) in

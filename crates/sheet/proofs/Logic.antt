@@ -29,6 +29,11 @@ right-true false b h = absurd (false-true h)
     false-true : false ≡ true → ⊥
     false-true e = let z : _≡_ {A = ℕ} 0 1 = cc in omega arith
 
+-- A test, however it is written, is another one where its value gives that one's.
+pub test-same : (t s : Bool) → (t ≡ true → s ≡ true) → (t ≡ false → s ≡ false) → t ≡ s
+test-same true s f g = sym (f refl)
+test-same false s f g = sym (g refl)
+
 -- Two comparisons that hold together are one test.
 pub leb-same : (a b c d : ℕ) → (a ≤ b → c ≤ d) → (c ≤ d → a ≤ b) → leb a b ≡ leb c d
 leb-same a b c d to from = go (decLe a b)
@@ -75,13 +80,13 @@ module _ (masks : List ℕ) (v : ℕ) where
       go (no h) = le-ltb (getD masks v 0) (2 ^ v) (omega arith)
 
 -- Where the guards hold, the sums compare as the differences do.
-pub order-by-sums : (g : Bool) (ln cn lo co : ℕ) → (g && leb cn co && leb ln lo && leb (lo + cn) (co + ln)) ≡ (g && leb cn co && leb ln lo && leb (lo - ln) (co - cn))
-order-by-sums g ln cn lo co =
+pub order-by-sums : (g : Bool) (ln cn lo co x y : ℕ) → x ≡ lo + cn → y ≡ co + ln → (g && leb cn co && leb ln lo && leb x y) ≡ (g && leb cn co && leb ln lo && leb (lo - ln) (co - cn))
+order-by-sums g ln cn lo co x y ex ey =
     under (g && leb cn co && leb ln lo)
     (λ e.
     let work : cn ≤ co = leb-true cn co (right-true g (leb cn co) (left-true (g && leb cn co) (leb ln lo) e)) in
     let span : ln ≤ lo = leb-true ln lo (right-true (g && leb cn co) (leb ln lo) e) in
-    leb-same (lo + cn) (co + ln) (lo - ln) (co - cn) (λ h. omega arith) (λ h. omega arith))
+    leb-same x y (lo - ln) (co - cn) (λ h. omega arith) (λ h. omega arith))
 
 -- A record of fewer than two bytes does not have the length of a record.
 pub length-broken : (g : Bool) (nodes bytes : ℕ) → bytes < 2 → (g && eqb bytes (12 + 4 * nodes)) ≡ false

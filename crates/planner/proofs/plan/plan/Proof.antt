@@ -6,6 +6,7 @@ use Rattle.planner.specs.Plan.{planBytes}
 use Rattle.planner.specs.Writing.{laid, PlanFits}
 use Prim.Native.Nat.{_*_, _≤_}
 use mathlib.Core.Path.{_≡_, sym, ap, _∙_, subst}
+use native.Mathlib.Omega.{arith}
 use lib.ListN.{length}
 use denote.Ref.{now}
 use Rattle.sheet.specs.declared.answer.Answer.the-variants.{Accepted}
@@ -90,13 +91,13 @@ returns-3 : tie.Need-returns-3
 returns-3 c =
     let s = now (c .before .before .before .before .before .before .before .before .before .before .before .args .sheet) in
     let buffer = now (c .before .before .before .before .before .before .before .before .before .before .before .args .buffer) in
-    let answer = plan-room s (length buffer) (read-accepted (c .before .before .before .before .before .before)) (choice-accepted (c .before .before)) (rw (sym (c .before .before .before .before .before .before .before .before .read .ensures .0)) (c .if1 .taken)) in
+    let answer = plan-room s (length buffer) (read-accepted (c .before .before .before .before .before .before)) (choice-accepted (c .before .before)) (rw (sym (c .before .before .before .before .before .before .before .before .read .ensures .0)) (omega (arith, c .if1 .taken))) in
     (sym answer, (said (sym answer), sym (planned-refused s buffer answer)))
 
 -- Past the third test the plan has room.
 room-enough : (c : tie.Else1) → 6 * readOf (now (c .before .before .before .before .before .before .before .before .before .before .before .args .sheet)) .set .count ≤ length (now (c .before .before .before .before .before .before .before .before .before .before .before .args .buffer))
 room-enough c =
-    subst (λ (r : Reading). 6 * r .set .count ≤ length (now (c .before .before .before .before .before .before .before .before .before .before .before .args .buffer))) (c .before .before .before .before .before .before .before .before .read .ensures .0) (c .if1 .left)
+    subst (λ (r : Reading). 6 * r .set .count ≤ length (now (c .before .before .before .before .before .before .before .before .before .before .before .args .buffer))) (c .before .before .before .before .before .before .before .before .read .ensures .0) (omega (arith, c .if1 .left))
 
 write-plan-requires : tie.Need-write-plan-requires
 write-plan-requires c κs =

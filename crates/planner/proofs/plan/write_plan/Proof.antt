@@ -31,7 +31,7 @@ returns : tie.Need-returns
 returns c =
     let start = c .before .before .before .before .before .before .before .before .before .before .before .before .before in
     parts-laid (start .args .set) (start .args .shares) (now (start .args .buffer)) (omega arith) _ _ _
-    (c .before .before .before .before .before .before .before .before .before .before .write-blocks .ensures) (c .before .before .before .before .before .before .write-blocks2 .ensures) (c .before .before .write-virtuals .ensures)
+    (c .before .before .before .before .before .before .before .before .before .before .write-blocks .ensures) (c .before .before .before .before .before .before .write-blocks2 .ensures) (omega arith) (c .before .before .write-virtuals .ensures)
 
 pub write-plan-spec : {M : Type 1} → statement M
 write-plan-spec =

@@ -1,6 +1,8 @@
 -- `test::meets` meets its contract: the terms are small, so that no product and no sum wraps.
-use Prim.Native.Nat.{_-_, _*_, _^_, _<_}
-use mathlib.Core.Path.{refl}
+use Prim.Native.Nat.{_+_, _-_, _*_, _^_, _<_}
+use lib.Dec.{leb}
+use borrow.Author.Tests.{le-leb, lt-leb, leb-true, leb-false, ltb-true, ltb-false}
+use Rattle.sheet.proofs.Logic.{test-same}
 use borrow.Author.Needs.{needs}
 use native.Mathlib.Omega.{arith}
 use Rattle.shares.specs.Terms.{meets}
@@ -39,7 +41,13 @@ mul-result-3 c =
 
 returns : tie.Need-returns
 unfolding meets
-returns c = refl
+returns c =
+    let args = c .before .before .before .before .args in
+    let left = args .t .slope * args .b + args .t .fixed + args .t .extra * (args .b - args .a) in
+    let right = args .t .supply * args .b in
+    test-same _ (leb left right)
+    (λ e. le-leb left right (omega (arith, leb-true, ltb-true)))
+    (λ e. lt-leb left right (omega (arith, leb-false, ltb-false)))
 
 pub meets-spec : {M : Type 1} → statement M
 meets-spec =

@@ -67,7 +67,7 @@ unfolding u32At u16At byteAt
 returns-2 c =
     let at = c .before .before .before .before .before .before .before .before .args .at in
     let last : at + 2 + 1 ≡ at + 3 = omega arith in
-    rw (last, c .before .before .before .pair .ensures .0, c .pair2 .ensures .0)
+    rw (last, c .before .before .before .pair .ensures .0, c .pair2 .ensures .0) (omega arith)
 
 pub u32-at-spec : {M : Type 1} → statement M
 u32-at-spec =
