@@ -14,12 +14,14 @@ use Rattle.sheet.specs.declared.task.Task.{Task}
 use Rattle.sheet.specs.declared.task.TaskSet.{TaskSet}
 use Rattle.sheet.specs.Answers.{refusedIf, _orElse_, firstOver, badHeader, badRecord, badFigure, badMask, notHeavy, noTask}
 use Rattle.sheet.specs.Format.{processorsOf, countOf, offsetOf, lengthOf, levelAt, nodesAt, taskAt, tasksBelow, taskSetOf, taskIn, missingTask, zeroTask}
-use Rattle.sheet.specs.Rules.{within, levelLawful, shapeLawful, figuresLawful, masksLawful, isHeavy, taskAnswer}
+use Rattle.basics.specs.Numbers.{within}
+use Rattle.sheet.specs.Level.{levelLawful, bytesBeforeMasks}
+use Rattle.sheet.specs.Rules.{shapeLawful, figuresLawful, masksLawful, isHeavy, taskAnswer}
 use Rattle.reader.specs.Reading.{headerLawful, headerAnswer, placeAnswer, endAnswer, shapeAnswer, recordAnswer, answerOf, readingOf, readOf}
-use Rattle.sheet.proofs.Cells.{cells-length}
-use Rattle.sheet.proofs.Logic.{left-true, right-true}
+use Rattle.basics.proofs.Cells.{cells-length}
+use Rattle.basics.proofs.Logic.{left-true, right-true}
 use Rattle.shares.specs.declared.share.Share.{Share}
-use Rattle.allocation.specs.Enumeration.{isNone}
+use Rattle.basics.specs.Lists.{isNone}
 use Rattle.allocation.specs.Allocation.{noFit, chosenFor, shareAnswer, choiceAnswer, sharesOf}
 use Rattle.allocation.specs.Lawful.{LawfulTask, LawfulSet}
 use Rattle.allocation.proofs.Lawfulness.{within-from, within-to, all-four}
@@ -102,7 +104,7 @@ module _ (s : List ℕ) where
           (rule-kept _ badFigure i (first .0), rule-kept _ badMask i (second .0), rule-kept _ notHeavy i (second .1))
 
       task-lawful : LawfulTask (taskAt s (offsetOf s i))
-      unfolding taskAt shapeLawful
+      unfolding taskAt shapeLawful bytesBeforeMasks
       task-lawful =
           let rules = rules-kept (taskAt s (offsetOf s i)) task-accepted in
           let level = levelLawful (levelAt s (offsetOf s i)) in

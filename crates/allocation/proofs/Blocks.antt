@@ -11,7 +11,7 @@ use lib.ListN.{length, getD, take}
 use lib.Seq.{take-suc}
 use borrow.Author.Tests.{leb-true}
 use Rattle.sheet.specs.declared.task.Task.{Task}
-use Rattle.sheet.proofs.Logic.{left-true, right-true}
+use Rattle.basics.proofs.Logic.{left-true, right-true}
 use Rattle.shares.specs.declared.share.Share.{Share}
 use Rattle.shares.specs.Totals.{noProcessors, shareIn, shareTotal, typicalTotal}
 use Rattle.allocation.specs.Choice.{fits, chosen}

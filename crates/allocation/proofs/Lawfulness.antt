@@ -5,8 +5,10 @@ use mathlib.Core.Bool.{Bool, true, false, _&&_, _||_, not, false≢true}
 use lib.Dec.{leb, eqb}
 use borrow.Author.Tests.{leb-true, ltb-true, eqb-true}
 use Rattle.sheet.specs.declared.task.Figures.{Figures}
-use Rattle.sheet.specs.Rules.{within, figureLimit, inRange, inOrder, lowLawful, figuresLawful, isHeavy}
-use Rattle.sheet.proofs.Logic.{left-true, right-true}
+use Rattle.basics.specs.Numbers.{within}
+use Rattle.sheet.specs.Level.{isHigh, isLow, figureLimit}
+use Rattle.sheet.specs.Rules.{inRange, inOrder, lowLawful, figuresLawful, isHeavy}
+use Rattle.basics.proofs.Logic.{left-true, right-true}
 
 -- A number in a range.
 pub within-from : (low high x : ℕ) → within low high x ≡ true → low ≤ x
@@ -24,62 +26,62 @@ all-four true false r s e = absurd (false≢true e)
 all-four false q r s e = absurd (false≢true e)
 
 -- What the figures of a lawful task keep.
-pub record Kept (f : Figures) : Type 0 where
+pub record Kept (level : ℕ) (f : Figures) : Type 0 where
   pub deadline-from : 1 ≤ f .deadline
-  pub deadline-to : f .deadline ≤ figureLimit
+  pub deadline-to : f .deadline ≤ figureLimit level
   pub span-from : 1 ≤ f .nominal .span
   pub span-work : f .nominal .span ≤ f .nominal .work
   pub works : f .nominal .work ≤ f .overload .work
   pub spans : f .nominal .span ≤ f .overload .span
 
 module _ (level : ℕ) (f : Figures) (lawful : figuresLawful level f ≡ true) where
-  in-range : inRange f ≡ true
+  in-range : inRange level f ≡ true
   unfolding figuresLawful
-  in-range = left-true _ _ (left-true (inRange f && inOrder f) _ lawful)
+  in-range = left-true _ _ (left-true (inRange level f && inOrder f) _ lawful)
 
   in-order : inOrder f ≡ true
   unfolding figuresLawful
-  in-order = right-true (inRange f) _ (left-true (inRange f && inOrder f) _ lawful)
+  in-order = right-true (inRange level f) _ (left-true (inRange level f && inOrder f) _ lawful)
 
   low-kept : lowLawful level f ≡ true
   unfolding figuresLawful
-  low-kept = right-true (inRange f && inOrder f) _ lawful
+  low-kept = right-true (inRange level f && inOrder f) _ lawful
 
-  pub figures-kept : Kept f
+  pub figures-kept : Kept level f
   unfolding inRange inOrder
   figures-kept =
       let ranges = all-four
-      (within 1 figureLimit (f .deadline) && within 1 figureLimit (f .nominal .work))
-      (within 1 figureLimit (f .overload .work))
-      (within 1 figureLimit (f .nominal .span))
-      (within 1 figureLimit (f .overload .span)) in-range in
-      let deadline = left-true (within 1 figureLimit (f .deadline)) (within 1 figureLimit (f .nominal .work)) (ranges .0) in
+      (within 1 (figureLimit level) (f .deadline) && within 1 (figureLimit level) (f .nominal .work))
+      (within 1 (figureLimit level) (f .overload .work))
+      (within 1 (figureLimit level) (f .nominal .span))
+      (within 1 (figureLimit level) (f .overload .span)) in-range in
+      let deadline = left-true (within 1 (figureLimit level) (f .deadline)) (within 1 (figureLimit level) (f .nominal .work)) (ranges .0) in
       let orders = all-four
       (leb (f .nominal .span) (f .nominal .work) && leb (f .overload .span) (f .overload .work))
       (leb (f .nominal .work) (f .overload .work))
       (leb (f .nominal .span) (f .overload .span))
       _ in-order in
       record {
-        deadline-from = within-from 1 figureLimit _ deadline;
-        deadline-to = within-to 1 figureLimit _ deadline;
-        span-from = within-from 1 figureLimit _ (ranges .2);
+        deadline-from = within-from 1 (figureLimit level) _ deadline;
+        deadline-to = within-to 1 (figureLimit level) _ deadline;
+        span-from = within-from 1 (figureLimit level) _ (ranges .2);
         span-work = leb-true _ _ (left-true (leb (f .nominal .span) (f .nominal .work)) _ (orders .0));
         works = leb-true _ _ (orders .1);
         spans = leb-true _ _ (orders .2);
       }
 
   -- A low task has CN = CO and LN = LO.
-  pub low-equal : eqb level 0 ≡ true → (f .nominal .work ≡ f .overload .work) × (f .nominal .span ≡ f .overload .span)
-  unfolding lowLawful
+  pub low-equal : isLow level ≡ true → (f .nominal .work ≡ f .overload .work) × (f .nominal .span ≡ f .overload .span)
+  unfolding lowLawful isLow
   low-equal low =
-      let both = go (eqb level 0) low low-kept in (
+      let both = go (isHigh level) low low-kept in (
         eqb-true _ _ (left-true (eqb (f .nominal .work) (f .overload .work)) _ both),
         eqb-true _ _ (right-true (eqb (f .nominal .work) (f .overload .work)) _ both),
       )
     where
-      go : {rest : Bool} (t : Bool) → t ≡ true → not t || rest ≡ true → rest ≡ true
-      go true e h = h
-      go false e h = absurd (false≢true e)
+      go : {rest : Bool} (high : Bool) → not high ≡ true → high || rest ≡ true → rest ≡ true
+      go true e h = absurd (false≢true e)
+      go false e h = h
 
 pub heavy-work : (f : Figures) → isHeavy f ≡ true → f .deadline < f .overload .work
 unfolding isHeavy

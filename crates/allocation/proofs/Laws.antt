@@ -13,10 +13,10 @@ use borrow.Author.Tests.{leb-true}
 use Rattle.sheet.specs.declared.task.Task.{Task}
 use Rattle.sheet.specs.declared.task.TaskSet.{TaskSet}
 use Rattle.sheet.specs.Format.{taskIn}
-use Rattle.sheet.proofs.Logic.{left-true, right-true}
+use Rattle.basics.proofs.Logic.{left-true, right-true}
 use Rattle.shares.specs.declared.share.Share.{Share}
 use Rattle.shares.specs.Deadline.{virtualOf}
-use Rattle.shares.specs.Low.{isLow}
+use Rattle.sheet.specs.Level.{isLow, figureLimit}
 use Rattle.shares.specs.Test.{virtualDeadline}
 use Rattle.shares.specs.Totals.{typicalTotal, criticalTotal, noProcessors}
 use Rattle.shares.proofs.Ends.{virtual-within}
@@ -25,7 +25,7 @@ use Rattle.allocation.specs.Way.{LowPair, HighPair}
 use Rattle.allocation.specs.Blocks.{lengthIn}
 use Rattle.allocation.specs.Allocation.{tasksOf, chosenFor}
 use Rattle.allocation.specs.Lawful.{LawfulSet}
-use Rattle.allocation.proofs.Members.{keep-has, keep-from, none-empty}
+use Rattle.basics.proofs.Members.{keep-has, keep-from, none-empty}
 use Rattle.allocation.proofs.Ranks.{no-later-both, rank-same, least-member, least-first, least-none, least-of-none}
 use Rattle.allocation.proofs.Lawfulness.{figures-kept}
 use Rattle.allocation.proofs.Offers.{low-from, high-from, options-low, options-high, row-of}
@@ -118,13 +118,13 @@ module _ (set : TaskSet) (lawful : LawfulSet set) (choice : List Share) (chosen-
     chosen-option = fitting-option set lawful choice member i inside
 
     -- A high task has a pair that passes.
-    pub chosen-high : isLow (taskIn set i) ≡ false → HighPair (set .processors) (taskIn set i .figures) (getD choice i noProcessors)
+    pub chosen-high : isLow (taskIn set i .level) ≡ false → HighPair (set .processors) (taskIn set i .figures) (getD choice i noProcessors)
     chosen-high high =
         high-from (set .processors) (taskIn set i .figures) (getD choice i noProcessors)
         (subst (λ (o : List Share). List·Memᴰ (getD choice i noProcessors) o) (options-high (set .processors) (taskIn set i) high) chosen-option)
 
     -- A low task has its share.
-    pub chosen-low : isLow (taskIn set i) ≡ true → LowPair (set .processors) (taskIn set i .figures) (getD choice i noProcessors)
+    pub chosen-low : isLow (taskIn set i .level) ≡ true → LowPair (set .processors) (taskIn set i .figures) (getD choice i noProcessors)
     chosen-low low =
         low-from (set .processors) (taskIn set i .figures) (getD choice i noProcessors)
         (subst (λ (o : List Share). List·Memᴰ (getD choice i noProcessors) o) (options-low (set .processors) (taskIn set i) low) chosen-option)
@@ -136,9 +136,9 @@ module _ (set : TaskSet) (lawful : LawfulSet set) (choice : List Share) (chosen-
     -- The virtual deadline is at most the deadline.
     pub chosen-virtual : virtualOf (taskIn set i) (lengthIn false choice i) ≤ taskIn set i .figures .deadline
     unfolding virtualOf lengthIn
-    chosen-virtual = go (isLow (taskIn set i)) refl
+    chosen-virtual = go (isLow (taskIn set i .level)) refl
       where
-        go : (l : Bool) → isLow (taskIn set i) ≡ l →
+        go : (l : Bool) → isLow (taskIn set i .level) ≡ l →
             cond l 0 (virtualDeadline (taskIn set i .figures) (getD choice i noProcessors .typical)) ≤ taskIn set i .figures .deadline
         go true low = omega arith
         go false high =
@@ -148,6 +148,7 @@ module _ (set : TaskSet) (lawful : LawfulSet set) (choice : List Share) (chosen-
             (pair .positive) (pair .ordered) (kept .spans) (subst T (sym (pair .passing)) tt)
 
     pub chosen-deadline : virtualOf (taskIn set i) (lengthIn false choice i) < 65536
+    unfolding figureLimit
     chosen-deadline =
         let kept = figures-kept (taskIn set i .level) (taskIn set i .figures) (lawful .lawful i inside .figures) in
         let to = kept .deadline-to in

@@ -1,6 +1,5 @@
 -- Facts at literals first, then the laws that belong to no one function.
 pub mod Worked
-pub mod Members
 pub mod Ranks
 pub mod Firsts
 pub mod Optimal

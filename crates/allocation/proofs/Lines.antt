@@ -8,8 +8,8 @@ use native.Mathlib.Decide.{decLe}
 use lib.ListN.{length, getD, take, drop, set, replicate, length-map, List·getD-map, drop-of-length-le}
 use lib.Seq.{drop-cons, getD-take, getD-drop, drop-drop, length-take-le}
 use borrow.Author.Tests.{lt-ltb}
-use Rattle.sheet.specs.Format.{cells, cellsFrom}
-use Rattle.sheet.proofs.Cells.{cells-none, cells-store}
+use Rattle.basics.specs.Lists.{cells, cellsFrom}
+use Rattle.basics.proofs.Cells.{cells-none, cells-store}
 use Rattle.shares.specs.declared.share.Share.{Share}
 use Rattle.shares.specs.Row.{tabulate}
 use Rattle.shares.proofs.Rows.{tabulate-at, tabulate-length, tabulated}

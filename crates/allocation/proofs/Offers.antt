@@ -10,17 +10,18 @@ use Rattle.sheet.specs.declared.task.Figures.{Figures}
 use Rattle.sheet.specs.declared.task.Task.{Task}
 use Rattle.shares.specs.declared.share.Share.{Share}
 use Rattle.shares.specs.Test.{passes}
-use Rattle.shares.specs.Low.{isLow, lowShare, hasLowShare}
+use Rattle.sheet.specs.Level.{isLow}
+use Rattle.shares.specs.Low.{lowShare, hasLowShare}
 use Rattle.shares.specs.Search.{leastCritical}
 use Rattle.shares.specs.Row.{criticalAt, lowCritical}
 use Rattle.shares.proofs.Ends.{low-positive}
 use Rattle.shares.proofs.Least.{least-at-most, least-from, least-passes}
 use Rattle.shares.proofs.Levels.{has-below, has-within, low-critical-own, low-critical-within, critical-low, critical-high}
-use Rattle.nodes.specs.Sets.{range}
+use Rattle.basics.specs.Lists.{range}
 use Rattle.allocation.specs.Choice.{lowOptions, pairsWithin, highOptions, optionsOf}
 use Rattle.allocation.specs.Way.{LowPair, HighPair, MayTake}
 use Rattle.allocation.specs.Lawful.{LawfulTask}
-use Rattle.allocation.proofs.Members.{range-has, range-within, each-has, each-from, map-has, map-from, keep-has, keep-from}
+use Rattle.basics.proofs.Members.{range-has, range-within, each-has, each-from, map-has, map-from, keep-has, keep-from}
 use Rattle.allocation.proofs.Lawfulness.{low-equal, heavy-work}
 use Rattle.allocation.proofs.Optimal.{RowOf}
 
@@ -77,11 +78,11 @@ module _ (M : ℕ) (f : Figures) where
       (pair .passing)
 
 module _ (M : ℕ) (t : Task) where
-  pub options-low : isLow t ≡ true → optionsOf M t ≡ lowOptions M (t .figures)
+  pub options-low : isLow (t .level) ≡ true → optionsOf M t ≡ lowOptions M (t .figures)
   unfolding optionsOf
   options-low low = rw low
 
-  pub options-high : isLow t ≡ false → optionsOf M t ≡ highOptions M (t .figures)
+  pub options-high : isLow (t .level) ≡ false → optionsOf M t ≡ highOptions M (t .figures)
   unfolding optionsOf
   options-high high = rw high
 
@@ -94,22 +95,21 @@ module _ (M : ℕ) (t : Task) where
       }
 
   pub may-option : (s : Share) → MayTake M t s → List·Memᴰ s (optionsOf M t)
-  may-option s may = go (isLow t) refl
+  may-option s may = go (isLow (t .level)) refl
     where
-      go : (l : Bool) → isLow t ≡ l → List·Memᴰ s (optionsOf M t)
+      go : (l : Bool) → isLow (t .level) ≡ l → List·Memᴰ s (optionsOf M t)
       go true low = rw (options-low low) (low-has M (t .figures) s (may .low low))
       go false high = rw (options-high high) (high-has M (t .figures) s (may .high high))
 
   -- A lawful low task has a share of at least 1.
-  pub low-share-positive : LawfulTask t → isLow t ≡ true → hasLowShare M (t .figures) ≡ true → 1 ≤ lowShare (t .figures)
-  unfolding isLow
+  pub low-share-positive : LawfulTask t → isLow (t .level) ≡ true → hasLowShare M (t .figures) ≡ true → 1 ≤ lowShare (t .figures)
   low-share-positive lawful low has =
       let below = has-below M (t .figures) has in
       let equal = low-equal (t .level) (t .figures) (lawful .figures) low in
       low-positive (t .figures) (omega (arith, heavy-work (t .figures) (lawful .heavy), equal .0)) below
 
   -- The row of a task.
-  row-low-of : LawfulTask t → isLow t ≡ true → RowOf M (lowOptions M (t .figures)) (criticalAt M t)
+  row-low-of : LawfulTask t → isLow (t .level) ≡ true → RowOf M (lowOptions M (t .figures)) (criticalAt M t)
   row-low-of lawful low =
       record {
         positive = λ s m. let pair = low-from M (t .figures) s m in rw (pair .typical) (low-share-positive lawful low (pair .has));
@@ -128,7 +128,7 @@ module _ (M : ℕ) (t : Task) where
             });
       }
 
-  row-high-of : isLow t ≡ false → RowOf M (highOptions M (t .figures)) (criticalAt M t)
+  row-high-of : isLow (t .level) ≡ false → RowOf M (highOptions M (t .figures)) (criticalAt M t)
   row-high-of high =
       record {
         positive = λ s m. high-from M (t .figures) s m .positive;
@@ -150,9 +150,9 @@ module _ (M : ℕ) (t : Task) where
       }
 
   pub row-of : LawfulTask t → RowOf M (optionsOf M t) (criticalAt M t)
-  row-of lawful = go (isLow t) refl
+  row-of lawful = go (isLow (t .level)) refl
     where
-      go : (l : Bool) → isLow t ≡ l → RowOf M (optionsOf M t) (criticalAt M t)
+      go : (l : Bool) → isLow (t .level) ≡ l → RowOf M (optionsOf M t) (criticalAt M t)
       go true e = rw (options-low e) (row-low-of lawful e)
       go false e = rw (options-high e) (row-high-of e)
 

@@ -11,13 +11,13 @@ use native.Mathlib.Nat.{min-le-left, min-eq-left, min-eq-right}
 use native.Mathlib.Decide.{decLe}
 use lib.Dec.{leb, eqb}
 use borrow.Author.Tests.{leb-true, leb-false, le-leb, lt-leb, eqb-true}
-use Rattle.sheet.proofs.Logic.{left-true, right-true}
+use Rattle.basics.proofs.Logic.{left-true, right-true}
 use Rattle.shares.specs.declared.share.Share.{Share}
 use Rattle.shares.specs.Totals.{typicalTotal, criticalTotal}
-use Rattle.allocation.specs.Enumeration.{keep}
+use Rattle.basics.specs.Lists.{keep}
 use Rattle.allocation.specs.Choice.{choices, fits, pairNumbers, rank, noLater, leastOf}
 use Rattle.allocation.specs.Selection.{sumAt, bestShare, totalWith, leastTotal, offered, sharesAt, bestTotal, selected}
-use Rattle.allocation.proofs.Members.{each-has, each-from, map-has, map-from, keep-has, keep-from, none-empty}
+use Rattle.basics.proofs.Members.{each-has, each-from, map-has, map-from, keep-has, keep-from, none-empty}
 use Rattle.allocation.proofs.Ranks.{pairs-no-later, ranks-no-later, least-is, least-of-none}
 use Rattle.allocation.proofs.Firsts.{least-from, least-to, least-at-most, least-first-at}
 

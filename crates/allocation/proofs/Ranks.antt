@@ -13,7 +13,7 @@ use borrow.Author.Tests.{ltb-true, ltb-false, eqb-true, eq-eqb}
 use Rattle.shares.specs.declared.share.Share.{Share}
 use Rattle.shares.specs.Totals.{typicalTotal, criticalTotal}
 use Rattle.allocation.specs.Choice.{pairNumbers, rank, noLater, leastOf}
-use Rattle.allocation.proofs.Members.{all-member, all-members, find-some, find-none}
+use Rattle.basics.proofs.Members.{all-member, all-members, find-some, find-none}
 
 -- Of two first numbers the smaller decides, and equal ones leave it to the rest.
 pub no-later-if : (x y : ℕ) (xs ys : List ℕ) → x ≤ y → (x ≡ y → noLater xs ys ≡ true) → noLater (x ∷ xs) (y ∷ ys) ≡ true

@@ -17,21 +17,21 @@ use Rattle.sheet.specs.declared.answer.Answer.the-variants.{Accepted, Refused}
 use Rattle.sheet.specs.declared.task.Task.{Task}
 use Rattle.sheet.specs.declared.task.TaskSet.{TaskSet}
 use Rattle.sheet.specs.Answers.{refusedIf, _orElse_, firstOver}
-use Rattle.sheet.specs.Format.{cells, taskIn, missingTask}
-use Rattle.sheet.proofs.Cells.{cells-length}
+use Rattle.basics.specs.Lists.{cells, isEmpty}
+use Rattle.sheet.specs.Format.{taskIn, missingTask}
+use Rattle.basics.proofs.Cells.{cells-length}
 use Rattle.shares.specs.declared.share.Share.{Share}
 use Rattle.shares.specs.Row.{tabulate, criticalAt, rowOf}
 use Rattle.shares.proofs.Levels.{critical-within}
 use Rattle.shares.proofs.Rows.{row-at}
 use Rattle.allocation.specs.declared.choice.Chosen.{Chosen}
 use Rattle.allocation.specs.declared.rows.Row.{Row}
-use Rattle.allocation.specs.Enumeration.{isEmpty}
 use Rattle.allocation.specs.Choice.{optionsOf, choices, fits, leastOf, fitting, chosen}
 use Rattle.shares.specs.Totals.{noProcessors}
 use Rattle.allocation.specs.Allocation.{noShare, tasksOf, chosenFor, shareAnswer, choiceAnswer, choiceOf}
 use Rattle.allocation.specs.Lawful.{LawfulTask, LawfulSet}
 use Rattle.allocation.specs.Selection.{cellAt, offered, selected, zeroRow, missingRow, rowsOf, offersNone, rowAnswer, rowsUpTo, selectionOf}
-use Rattle.allocation.proofs.Members.{keep-from, all-member, all-members, none-empty, empty-none}
+use Rattle.basics.proofs.Members.{keep-from, all-member, all-members, none-empty, empty-none}
 use Rattle.allocation.proofs.Ranks.{least-of-none}
 use Rattle.allocation.proofs.Optimal.{RowOf, Rows, no-row, row-and, Takes, choice-takes, select-least}
 use Rattle.allocation.proofs.Offers.{row-of, row-agrees}

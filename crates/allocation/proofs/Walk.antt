@@ -8,8 +8,8 @@ use lib.ListN.{length, getD, drop, set, replicate}
 use borrow.Author.Tests.{le-leb, lt-leb}
 use Rattle.sheet.specs.declared.answer.Answer.the-variants.{Accepted, Refused}
 use Rattle.sheet.specs.Answers.{noTask}
-use Rattle.sheet.specs.Format.{cells}
-use Rattle.sheet.proofs.Cells.{cells-store}
+use Rattle.basics.specs.Lists.{cells}
+use Rattle.basics.proofs.Cells.{cells-store}
 use Rattle.shares.specs.declared.share.Share.{Share}
 use Rattle.allocation.specs.declared.rows.Row.{Row}
 use Rattle.allocation.specs.declared.selection.Totals.{Totals}

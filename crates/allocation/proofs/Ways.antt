@@ -15,16 +15,16 @@ use Rattle.sheet.specs.declared.task.Task.{Task}
 use Rattle.sheet.specs.declared.task.TaskSet.{TaskSet}
 use Rattle.sheet.specs.Answers.{noTask, refusedIf, _orElse_, firstOver}
 use Rattle.sheet.specs.Format.{taskIn, missingTask}
-use Rattle.sheet.proofs.Logic.{left-true, right-true}
+use Rattle.basics.proofs.Logic.{left-true, right-true}
 use Rattle.shares.specs.declared.share.Share.{Share}
 use Rattle.shares.specs.Totals.{noProcessors, shareAt, typicalTotal}
-use Rattle.allocation.specs.Enumeration.{isEmpty, isNone}
+use Rattle.basics.specs.Lists.{isEmpty, isNone}
 use Rattle.allocation.specs.Choice.{optionsOf, choices, fits, rank, noLater, chosen}
 use Rattle.allocation.specs.Way.{MayTake, TakesNothing, FittingWay, BestWay}
 use Rattle.allocation.specs.Allocation.{noShare, noFit, tasksOf, chosenFor, shareAnswer, choiceAnswer}
 use Rattle.allocation.specs.Verdict.{CanTake, Verdict, no-share, no-fit, accepted}
 use Rattle.allocation.proofs.Accepted.{over-accepted}
-use Rattle.allocation.proofs.Members.{empty-none}
+use Rattle.basics.proofs.Members.{empty-none}
 use Rattle.allocation.proofs.Optimal.{Takes, takes-choice, choice-takes}
 use Rattle.allocation.proofs.Offers.{option-may, may-option}
 use Rattle.allocation.proofs.Sets.{takes-at, takes-length, over-first, share-refused}

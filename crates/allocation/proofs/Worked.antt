@@ -15,10 +15,11 @@ use Rattle.sheet.specs.Answers.{firstOver}
 use Rattle.sheet.specs.Format.{taskIn, missingTask}
 use Rattle.shares.specs.declared.share.Share.{Share}
 use Rattle.shares.specs.Cases.{figures, taskA, taskB, lowTask}
-use Rattle.shares.specs.Low.{isLow, ceilDiv, lowShare, hasLowShare}
+use Rattle.sheet.specs.Level.{isLow, isHigh}
+use Rattle.shares.specs.Low.{ceilDiv, lowShare, hasLowShare}
 use Rattle.shares.specs.Test.{excess, demand, passes}
 use Rattle.shares.specs.Totals.{noProcessors, shareAt}
-use Rattle.nodes.specs.Sets.{range}
+use Rattle.basics.specs.Lists.{range}
 use Rattle.allocation.specs.Choice.{lowOptions, pairsWithin, highOptions, optionsOf, fits, leastOf, fitting, chosen}
 use Rattle.allocation.specs.Way.{MayTake, FittingWay}
 use Rattle.allocation.specs.Allocation.{chosenFor, shareAnswer, choiceAnswer}
@@ -78,7 +79,7 @@ pub record Worked : Type 0 where
   pub with-low : choiceAnswer (on 7 abe) ≡ Refused 8 255
 
 pub worked : Worked
-unfolding taskIn firstOver isLow ceilDiv lowShare hasLowShare excess demand passes range lowOptions pairsWithin highOptions optionsOf fits leastOf fitting chosen chosenFor shareAnswer choiceAnswer
+unfolding taskIn firstOver isLow ceilDiv lowShare hasLowShare excess demand passes range lowOptions pairsWithin highOptions optionsOf fits leastOf fitting chosen chosenFor shareAnswer choiceAnswer isHigh
 worked =
     record {
       by-critical = refl;
@@ -97,7 +98,7 @@ worked =
 
 -- A high and a low task may take a share that is given by its numbers.
 high-may : (M : ℕ) (f : Figures) (a b : ℕ) → 1 ≤ a → a ≤ b → b ≤ M → passes f a b ≡ true → MayTake M (high f) (pair a b)
-unfolding isLow
+unfolding isLow isHigh
 high-may M f a b one ordered within passing =
     record {
       high = λ _. record { positive = one; ordered = ordered; within = within; passing = passing };
@@ -105,7 +106,7 @@ high-may M f a b one ordered within passing =
     }
 
 low-may : (M : ℕ) (f : Figures) (a : ℕ) → hasLowShare M f ≡ true → a ≡ lowShare f → MayTake M (low f) (pair a 0)
-unfolding isLow
+unfolding isLow isHigh
 low-may M f a has own =
     record {
       high = λ e. absurd (false≢true (sym e));

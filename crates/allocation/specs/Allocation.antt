@@ -7,11 +7,11 @@ use Rattle.sheet.specs.declared.answer.Answer.{Answer}
 use Rattle.sheet.specs.declared.task.Task.{Task}
 use Rattle.sheet.specs.declared.task.TaskSet.{TaskSet}
 use Rattle.sheet.specs.Answers.{noTask, refusedIf, _orElse_, firstOver}
-use Rattle.sheet.specs.Format.{cells, taskIn}
+use Rattle.basics.specs.Lists.{cells, isEmpty, isNone}
+use Rattle.sheet.specs.Format.{taskIn}
 use Rattle.shares.specs.declared.share.Share.{Share}
 use Rattle.shares.specs.Totals.{noProcessors}
 use Rattle.allocation.specs.declared.choice.Chosen.{Chosen}
-use Rattle.allocation.specs.Enumeration.{isEmpty, isNone}
 use Rattle.allocation.specs.Choice.{optionsOf, chosen}
 
 -- S9.7: a task may take nothing.

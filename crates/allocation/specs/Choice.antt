@@ -8,10 +8,10 @@ use Rattle.sheet.specs.declared.task.Figures.{Figures}
 use Rattle.sheet.specs.declared.task.Task.{Task}
 use Rattle.shares.specs.declared.share.Share.{Share}
 use Rattle.shares.specs.Test.{passes}
-use Rattle.shares.specs.Low.{isLow, lowShare, hasLowShare}
+use Rattle.sheet.specs.Level.{isLow}
+use Rattle.shares.specs.Low.{lowShare, hasLowShare}
 use Rattle.shares.specs.Totals.{typicalTotal, criticalTotal}
-use Rattle.nodes.specs.Sets.{range}
-use Rattle.allocation.specs.Enumeration.{keep, each, all, find}
+use Rattle.basics.specs.Lists.{range, keep, each, all, find}
 
 -- S4.1: a low task may take its share, where it has one, with the critical share 0.
 unfoldable pub lowOptions : ℕ → Figures → List Share
@@ -27,7 +27,7 @@ highOptions M f = keep (λ s. passes f (s .typical) (s .critical)) (pairsWithin 
 
 -- S5.1: what a task of either level may take.
 unfoldable pub optionsOf : ℕ → Task → List Share
-optionsOf M t = cond (isLow t) (lowOptions M (t .figures)) (highOptions M (t .figures))
+optionsOf M t = cond (isLow (t .level)) (lowOptions M (t .figures)) (highOptions M (t .figures))
 
 -- S5.1: every way to take one option of each task.
 abbrev pub choices : List (List Share) → List (List Share)

@@ -6,7 +6,9 @@ use lib.ListN.{length}
 use Rattle.sheet.specs.declared.task.Task.{Task}
 use Rattle.sheet.specs.declared.task.TaskSet.{TaskSet}
 use Rattle.sheet.specs.Format.{taskIn}
-use Rattle.sheet.specs.Rules.{levelLawful, within, figuresLawful, masksLawful, isHeavy}
+use Rattle.basics.specs.Numbers.{within}
+use Rattle.sheet.specs.Level.{levelLawful}
+use Rattle.sheet.specs.Rules.{figuresLawful, masksLawful, isHeavy}
 
 -- S2.7 and S2.9 to S2.13: what is asked of one task, refusals 3 to 6.
 pub record LawfulTask (t : Task) : Type 0 where

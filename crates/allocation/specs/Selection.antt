@@ -11,13 +11,13 @@ use Rattle.shares.specs.Row.{tabulate, rowOf}
 use Rattle.allocation.specs.declared.rows.Row.{Row}
 use Rattle.allocation.specs.declared.choice.Chosen.{Chosen}
 use Rattle.allocation.specs.declared.selection.Totals.{Totals}
-use Rattle.allocation.specs.Enumeration.{all, isNone}
+use Rattle.basics.specs.Lists.{all, isNone, cells}
 use Rattle.allocation.specs.Allocation.{noShare, noFit, sharesOf, sixteen}
 use Rattle.sheet.specs.declared.answer.Answer.{Answer}
 use Rattle.sheet.specs.declared.task.TaskSet.{TaskSet}
 use Rattle.sheet.specs.Answers.{noTask, refusedIf}
-use Rattle.sheet.specs.Format.{cells, taskIn}
-use Rattle.sheet.specs.Rules.{within}
+use Rattle.sheet.specs.Format.{taskIn}
+use Rattle.basics.specs.Numbers.{within}
 
 -- What the 64 numbers of a row say at typical share a.
 unfoldable pub cellAt : List ℕ → ℕ → ℕ

@@ -10,7 +10,8 @@ use Rattle.sheet.specs.declared.task.Task.{Task}
 use Rattle.sheet.specs.Format.{missingTask}
 use Rattle.shares.specs.declared.share.Share.{Share}
 use Rattle.shares.specs.Test.{passes}
-use Rattle.shares.specs.Low.{isLow, lowShare, hasLowShare}
+use Rattle.sheet.specs.Level.{isLow}
+use Rattle.shares.specs.Low.{lowShare, hasLowShare}
 use Rattle.shares.specs.Totals.{shareAt, typicalTotal, criticalTotal}
 use Rattle.allocation.specs.Choice.{rank, noLater}
 
@@ -29,8 +30,8 @@ pub record LowPair (M : ℕ) (f : Figures) (s : Share) : Type 0 where
 
 -- The same for a task of either level.
 pub record MayTake (M : ℕ) (t : Task) (s : Share) : Type 0 where
-  pub high : isLow t ≡ false → HighPair M (t .figures) s
-  pub low : isLow t ≡ true → LowPair M (t .figures) s
+  pub high : isLow (t .level) ≡ false → HighPair M (t .figures) s
+  pub low : isLow (t .level) ≡ true → LowPair M (t .figures) s
 
 -- S9.7: what a test on a task says if it is true just where the task may take nothing.
 pub record TakesNothing (M : ℕ) (t : Task) (verdict : Bool) : Type 0 where

@@ -5,7 +5,7 @@ use mathlib.Core.Bool.{Bool, true, false, _&&_, and-eq-true-iff}
 use mathlib.Core.List.{List}
 use borrow.Author.Tests.{leb-true, le-leb}
 use lib.Dec.{leb}
-use Rattle.sheet.specs.Rules.{within}
+use Rattle.basics.specs.Numbers.{within}
 use Rattle.shares.specs.Totals.{shareTotal}
 use Rattle.model.specs.Row.{Row}
 use Rattle.entries.proofs.Soundness.{within-bounds}

@@ -4,10 +4,12 @@ use mathlib.Core.Bool.{Bool, true, false}
 use mathlib.Core.List.{List, [], _∷_}
 use mathlib.Core.Path.{_≡_, refl}
 use lib.ListN.{replicate}
-use Rattle.nodes.specs.Sets.{has, range}
+use Rattle.basics.specs.Lists.{range, allBelow}
+use Rattle.nodes.specs.Sets.{has}
 use Rattle.sheet.specs.declared.answer.Answer.the-variants.{Accepted, Refused}
 use Rattle.sheet.specs.Answers.{numberOf, taskOf}
-use Rattle.sheet.specs.Rules.{levelLawful, maskLawful, allBelow, masksLawful}
+use Rattle.sheet.specs.Level.{levelLawful}
+use Rattle.sheet.specs.Rules.{maskLawful, masksLawful}
 use Rattle.model.specs.Row.{highLevel, isHigh, isSubset, allEnded, predecessorsOf, isReady, ready, running, runningSet, releasedRow, joined, tickedRow, isLate, switchedRow}
 use Rattle.model.specs.Step.{unknownTask, lowInCritical, tooEarly, wrongCount, notRunning, rowAt, releaseRefusal, tickRefusal, released, ticked, step}
 use Rattle.entries.specs.declared.state.TaskState.{TaskState}

@@ -2,7 +2,7 @@
 use mathlib.Core.Bool.{Bool, true, _&&_}
 use mathlib.Core.List.{List, [], _∷_}
 use lib.Dec.{leb}
-use Rattle.sheet.specs.Rules.{within}
+use Rattle.basics.specs.Numbers.{within}
 use Rattle.shares.specs.Totals.{typicalTotal, criticalTotal}
 use Rattle.entries.specs.declared.state.TaskState.{TaskState}
 use Rattle.entries.specs.Sound.{entrySound}

@@ -3,13 +3,13 @@ ghost use mathlib.Core.Path.{_≡_};
 ghost use mathlib.Core.Bool.{_&&_};
 ghost use Prim.Native.Nat.{_≤_};
 ghost use lib.Dec.{leb};
-ghost use Rattle.sheet.specs.Rules.{within};
+ghost use Rattle.basics.specs.Numbers.{within};
 ghost use Rattle.shares.specs.Totals.{typicalTotal, criticalTotal};
 ghost use Rattle.dispatcher.specs.Holds.{entriesOf, modelOf, sharesOf};
 ghost use Rattle.dispatcher.specs.Sound.{entriesSound, isSound};
 use crate::state::State;
+use basics::numbers::is_within;
 use entries::sound::entry_sound;
-use sheet::rules::is_within;
 
 pub const NOT_SOUND: u8 = 10;
 

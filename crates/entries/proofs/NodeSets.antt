@@ -9,9 +9,10 @@ use native.Mathlib.Omega.{arith}
 use borrow.Author.Tests.{lt-ltb}
 use lib.Bits.{bitAnd}
 use lib.ListN.{take}
-use Rattle.nodes.specs.Sets.{has, range, keptIf, keep, members, setOf, isWithin}
+use Rattle.basics.specs.Lists.{range, keptIf, keep}
+use Rattle.nodes.specs.Sets.{has, members, setOf, isWithin}
 use Rattle.nodes.proofs.Bits.{has-without, has-ext}
-use Rattle.nodes.proofs.Lists.{keep-none}
+use Rattle.basics.proofs.Lists.{keep-none}
 use Rattle.nodes.proofs.Members.{setOf-keep-lt, has-setOf-keep}
 use Rattle.nodes.proofs.Parts.{and-eq-isWithin}
 use Rattle.nodes.proofs.Rising.{Rising, rising-range, rising-keep, rising-take, members-setOf, setOf-lt}

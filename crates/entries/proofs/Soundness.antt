@@ -7,10 +7,13 @@ use native.Mathlib.Omega.{arith}
 use borrow.Author.Tests.{leb-true, ltb-true, le-leb, lt-ltb}
 use lib.Dec.{leb, ltb}
 use lib.Pow.{pow-pos}
-use Rattle.nodes.specs.Sets.{range, setOf}
+use Rattle.basics.specs.Lists.{range}
+use Rattle.nodes.specs.Sets.{setOf}
 use Rattle.nodes.proofs.Members.{setOf-range}
-use Rattle.sheet.proofs.Logic.{leb-same}
-use Rattle.sheet.specs.Rules.{within, levelLawful, figureLimit, masksLawful}
+use Rattle.basics.proofs.Logic.{leb-same}
+use Rattle.basics.specs.Numbers.{within}
+use Rattle.sheet.specs.Level.{levelLawful, figureLimit}
+use Rattle.sheet.specs.Rules.{masksLawful}
 use Rattle.model.specs.Row.{allEnded}
 use Rattle.entries.specs.declared.state.TaskState.{TaskState}
 use Rattle.entries.specs.Sound.{entrySound}

@@ -4,10 +4,11 @@ use mathlib.Core.Bool.{Bool, true, false}
 use mathlib.Core.List.{List, [], _∷_}
 use mathlib.Core.Path.{_≡_, refl}
 use lib.ListN.{replicate}
-use Rattle.nodes.specs.Sets.{has, range}
+use Rattle.basics.specs.Lists.{range, allBelow}
+use Rattle.nodes.specs.Sets.{has}
 use Rattle.sheet.specs.declared.task.Task.{Task}
-use Rattle.sheet.specs.Rules.{levelLawful, maskLawful, allBelow, masksLawful}
-use Rattle.shares.specs.Low.{isLow}
+use Rattle.sheet.specs.Level.{levelLawful, isLow, isHigh}
+use Rattle.sheet.specs.Rules.{maskLawful, masksLawful}
 use Rattle.shares.specs.Test.{virtualDeadline}
 use Rattle.shares.specs.Deadline.{virtualOf}
 use Rattle.model.specs.Row.{allEnded}
@@ -82,7 +83,7 @@ pub record Worked : Type 0 where
       ≡ record { level = 0; nodes = 0; predecessors = replicate 32 0; deadline = 0; threshold = 0; share = record { typical = 0; critical = 0 }; age = 0; ended = 0; alive = false }
 
 worked : Worked
-unfolding has range levelLawful maskLawful allBelow masksLawful isLow virtualDeadline virtualOf allEnded freshEntry zeroEntry entrySound
+unfolding has range levelLawful maskLawful allBelow masksLawful isLow virtualDeadline virtualOf allEnded freshEntry zeroEntry entrySound isHigh
 worked =
     record {
       virtual-below = refl;

@@ -2,7 +2,9 @@
 use Prim.Native.Nat.{_^_}
 use mathlib.Core.Bool.{Bool, not, _&&_}
 use lib.Dec.{leb, ltb}
-use Rattle.sheet.specs.Rules.{within, levelLawful, figureLimit, masksLawful}
+use Rattle.basics.specs.Numbers.{within}
+use Rattle.sheet.specs.Level.{levelLawful, figureLimit}
+use Rattle.sheet.specs.Rules.{masksLawful}
 use Rattle.model.specs.Row.{allEnded}
 use Rattle.entries.specs.declared.state.TaskState.{TaskState}
 

@@ -2,7 +2,8 @@
 ghost use mathlib.Core.Path.{_≡_};
 ghost use mathlib.Core.List.{[]};
 ghost use Prim.Native.Nat.{suc, min, _≤_, _<_};
-ghost use Rattle.nodes.specs.Sets.{keptIf, setOf};
+ghost use Rattle.basics.specs.Lists.{keptIf};
+ghost use Rattle.nodes.specs.Sets.{setOf};
 ghost use Rattle.shares.specs.Totals.{shareIn};
 ghost use Rattle.model.specs.Row.{isSubset, allEnded, ready, runningSet, releasedRow, tickedRow, isLate, switchedRow};
 ghost use Rattle.entries.specs.Entry.{rowOf, withJob};

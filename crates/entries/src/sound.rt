@@ -3,8 +3,8 @@ ghost use mathlib.Core.Path.{_≡_};
 ghost use Rattle.entries.specs.Sound.{entrySound};
 use crate::entry::all_ended;
 use crate::state::TaskState;
+use basics::numbers::is_within;
 use sheet::rules::FIGURE_LIMIT;
-use sheet::rules::is_within;
 use sheet::rules::masks_lawful;
 
 // S7.2, of one entry. k is tested before the masks and the ended set are read by it.

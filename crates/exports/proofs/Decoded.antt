@@ -7,9 +7,9 @@ use native.Mathlib.Omega.{arith}
 use borrow.Author.Tests.{lt-ltb}
 use lib.Dec.{eqb}
 use lib.ListN.{set, replicate}
-use Rattle.nodes.specs.Sets.{range}
-use Rattle.sheet.specs.Format.{byteAt, cells, cellsFrom}
-use Rattle.sheet.proofs.Cells.{cells-none, cells-store}
+use Rattle.basics.specs.Lists.{range, cells, cellsFrom}
+use Rattle.basics.specs.Numbers.{byteAt}
+use Rattle.basics.proofs.Cells.{cells-none, cells-store}
 use Rattle.entries.specs.declared.state.TaskState.{TaskState}
 use Rattle.dispatcher.specs.declared.state.State.{State}
 use Rattle.exports.specs.StateBytes.{isSet, entryStart, entryFrom, stateFrom}

@@ -6,8 +6,7 @@ use native.Mathlib.Omega.{arith}
 use borrow.Author.Tests.{lt-ltb, le-ltb}
 use lib.ListN.{length, getD, drop, set, length-append}
 use lib.Seq.{sets, sets-eq}
-use Rattle.nodes.specs.Sets.{range}
-use Rattle.allocation.specs.Enumeration.{each}
+use Rattle.basics.specs.Lists.{range, each}
 use Rattle.planner.specs.Writing.{laid}
 use Rattle.planner.proofs.Bytes.{laid-none, laid-length, laid-more, each-next}
 use Rattle.entries.specs.declared.state.TaskState.{TaskState}

@@ -2,11 +2,11 @@
 ghost use mathlib.Core.Path.{_≡_};
 ghost use Prim.Native.Nat.{_<_};
 ghost use Rattle.exports.specs.StateBytes.{masksFrom, entryFrom, stateFrom};
+use basics::numbers::byte_at;
+use basics::numbers::u32_at;
 use dispatcher::state::State;
 use entries::state::TaskState;
 use shares::share::Share;
-use sheet::numbers::byte_at;
-use sheet::numbers::u32_at;
 
 // The masks of the entry that starts at a place.
 fn masks_from(bytes: &[u8], at: usize) -> [u32; 32]

@@ -7,9 +7,9 @@ use native.Mathlib.Numerals.{add-one}
 use native.Mathlib.Omega.{arith}
 use borrow.Author.Tests.{eq-eqb, ne-eqb, le-leb, lt-leb}
 use lib.ListN.{length, take, set}
-use Rattle.sheet.specs.Format.{byteAt, u32At}
-use Rattle.nodes.specs.Sets.{range}
-use Rattle.nodes.proofs.Lists.{range-append}
+use Rattle.basics.specs.Numbers.{byteAt, u32At}
+use Rattle.basics.specs.Lists.{range}
+use Rattle.basics.proofs.Lists.{range-append}
 use Rattle.model.specs.Step.{Call, release, tick}
 use Rattle.guarantee.specs.Encoding.{askedAt, sizeAt, reportsAt, callAt, callsFrom, callsOf}
 

@@ -12,8 +12,8 @@ use borrow.Author.Tests.{le-leb}
 use Rattle.sheet.specs.declared.task.Task.{Task}
 use Rattle.sheet.specs.declared.task.TaskSet.{TaskSet}
 use Rattle.sheet.specs.Format.{taskIn}
-use Rattle.sheet.specs.Rules.{figureLimit}
-use Rattle.sheet.proofs.Cells.{cells-length}
+use Rattle.sheet.specs.Level.{figureLimit}
+use Rattle.basics.proofs.Cells.{cells-length}
 use Rattle.shares.specs.declared.share.Share.{Share}
 use Rattle.shares.specs.Totals.{shareTotal, shareAt}
 use Rattle.allocation.specs.Blocks.{lengthIn}

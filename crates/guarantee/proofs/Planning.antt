@@ -12,7 +12,7 @@ use Rattle.sheet.specs.declared.task.TaskSet.{TaskSet}
 use Rattle.sheet.specs.Format.{taskIn}
 use Rattle.sheet.specs.Rules.{maskLawful, masksLawful}
 use Rattle.shares.specs.declared.share.Share.{Share}
-use Rattle.shares.specs.Low.{isLow}
+use Rattle.sheet.specs.Level.{isLow, isHigh}
 use Rattle.shares.specs.Totals.{shareAt, shareTotal}
 use Rattle.shares.proofs.Levels.{has-below}
 use Rattle.allocation.specs.Lawful.{LawfulSet, LawfulTask}
@@ -21,7 +21,7 @@ use Rattle.allocation.proofs.Lawfulness.{within-from, figures-kept, low-equal, 
 use Rattle.allocation.proofs.Laws.{chosen-length, chosen-typical, chosen-critical, chosen-high, chosen-low}
 use Rattle.model.specs.Row.{lowLevel, highLevel, predecessorsOf}
 use Rattle.model.specs.Plan.{LawfulTask as ModelTask, PassingPair, LowPair, Planned}
-use Rattle.model.proofs.Sums.{all-at}
+use Rattle.basics.proofs.Below.{all-at}
 
 -- One task.
 task-lawful : (t : Task) → LawfulTask t → ModelTask t
@@ -39,14 +39,14 @@ task-lawful t lawful =
 -- The sheet's task set with the shares that are chosen for it.
 module _ (tasks : TaskSet) (lawful : LawfulSet tasks) (shares : List Share) (chosen-it : chosenFor tasks ≡ some shares) where
   high-pair : (i : ℕ) → i < tasks .count → taskIn tasks i .level ≡ highLevel → PassingPair (taskIn tasks i .figures) (shareAt shares i)
-  unfolding shareAt highLevel isLow
+  unfolding shareAt highLevel isLow isHigh
   high-pair i inside high =
       let not-low : eqb (taskIn tasks i .level) 0 ≡ false = rw high in
       let pair = chosen-high tasks lawful shares chosen-it i inside not-low in
       record { positive = pair .positive; ordered = pair .ordered; passing = pair .passing }
 
   low-pair : (i : ℕ) → i < tasks .count → taskIn tasks i .level ≡ lowLevel → LowPair (taskIn tasks i .figures) (shareAt shares i)
-  unfolding shareAt lowLevel isLow
+  unfolding shareAt lowLevel isLow isHigh
   low-pair i inside low =
       let is-low : eqb (taskIn tasks i .level) 0 ≡ true = rw low in
       let pair = chosen-low tasks lawful shares chosen-it i inside is-low in

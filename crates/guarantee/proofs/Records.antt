@@ -21,7 +21,7 @@ use Rattle.dispatcher.specs.Answers.{tickNumber, tickTask}
 use Rattle.dispatcher.specs.Calls.{releaseOf, tickOf}
 use Rattle.guarantee.specs.declared.turn.Turn.{Turn}
 use Rattle.guarantee.specs.Runs.{Said, released, ticked}
-use Rattle.sheet.specs.Encoding.{u32Bytes}
+use Rattle.basics.specs.Numbers.{u32Bytes}
 use Rattle.guarantee.specs.Record.{outcomeOf, markByte, jobBytes, rowsBytes, modelBytes, recordOf, turnOf, turnBytes}
 
 -- Bytes stored behind others.
@@ -47,17 +47,6 @@ rows-length (r ∷ rows) =
 pub record-length : (said : Said) (m : Model) → length (recordOf said m) ≡ 4 + 9 * length (m .rows)
 unfolding recordOf modelBytes
 record-length said m = omega (arith, rows-length (m .rows))
-
--- Four stores are a u32's.
-pub u32-stored : (out : List ℕ) (at x : ℕ) →
-    set (set (set (set out at (x % 256)) (at + 1) (x / 256 % 256)) (at + 2) (x / 65536 % 256)) (at + 3) (x / 16777216 % 256)
-    ≡ sets out at (u32Bytes x)
-unfolding u32Bytes
-u32-stored out at x =
-    let one : at + 1 ≡ suc at = omega arith in
-    let two : at + 2 ≡ suc (suc at) = omega arith in
-    let three : at + 3 ≡ suc (suc (suc at)) = omega arith in
-    rw (one, two, three)
 
 -- A task's 9 bytes.
 pub job-stored : (out : List ℕ) (at alive : ℕ) (j : Job) → alive ≡ markByte (j .alive) →

@@ -15,7 +15,7 @@ use Rattle.sheet.specs.declared.answer.Answer.the-variants.{Accepted, Refused}
 use Rattle.sheet.specs.Answers.{noTask}
 use Rattle.sheet.specs.Format.{taskIn}
 use Rattle.reader.specs.Reading.{readOf}
-use Rattle.sheet.proofs.Cells.{cells-length}
+use Rattle.basics.proofs.Cells.{cells-length}
 use Rattle.shares.specs.Totals.{shareAt}
 use Rattle.allocation.specs.Allocation.{chosenFor, choiceAnswer, sharesOf}
 use Rattle.allocation.proofs.Accepted.{both-accepted, accepted-lawful}

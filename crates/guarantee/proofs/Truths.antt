@@ -9,7 +9,8 @@ use native.Mathlib.Omega.{arith}
 use borrow.Author.Tests.{eqb-true}
 use lib.Dec.{eqb, ltb}
 use lib.ListN.{getD}
-use Rattle.nodes.specs.Sets.{has, range, keep, setOf}
+use Rattle.basics.specs.Lists.{range, keep}
+use Rattle.nodes.specs.Sets.{has, setOf}
 use Rattle.nodes.proofs.Members.{has-setOf-keep}
 use Rattle.model.specs.Step.{Model, Call, release, tick, step, rowAt}
 use Rattle.model.specs.Run.{after, isAccepted, isReleaseOf, releasesIn, isRunning, runsOn, runsIn, isDue, TrueReports}

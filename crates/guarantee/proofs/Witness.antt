@@ -14,15 +14,18 @@ use Rattle.sheet.specs.declared.task.Budget.{Budget}
 use Rattle.sheet.specs.declared.task.Task.{Task}
 use Rattle.sheet.specs.declared.task.TaskSet.{TaskSet}
 use Rattle.sheet.specs.Answers.{_orElse_, firstOver}
-use Rattle.sheet.specs.Format.{byteAt, u16At, u32At, processorsOf, countOf, offsetOf, lengthOf, startOf as placeOf, cellsFrom, levelAt, nodesAt, figuresAt, masksAt, taskAt, zeroTask, tasksBelow, taskSetOf, taskIn}
-use Rattle.sheet.specs.Rules.{levelLawful, shapeLawful, inRange, inOrder, lowLawful, figuresLawful, maskLawful, allBelow, masksLawful, isHeavy, taskAnswer}
+use Rattle.basics.specs.Numbers.{byteAt, u16At, u32At}
+use Rattle.basics.specs.Lists.{cellsFrom, allBelow, range}
+use Rattle.sheet.specs.Format.{processorsOf, countOf, offsetOf, lengthOf, startOf as placeOf, levelAt, nodesAt, figuresAt, masksAt, taskAt, zeroTask, tasksBelow, taskSetOf, taskIn}
+use Rattle.sheet.specs.Level.{levelLawful, isLow, bytesBeforeMasks, figureLimit, isHigh}
+use Rattle.sheet.specs.Rules.{shapeLawful, inRange, inOrder, lowLawful, figuresLawful, maskLawful, masksLawful, isHeavy, taskAnswer}
 use Rattle.reader.specs.declared.Reading.{Reading}
 use Rattle.reader.specs.Reading.{headerLawful, headerAnswer, placeAnswer, endAnswer, shapeAnswer, recordAnswer, answerOf, readOf}
 use Rattle.shares.specs.declared.share.Share.{Share}
 use Rattle.shares.specs.Test.{excess, demand, passes, virtualDeadline}
-use Rattle.shares.specs.Low.{isLow, ceilDiv, lowShare, hasLowShare}
+use Rattle.shares.specs.Low.{ceilDiv, lowShare, hasLowShare}
 use Rattle.shares.specs.Deadline.{virtualOf}
-use Rattle.nodes.specs.Sets.{has, range}
+use Rattle.nodes.specs.Sets.{has}
 use Rattle.nodes.proofs.Bits.{has-zero, has-power}
 use Rattle.allocation.specs.Choice.{lowOptions, pairsWithin, highOptions, optionsOf, fits, leastOf, fitting, chosen}
 use Rattle.allocation.specs.Allocation.{chosenFor, shareAnswer, choiceAnswer, sharesOf}
@@ -69,7 +72,7 @@ pairs = record { typical = 1; critical = 2 } ∷ record { typical = 2; critical 
 
 -- S2, S5: the sheet gives these tasks and shares.
 read-both : readOf twoTasks ≡ record { answer = Accepted; set = both }
-unfolding firstOver byteAt u16At u32At processorsOf countOf offsetOf lengthOf placeOf cellsFrom levelAt nodesAt figuresAt masksAt taskAt zeroTask tasksBelow taskSetOf levelLawful shapeLawful inRange inOrder lowLawful figuresLawful maskLawful allBelow masksLawful isHeavy taskAnswer headerLawful headerAnswer placeAnswer endAnswer shapeAnswer recordAnswer answerOf readOf
+unfolding firstOver byteAt u16At u32At processorsOf countOf offsetOf lengthOf placeOf cellsFrom levelAt nodesAt figuresAt masksAt taskAt zeroTask tasksBelow taskSetOf levelLawful shapeLawful inRange inOrder lowLawful figuresLawful maskLawful allBelow masksLawful isHeavy taskAnswer headerLawful headerAnswer placeAnswer endAnswer shapeAnswer recordAnswer answerOf readOf isHigh figureLimit bytesBeforeMasks
 read-both = refl
 
 read-set : tasksOf twoTasks ≡ both
@@ -77,7 +80,7 @@ unfolding tasksOf
 read-set = ap (λ (r : Reading). r .set) read-both
 
 both-chosen : (choiceAnswer both ≡ Accepted) × (chosenFor both ≡ some pairs)
-unfolding choiceAnswer shareAnswer chosenFor taskIn firstOver range isLow ceilDiv lowShare hasLowShare excess demand passes lowOptions pairsWithin highOptions optionsOf fits leastOf fitting chosen
+unfolding choiceAnswer shareAnswer chosenFor taskIn firstOver range isLow ceilDiv lowShare hasLowShare excess demand passes lowOptions pairsWithin highOptions optionsOf fits leastOf fitting chosen isHigh
 both-chosen = (refl, refl)
 
 pub started : startOf twoTasks .answer ≡ Accepted

@@ -5,8 +5,8 @@ use mathlib.Core.Bool.{cond}
 use mathlib.Core.List.{List, [], _∷_, map}
 use lib.Dec.{eqb, leb}
 use lib.ListN.{length}
-use Rattle.nodes.specs.Sets.{range}
-use Rattle.sheet.specs.Format.{byteAt, u32At}
+use Rattle.basics.specs.Lists.{range}
+use Rattle.basics.specs.Numbers.{byteAt, u32At}
 use Rattle.model.specs.Step.{Call, release, tick}
 
 -- S12.1: the kind byte of a Release.

@@ -4,7 +4,7 @@ use mathlib.Core.Bool.{Bool, cond}
 use mathlib.Core.List.{List, [], _∷_, _++_}
 use Rattle.sheet.specs.declared.answer.Answer.{Answer}
 use Rattle.sheet.specs.declared.answer.Answer.the-variants.{Accepted, Refused}
-use Rattle.sheet.specs.Encoding.{u32Bytes}
+use Rattle.basics.specs.Numbers.{u32Bytes}
 use Rattle.sheet.specs.Answers.{noTask, numberOf, taskOf}
 use Rattle.model.specs.Row.{Job, Row}
 use Rattle.model.specs.Step.{Model, Call}

@@ -3,8 +3,8 @@ ghost use mathlib.Core.Path.{_≡_};
 ghost use Prim.Native.Nat.{_+_, _*_, _≤_, _<_};
 ghost use lib.ListN.{length, take};
 ghost use Rattle.guarantee.specs.Encoding.{askedAt, sizeAt, reportsAt, callsOf};
-use sheet::numbers::byte_at;
-use sheet::numbers::u32_at;
+use basics::numbers::byte_at;
+use basics::numbers::u32_at;
 
 pub const RELEASE: u8 = 0;
 

@@ -3,7 +3,7 @@ ghost use mathlib.Core.Path.{_≡_};
 ghost use Prim.Native.Nat.{_+_, _*_, _≤_};
 ghost use lib.ListN.{length};
 ghost use lib.Seq.{sets};
-ghost use Rattle.sheet.specs.Encoding.{u32Bytes};
+ghost use Rattle.basics.specs.Numbers.{u32Bytes};
 ghost use Rattle.entries.specs.Entry.{jobOf};
 ghost use Rattle.dispatcher.specs.Holds.{modelOf};
 ghost use Rattle.guarantee.specs.Record.{answerBytes, markByte, jobBytes, modelBytes, turnBytes};

@@ -7,14 +7,14 @@ ghost use Rattle.guarantee.specs.Encoding.{sizeAt, callAt};
 ghost use Rattle.guarantee.specs.Record.{doneTurn, refusedTurn, turnOf};
 use crate::encoding::RELEASE;
 use crate::encoding::reports_at;
+use basics::numbers::byte_at;
+use basics::numbers::u32_at;
 use dispatcher::release::release;
 use dispatcher::state::State;
 use dispatcher::tick::TickAnswer;
 use dispatcher::tick::tick;
 use sheet::answer::Answer;
 use sheet::answer::NO_TASK;
-use sheet::numbers::byte_at;
-use sheet::numbers::u32_at;
 
 const DONE: u8 = 0;
 

@@ -15,7 +15,8 @@ use Rattle.sheet.specs.Answers.{noTask}
 use Rattle.sheet.specs.Format.{taskIn}
 use Rattle.model.specs.Row.{Fixed, Row, isHigh, releasedRow, tickedRow, switchedRow}
 use Rattle.model.specs.Step.{Model, Call, release, tick, refusal, unknownTask, lowInCritical, tooEarly, releaseRefusal, rowAt}
-use Rattle.model.specs.Run.{after, isNone, isAccepted, isTick, isReleaseOf, countCalls, ticksIn, releasesIn}
+use Rattle.basics.specs.Lists.{isNone}
+use Rattle.model.specs.Run.{after, isAccepted, isTick, isReleaseOf, countCalls, ticksIn, releasesIn}
 use Rattle.model.specs.Plan.{freshRow, fresh, Planned}
 use Rattle.model.specs.Claim.{ReleaseIn, begun, DeadlinePassed}
 use Rattle.model.specs.Beside.{ReleasesApart}

@@ -8,7 +8,8 @@ use native.Mathlib.Nat.{add-zero, zero-add}
 use native.Mathlib.Omega.{arith}
 use lib.Bits.{bitOr}
 use lib.ListN.{length, getD}
-use Rattle.nodes.specs.Sets.{has, bit}
+use Rattle.basics.specs.Lists.{bit}
+use Rattle.nodes.specs.Sets.{has}
 use Rattle.nodes.proofs.Bits.{has-or}
 use Rattle.model.specs.Row.{Row, isHigh, runningSet, joined, tickedRow, isLate, switchedRow}
 use Rattle.model.specs.Step.{Model, Call, tick, rowAt}

@@ -9,7 +9,7 @@ use lib.ListN.{getD, replicate}
 use Rattle.sheet.specs.declared.task.TaskSet.{TaskSet}
 use Rattle.shares.specs.declared.share.Share.{Share}
 use Rattle.shares.specs.Test.{excess, demand, passes, virtualDeadline}
-use Rattle.shares.specs.Low.{isLow}
+use Rattle.sheet.specs.Level.{isLow, isHigh}
 use Rattle.shares.specs.Deadline.{virtualOf}
 use Rattle.nodes.proofs.Bits.{has-zero}
 use Rattle.model.specs.Budget.{sumBelow, Chain, alone as single, link, along}
@@ -17,7 +17,8 @@ use Rattle.sheet.specs.Format.{taskIn}
 use Rattle.shares.specs.Totals.{shareAt, shareTotal}
 use Rattle.model.specs.Plan.{freshRow, fresh, LawfulTask, PassingPair, LowPair, Planned}
 use Rattle.model.specs.Claim.{KeepsBudget, DeadlinePassed}
-use Rattle.nodes.specs.Sets.{has, range}
+use Rattle.basics.specs.Lists.{range}
+use Rattle.nodes.specs.Sets.{has}
 use Rattle.model.specs.Row.{lowLevel, highLevel, isHigh, isSubset, allEnded, precedes, predecessorsOf, isReady, ready, running, runningSet, releasedRow, joined, tickedRow, isLate, switchedRow}
 use Rattle.model.specs.Step.{release, tick, step, rowAt, releaseRefusal, tickRefusal, released, ticked}
 use Rattle.model.specs.Run.{after, isAccepted}
@@ -49,7 +50,7 @@ sharesA = record { typical = 1; critical = 2 } ∷ []
 
 -- S11.2: V is 9, and its fresh model is the one of the worked facts.
 fresh-alone : fresh sheetA sharesA ≡ alone
-unfolding fresh freshRow virtualOf isLow virtualDeadline
+unfolding fresh freshRow virtualOf isLow virtualDeadline isHigh
 fresh-alone = refl
 
 -- The task set and the shares are planned.

@@ -10,24 +10,20 @@ use borrow.Author.Tests.{eqb-true, eqb-false, eq-eqb, ne-eqb, lt-ltb}
 use lib.Bits.{bitAnd, and-le-l}
 use lib.Dec.{eqb, ltb}
 use lib.Pow.{pow-mono}
-use Rattle.nodes.specs.Sets.{has, bit, count}
+use Rattle.basics.proofs.Logic.{bool-ext}
+use Rattle.basics.specs.Lists.{bit, count, allBelow}
+use Rattle.nodes.specs.Sets.{has}
 use Rattle.nodes.proofs.Bits.{has-zero, has-above, has-and, has-or, has-ext}
 use Rattle.model.specs.Budget.{Keeps}
 use Rattle.shares.specs.Totals.{shareIn}
 use Rattle.model.specs.Row.{Fixed, Row, isSubset, allEnded, predecessorsOf, precedes, isReady, runningSet, releasedRow, joined, tickedRow}
 use Rattle.model.specs.Run.{isDue}
-use Rattle.sheet.specs.Rules.{allBelow}
-use Rattle.model.proofs.Sums.{lowest, all-at, all-intro, lowest-same}
+use Rattle.basics.proofs.Below.{all-at, all-intro}
+use Rattle.model.proofs.Sums.{lowest, lowest-same}
 use Rattle.model.proofs.JobTick.{ended, ready, runs, Alive, alive-some, alive-same, runs-same, ended-next, ended-same, next}
 use Rattle.model.proofs.Progress.{Progress, Ticked, begin, begin-unended, bounds, tick-as}
 use Rattle.model.proofs.Nodes.{runs-test, all-ended-at, all-ended-intro}
 use Rattle.model.proofs.Lasting.{KeptSound, sound-released, sound-ticked}
-
--- Two tests are equal if each passes where the other does.
-pub bool-ext : (x y : Bool) → (x ≡ true → y ≡ true) → (y ≡ true → x ≡ true) → x ≡ y
-bool-ext true y f g = sym (f refl)
-bool-ext false true f g = absurd (false≢true (g refl))
-bool-ext false false f g = refl
 
 -- A node is due just where the tick brings what it ran to its length.
 due-last : (t : Bool) (ran length : ℕ) → isDue t ran length ≡ (t && eqb (ran + bit t) length)

@@ -10,9 +10,9 @@ use native.Mathlib.Decide.{ℕ-discrete}
 use lib.Dec.{leb, eqb}
 use borrow.Author.Tests.{leb-true, leb-false, le-leb, lt-leb, eq-eqb, ne-eqb}
 use Rattle.model.specs.Budget.{sumBelow}
-use Rattle.sheet.specs.Rules.{allBelow}
-use Rattle.nodes.specs.Sets.{bit, count}
-use Rattle.model.proofs.Sums.{lowest, LeastFailing, least-failing, all-at, all-same, all-fails, sum-add, sum-bits, lowest-passes, lowest-same}
+use Rattle.basics.specs.Lists.{allBelow, bit, count}
+use Rattle.basics.proofs.Below.{all-at, all-same, all-fails}
+use Rattle.model.proofs.Sums.{lowest, LeastFailing, least-failing, sum-add, sum-bits, lowest-passes, lowest-same}
 use Rattle.model.proofs.Chains.{Earlier}
 
 -- Whether node v has run its length, where c counts the ticks that each node ran.

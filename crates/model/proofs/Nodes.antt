@@ -9,7 +9,9 @@ use native.Mathlib.Decide.{ℕ-discrete}
 use borrow.Author.Tests.{eqb-true}
 use lib.Bits.{bitAnd, and-le-r}
 use lib.Dec.{ltb}
-use Rattle.nodes.specs.Sets.{has, range, every, setOf, count}
+use Rattle.basics.specs.Lists.{count}
+use Rattle.basics.proofs.Below.{range-all-at, range-all}
+use Rattle.nodes.specs.Sets.{has, setOf}
 use Rattle.nodes.proofs.Members.{setOf-keep-lt, has-setOf-keep}
 use Rattle.shares.specs.Totals.{shareIn}
 use Rattle.model.specs.Row.{Row, isSubset, allEnded, isReady, runningSet}
@@ -33,31 +35,11 @@ pub subset-below : (a b n : ℕ) → isSubset a b ≡ true → b < n → a < n
 unfolding isSubset
 subset-below a b n e h = omega (arith, and-le-r a b, eqb-true (bitAnd a b) a e)
 
-pub every-at : (p : ℕ → Bool) (first n v : ℕ) → every p (range first n) ≡ true → first ≤ v → v < first + n → p v ≡ true
-unfolding range
-every-at p first zero v e low high = absurd (omega arith)
-every-at p first (suc n) v e low high = go (ℕ-discrete v first) (every-at p (suc first) n v)
-  where
-    both : (p first ≡ true) × (every p (range (suc first) n) ≡ true)
-    both = and-eq-true-iff (p first) (every p (range (suc first) n)) .0 e
-
-    go : Dec (v ≡ first) → (every p (range (suc first) n) ≡ true → suc first ≤ v → v < suc first + n → p v ≡ true) → p v ≡ true
-    go (yes same) rest = ap p same ∙ both .0
-    go (no other) rest = rest (both .1) (omega arith) (omega arith)
-
-pub every-intro : (p : ℕ → Bool) (first n : ℕ) → ((v : ℕ) → first ≤ v → v < first + n → p v ≡ true) →
-    every p (range first n) ≡ true
-unfolding range
-every-intro p first zero h = refl
-every-intro p first (suc n) h =
-    and-eq-true-iff (p first) (every p (range (suc first) n)) .1
-    (h first (le-refl first) (omega arith), every-intro p (suc first) n (λ v low high. h v (omega arith) (omega arith)))
-
 -- All nodes have ended just where each has.
 pub all-ended-at : (k ended v : ℕ) → allEnded k ended ≡ true → v < k → has ended v ≡ true
 unfolding allEnded
-all-ended-at k ended v e h = every-at (has ended) 0 k v e (omega arith) (omega arith)
+all-ended-at k ended v e h = range-all-at (has ended) 0 k v e (omega arith) (omega arith)
 
 pub all-ended-intro : (k ended : ℕ) → ((v : ℕ) → v < k → has ended v ≡ true) → allEnded k ended ≡ true
 unfolding allEnded
-all-ended-intro k ended h = every-intro (has ended) 0 k (λ v low high. h v (omega arith))
+all-ended-intro k ended h = range-all (has ended) 0 k (λ v low high. h v (omega arith))

@@ -16,7 +16,8 @@ use Rattle.shares.specs.declared.share.Share.{Share}
 use Rattle.shares.proofs.Ends.{nominal-ends}
 use Rattle.model.specs.Row.{Fixed, Row, highLevel, isHigh, allEnded, joined, tickedRow, isLate}
 use Rattle.model.specs.Step.{Model, Call, release, tick, Refusal, Step, step, stepBy, refusalOf, rowAt, noRow, released, tickedRows, lowestLate, switchedTo, switching, ticked}
-use Rattle.model.specs.Run.{answers, isNone, isAccepted, isTick, isReleaseOf}
+use Rattle.basics.specs.Lists.{isNone}
+use Rattle.model.specs.Run.{answers, isAccepted, isTick, isReleaseOf}
 use Rattle.sheet.specs.Format.{taskIn}
 use Rattle.shares.specs.Totals.{shareAt}
 use Rattle.model.specs.Plan.{freshRow, fresh, Planned}

@@ -8,7 +8,7 @@ use mathlib.Core.Logic.{_⊎_, inl, inr}
 use native.Mathlib.Omega.{arith}
 use native.Mathlib.Decide.{decLe}
 use Rattle.model.specs.Budget.{sumBelow, Chain, alone, along, Keeps}
-use Rattle.nodes.specs.Sets.{bit, count}
+use Rattle.basics.specs.Lists.{bit, count}
 use Rattle.model.proofs.Sums.{sum-same, sum-add, sum-zero, sum-at, count-some, count-lowest, lowest-all}
 use Rattle.model.proofs.Chains.{Earlier, along-le, along-same, longer-before}
 use Rattle.model.proofs.JobTick.{ended, ready, runs, next, remaining, Alive, alive-same, runs-same, ready-or-waits, some-ready, unended-less, less-unended, next-within, sum-next}

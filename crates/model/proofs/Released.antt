@@ -10,7 +10,7 @@ use Rattle.sheet.specs.declared.task.Budget.{Budget}
 use Rattle.sheet.specs.declared.task.TaskSet.{TaskSet}
 use Rattle.shares.specs.declared.share.Share.{Share}
 use Rattle.shares.specs.Test.{virtualDeadline}
-use Rattle.shares.specs.Low.{isLow}
+use Rattle.sheet.specs.Level.{isLow}
 use Rattle.shares.specs.Deadline.{virtualOf}
 use Rattle.model.specs.Budget.{Keeps}
 use Rattle.model.specs.Row.{Fixed, Row, highLevel, isHigh, precedes, allEnded}

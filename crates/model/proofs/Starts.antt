@@ -8,10 +8,11 @@ use borrow.Author.Tests.{eqb-true, eq-eqb, not-true, ltb-true, lt-ltb}
 use lib.Bits.{bitAnd}
 use lib.Dec.{ltb}
 use lib.ListN.{length, length-take}
-use Rattle.nodes.specs.Sets.{has, range, keep, count}
+use Rattle.basics.specs.Lists.{range, keep, count}
+use Rattle.nodes.specs.Sets.{has}
 use Rattle.nodes.proofs.Bits.{has-and, within-and, within-antisymm}
-use Rattle.nodes.proofs.Lists.{mem-range, range-mem, mem-keep, keep-mem}
-use Rattle.nodes.proofs.Counts.{count-mono, keep-lowest}
+use Rattle.basics.proofs.Members.{range-has, range-within, keep-has, keep-from}
+use Rattle.basics.proofs.Counts.{count-mono, keep-lowest}
 use Rattle.shares.specs.Totals.{shareIn}
 use Rattle.model.specs.Row.{Row, isSubset, predecessorsOf, precedes, isReady, ready, running}
 use Rattle.model.specs.Beside.{MayStart, Startable}
@@ -56,7 +57,7 @@ ready-start r v s =
 start-ready : (r : Row) (v : ℕ) → MayStart r v → List·Memᴰ v (ready r)
 unfolding ready
 start-ready r v s =
-    mem-keep (isReady r) _ v (ready-start r v s) (mem-range _ (r .fixed .nodes) v (omega arith) (omega (arith, s .node)))
+    keep-has (isReady r) _ v (ready-start r v s) (range-has _ (r .fixed .nodes) v (omega arith) (omega (arith, s .node)))
 
 running-many : (critical : Bool) (r : Row) →
     length (running critical r) ≡ min (shareIn critical (r .fixed .share)) (length (ready r))
@@ -82,10 +83,10 @@ running-first critical r v m =
     record { node = omega (arith, below); ready = both .0; few = ltb-true _ _ (both .1) }
   where
     kept : (runs-first critical r v ≡ true) × List·Memᴰ v (range 0 (r .fixed .nodes))
-    kept = keep-mem (runs-first critical r) (range 0 (r .fixed .nodes)) v (subst (List·Memᴰ v) (running-is critical r) m)
+    kept = keep-from (runs-first critical r) (range 0 (r .fixed .nodes)) v (subst (List·Memᴰ v) (running-is critical r) m)
 
     below : (0 ≤ v) × (v < 0 + r .fixed .nodes)
-    below = range-mem 0 (r .fixed .nodes) v (kept .1)
+    below = range-within 0 (r .fixed .nodes) v (kept .1)
 
     both : (isReady r v ≡ true) × (ltb (count (isReady r) v) (shareIn critical (r .fixed .share)) ≡ true)
     both = and-eq-true-iff (isReady r v) (ltb (count (isReady r) v) (shareIn critical (r .fixed .share))) .0 (kept .0)
@@ -94,9 +95,9 @@ first-running : (critical : Bool) (r : Row) (v : ℕ) → First critical r v →
 unfolding runs-first
 first-running critical r v f =
     subst (List·Memᴰ v) (sym (running-is critical r))
-    (mem-keep (runs-first critical r) (range 0 (r .fixed .nodes)) v
+    (keep-has (runs-first critical r) (range 0 (r .fixed .nodes)) v
     (ap₂ _&&_ (f .ready) (lt-ltb (count (isReady r) v) (shareIn critical (r .fixed .share)) (f .few)))
-    (mem-range 0 (r .fixed .nodes) v (omega arith) (omega (arith, f .node))))
+    (range-has 0 (r .fixed .nodes) v (omega arith) (omega (arith, f .node))))
 
 -- S8.2 and S8.3, of every row.
 pub startable : (r : Row) → Startable r

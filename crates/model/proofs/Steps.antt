@@ -13,7 +13,8 @@ use lib.Seq.{getD-set-same, getD-set-other}
 use Rattle.model.specs.Row.{Row, isSubset, runningSet, releasedRow, tickedRow, isLate, switchedRow}
 use Rattle.sheet.specs.Answers.{noTask}
 use Rattle.model.specs.Step.{Model, Call, release, tick, Refusal, refusal, unknownTask, wrongCount, Step, step, stepBy, rowAt, noRow, releaseRefusal, reportRefusal, tickRefusal, refusalOf, released, tickedRows, lowestLate, switchedTo, switching, ticked}
-use Rattle.model.specs.Run.{after, isNone, isAccepted, isTick, isReleaseOf}
+use Rattle.basics.specs.Lists.{isNone}
+use Rattle.model.specs.Run.{after, isAccepted, isTick, isReleaseOf}
 
 -- The model after one call.
 abbrev pub next : Model → Call → Model

@@ -6,33 +6,19 @@ use native.Mathlib.Omega.{arith}
 use native.Mathlib.Decide.{decLt}
 use lib.Dec.{ltb}
 use borrow.Author.Tests.{ltb-true, ltb-false, lt-ltb}
-use Rattle.nodes.specs.Sets.{bit, count}
-use Rattle.sheet.specs.Rules.{allBelow}
+use Rattle.basics.specs.Lists.{bit, count, allBelow}
+use Rattle.basics.proofs.Logic.{left-true}
+use Rattle.basics.proofs.Below.{below-cases, all-at}
+use Rattle.basics.proofs.Counts.{count-ext, count-mono}
 use Rattle.model.specs.Budget.{sumBelow}
 
 -- Whether v is among the s lowest numbers that pass the test: it passes, and fewer than s below it do.
 unfoldable pub lowest : ℕ → (ℕ → Bool) → ℕ → Bool
 lowest s p v = p v && ltb (count p v) s
 
-and-left : (x y : Bool) → (x && y) ≡ true → x ≡ true
-and-left true y e = refl
-and-left false y e = e
-
-and-right : (x y : Bool) → (x && y) ≡ true → y ≡ true
-and-right true y e = e
-and-right false y e = absurd (false≢true e)
-
 and-true : (x : Bool) → (x && true) ≡ x
 and-true true = refl
 and-true false = refl
-
--- What holds below k and at k holds below suc k.
-below-cases : (P : ℕ → Type 0) (k : ℕ) → ((v : ℕ) → v < k → P v) → P k → (v : ℕ) → v < suc k → P v
-below-cases P k below at v l = go (decLt v k)
-  where
-    go : Dec (v < k) → P v
-    go (yes h) = below v h
-    go (no h) = let e : v ≡ k = omega arith in rw e at
 
 pub sum-le : (k : ℕ) (f g : ℕ → ℕ) → ((v : ℕ) → v < k → f v ≤ g v) → sumBelow k f ≤ sumBelow k g
 unfolding sumBelow
@@ -65,18 +51,6 @@ sum-at zero f v l = absurd (omega arith)
 sum-at (suc k) f v l =
     below-cases (λ u. f u ≤ sumBelow k f + f k) k (λ u h. omega (arith, sum-at k f u h)) (omega arith) v l
 
-pub count-same : (v : ℕ) (p q : ℕ → Bool) → ((u : ℕ) → u < v → p u ≡ q u) → count p v ≡ count q v
-unfolding count
-count-same zero p q h = refl
-count-same (suc v) p q h = ap₂ (λ n t. n + bit t) (count-same v p q (λ u l. h u (omega arith))) (h v (omega arith))
-
-pub count-mono : (p : ℕ → Bool) (u v : ℕ) → u ≤ v → count p u ≤ count p v
-unfolding count
-count-mono p u zero l = let e : u ≡ zero = omega arith in rw e (omega arith)
-count-mono p u (suc v) l =
-    below-cases (λ w. count p w ≤ count p v + bit (p v)) (suc v) (λ w h. omega (arith, count-mono p w v (omega arith))) (omega arith) u
-    (omega arith)
-
 pub count-some : (p : ℕ → Bool) (k v : ℕ) → v < k → p v ≡ true → 1 ≤ count p k
 count-some p k v l e =
     omega (arith, sum-bits k p, sum-at k (λ u. bit (p u)) v l, ap bit e)
@@ -100,34 +74,11 @@ lowest-all s p k few v l = rw (lt-ltb (count p v) s (omega (arith, count-mono p 
 
 pub lowest-passes : (s : ℕ) (p : ℕ → Bool) (v : ℕ) → lowest s p v ≡ true → p v ≡ true
 unfolding lowest
-lowest-passes s p v e = and-left (p v) (ltb (count p v) s) e
+lowest-passes s p v e = left-true (p v) (ltb (count p v) s) e
 
 pub lowest-same : (s v : ℕ) (p q : ℕ → Bool) → ((u : ℕ) → u ≤ v → p u ≡ q u) → lowest s p v ≡ lowest s q v
 unfolding lowest
-lowest-same s v p q h = ap₂ (λ t n. t && ltb n s) (h v (omega arith)) (count-same v p q (λ u l. h u (omega arith)))
-
-pub all-at : (k : ℕ) (p : ℕ → Bool) → allBelow k p ≡ true → (v : ℕ) → v < k → p v ≡ true
-unfolding allBelow
-all-at zero p e v l = absurd (omega arith)
-all-at (suc k) p e v l =
-    below-cases (λ u. p u ≡ true) k (all-at k p (and-left (allBelow k p) (p k) e)) (and-right (allBelow k p) (p k) e) v l
-
-pub all-intro : (k : ℕ) (p : ℕ → Bool) → ((v : ℕ) → v < k → p v ≡ true) → allBelow k p ≡ true
-unfolding allBelow
-all-intro zero p h = refl
-all-intro (suc k) p h = ap₂ _&&_ (all-intro k p (λ v l. h v (omega arith))) (h k (omega arith))
-
-pub all-same : (k : ℕ) (p q : ℕ → Bool) → ((v : ℕ) → v < k → p v ≡ q v) → allBelow k p ≡ allBelow k q
-unfolding allBelow
-all-same zero p q h = refl
-all-same (suc k) p q h = ap₂ _&&_ (all-same k p q (λ v l. h v (omega arith))) (h k (omega arith))
-
-pub all-fails : (k : ℕ) (p : ℕ → Bool) (v : ℕ) → v < k → p v ≡ false → allBelow k p ≡ false
-all-fails k p v l e = go (allBelow k p) refl
-  where
-    go : (t : Bool) → allBelow k p ≡ t → t ≡ false
-    go true all = cc (all-at k p all v l)
-    go false some = refl
+lowest-same s v p q h = ap₂ (λ t n. t && ltb n s) (h v (omega arith)) (count-ext p q v (λ u l. h u (omega arith)))
 
 -- The least number below k that fails a test: all below it pass.
 pub record LeastFailing (k : ℕ) (p : ℕ → Bool) : Type 0 where

@@ -7,7 +7,8 @@ use lib.Dec.{eqb, leb}
 use lib.ListN.{getD, take}
 use Rattle.shares.specs.declared.share.Share.{Share}
 use Rattle.shares.specs.Totals.{shareIn}
-use Rattle.nodes.specs.Sets.{has, range, keep, every, setOf}
+use Rattle.basics.specs.Lists.{range, keep, all}
+use Rattle.nodes.specs.Sets.{has, setOf}
 
 -- S7.1: a task's level, k, masks, D, V and shares. The sheet and the plan fix them; no call changes them.
 pub record Fixed : Type 0 where
@@ -51,7 +52,7 @@ isSubset nodes others = eqb (bitAnd nodes others) nodes
 
 -- S10.4: whether all k nodes have ended.
 unfoldable pub allEnded : ℕ → ℕ → Bool
-allEnded k ended = every (has ended) (range 0 k)
+allEnded k ended = all (has ended) (range 0 k)
 
 -- The set of node v's predecessors: its mask among the masks of a task.
 unfoldable pub predecessorsOf : List ℕ → ℕ → ℕ

@@ -3,9 +3,9 @@ use Prim.Native.Nat.{ℕ, _+_}
 use mathlib.Core.Path.{_≡_}
 use mathlib.Core.Bool.{Bool, true, false, cond, _&&_}
 use mathlib.Core.List.{List, [], _∷_, _++_}
-use mathlib.Core.Option.{Option, none, some}
 use lib.Dec.{eqb}
 use lib.ListN.{getD}
+use Rattle.basics.specs.Lists.{isNone}
 use Rattle.nodes.specs.Sets.{has}
 use Rattle.model.specs.Row.{runningSet}
 use Rattle.model.specs.Step.{Model, Call, release, tick, Answer, Refusal, step, refusalOf, rowAt}
@@ -19,11 +19,6 @@ after m (c ∷ calls) = after (step m c .model) calls
 abbrev pub answers : Model → List Call → List Answer
 answers m [] = []
 answers m (c ∷ calls) = step m c .answer ∷ answers (step m c .model) calls
-
--- Whether there is no refusal.
-abbrev pub isNone : Option Refusal → Bool
-isNone none = true
-isNone (some r) = false
 
 -- S3.2: whether the call is accepted: none of its refusals holds.
 unfoldable pub isAccepted : Model → Call → Bool

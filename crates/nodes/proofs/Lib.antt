@@ -1,7 +1,5 @@
 pub mod Worked
 pub mod Bits
-pub mod Lists
-pub mod Counts
 pub mod Members
 pub mod Rising
 pub mod Parts

@@ -14,10 +14,12 @@ use lib.Count.{ones, ones-step}
 use lib.Dec.{eqb, ltb, leb·zero, leb·suc-zero, leb·suc-suc}
 use lib.ListN.{length, length-map, take}
 use lib.Pow.{ones-lt}
-use Rattle.nodes.specs.Sets.{has, range, keptIf, keep, members, setOf, bit, count}
+use Rattle.basics.specs.Lists.{range, keptIf, keep, bit, count}
+use Rattle.nodes.specs.Sets.{has, members, setOf}
 use Rattle.nodes.proofs.Bits.{digit-cases, has-first, has-next, has-zero, has-or, has-and, has-ones, has-sub, has-without, has-ext, Within}
-use Rattle.nodes.proofs.Lists.{keep-ext-below, keep-none, keep-all, keep-next, mem-range, range-mem, mem-keep, keep-mem}
-use Rattle.nodes.proofs.Counts.{length-kept-bit, keep-lowest}
+use Rattle.basics.proofs.Members.{range-has, range-within, keep-has, keep-from}
+use Rattle.basics.proofs.Lists.{keep-ext-below, keep-none, keep-all, keep-next}
+use Rattle.basics.proofs.Counts.{length-kept-bit, keep-lowest}
 
 -- The set of a list of successors is twice the list's.
 setOf-map-suc : (vs : List ℕ) → setOf (map suc vs) ≡ setOf vs * 2
@@ -66,13 +68,13 @@ has-setOf-below p k v h = has-setOf-keep p k v ∙ rw (lt-ltb v k h)
 pub members-mem : (k set v : ℕ) → List·Memᴰ v (members k set) → (has set v ≡ true) × (v < k)
 unfolding members
 members-mem k set v m =
-    let i = keep-mem (has set) (range 0 k) v m in
-    let b = range-mem 0 k v (i .1) in
-    (i .0, omega arith)
+    let i = keep-from (has set) (range 0 k) v m in
+    let b = range-within 0 k v (i .0) in
+    (i .1, omega arith)
 
 pub mem-members : (k set v : ℕ) → has set v ≡ true → v < k → List·Memᴰ v (members k set)
 unfolding members
-mem-members k set v e h = mem-keep (has set) (range 0 k) v e (mem-range 0 k v (omega arith) (omega arith))
+mem-members k set v e h = keep-has (has set) (range 0 k) v (range-has 0 k v (omega arith) (omega arith)) e
 
 -- There and back.
 pub setOf-members : (k set : ℕ) → set < 2 ^ k → setOf (members k set) ≡ set

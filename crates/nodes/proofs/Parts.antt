@@ -6,37 +6,33 @@ use native.Mathlib.Nat.{lt-of-le-of-lt}
 use borrow.Author.Tests.{eqb-true, eq-eqb}
 use lib.Bits.{bitAnd, and-le-l}
 use lib.Dec.{eqb}
+use Rattle.basics.proofs.Logic.{bool-ext}
 use Rattle.nodes.specs.Sets.{has, members, isWithin}
 use Rattle.nodes.proofs.Bits.{has-lt, has-and, has-ext, Within}
-use Rattle.nodes.proofs.Lists.{every-mem, mem-every}
+use Rattle.basics.proofs.Members.{all-member, all-members}
 use Rattle.nodes.proofs.Members.{members-mem, mem-members}
 
 -- The test by the bits.
 pub isWithin-has : (k a b v : ℕ) → isWithin k a b ≡ true → v < k → has a v ≡ true → has b v ≡ true
 unfolding isWithin
-isWithin-has k a b v e h m = every-mem (has b) (members k a) v e (mem-members k a v m h)
+isWithin-has k a b v e h m = all-member (has b) (members k a) v e (mem-members k a v m h)
 
 pub has-isWithin : (k a b : ℕ) → ((v : ℕ) → v < k → has a v ≡ true → has b v ≡ true) → isWithin k a b ≡ true
 unfolding isWithin
-has-isWithin k a b w = mem-every (has b) (members k a) (λ v m. let i = members-mem k a v m in w v (i .1) (i .0))
+has-isWithin k a b w = all-members (has b) (members k a) (λ v m. let i = members-mem k a v m in w v (i .1) (i .0))
 
 -- For a set below 2 ^ k the test says that a has nothing that b lacks.
 pub isWithin-within : (k a b : ℕ) → a < 2 ^ k → isWithin k a b ≡ true → Within a b
 isWithin-within k a b below e v m = isWithin-has k a b v e (has-lt k a v below m) m
 
 -- The word's test.
-both-ways : (s t : Bool) → (s ≡ true → t ≡ true) → (t ≡ true → s ≡ true) → s ≡ t
-both-ways true t f g = sym (f refl)
-both-ways false true f g = g refl
-both-ways false false f g = refl
-
 implied : (s t : Bool) → (s ≡ true → t ≡ true) → (s && t) ≡ s
 implied true t f = f refl
 implied false t f = refl
 
 pub and-eq-isWithin : (k a b : ℕ) → a < 2 ^ k → eqb (bitAnd a b) a ≡ isWithin k a b
 and-eq-isWithin k a b below =
-    both-ways (eqb (bitAnd a b) a) (isWithin k a b)
+    bool-ext (eqb (bitAnd a b) a) (isWithin k a b)
     (λ e. has-isWithin k a b (λ v h m.
     and-eq-true-iff (has a v) (has b v) .0 (sym (has-and a b v) ∙ ap (λ (n : ℕ). has n v) (eqb-true (bitAnd a b) a e) ∙ m) .1))
     (λ e. eq-eqb (bitAnd a b) a

@@ -8,8 +8,9 @@ use native.Mathlib.Omega.{arith}
 use borrow.Author.Tests.{eq-eqb, ne-eqb}
 use lib.Dec.{eqb}
 use lib.ListN.{take}
-use Rattle.nodes.specs.Sets.{has, range, keep, keptIf, members, setOf}
-use Rattle.nodes.proofs.Lists.{keep-ext, keep-none}
+use Rattle.basics.specs.Lists.{range, keep, keptIf}
+use Rattle.nodes.specs.Sets.{has, members, setOf}
+use Rattle.basics.proofs.Lists.{keep-ext, keep-none}
 use Rattle.nodes.proofs.Members.{members-setOf-keep, setOf-keep-lt}
 
 -- Each number of the list is at least `low`, below k and below those after it.

@@ -2,7 +2,8 @@
 use mathlib.Core.Bool.{true, false}
 use mathlib.Core.List.{[], _∷_}
 use mathlib.Core.Path.{_≡_, refl}
-use Rattle.nodes.specs.Sets.{has, range, members, setOf, isWithin, count}
+use Rattle.basics.specs.Lists.{range, count}
+use Rattle.nodes.specs.Sets.{has, members, setOf, isWithin}
 
 pub record Worked : Type 0 where
   -- S1.2: 5 is the set of the nodes 0 and 2; the highest bit of a u32 is node 31.

@@ -2,7 +2,8 @@
 ghost use Prim.Native.Nat.{_<_, _^_, min};
 ghost use mathlib.Core.Path.{_≡_};
 ghost use lib.ListN.{take};
-ghost use Rattle.nodes.specs.Sets.{has, range, members, setOf, isWithin};
+ghost use Rattle.basics.specs.Lists.{range};
+ghost use Rattle.nodes.specs.Sets.{members, setOf, isWithin};
 
 // The set of node v alone.
 fn bit(v: u32) -> u32
@@ -10,13 +11,6 @@ fn bit(v: u32) -> u32
     ensures { λ r. ⌜ r ≡ 2 ^ v ⌝ }
 {
     1 << v
-}
-
-// Whether the set holds node v.
-pub fn has_node(set: u32, v: u32) -> bool
-    ensures { λ r. ⌜ r ≡ has set v ⌝ }
-{
-    v < 32 && (set >> v) & 1 == 1
 }
 
 // The set of the k lowest nodes: all 32 where k is larger.

@@ -12,7 +12,8 @@ use borrow.Author.Tests.{le-ltb}
 use Rattle.sheet.specs.declared.answer.Answer.{Answer}
 use Rattle.sheet.specs.declared.answer.Answer.the-variants.{Accepted, Refused}
 use Rattle.sheet.specs.Answers.{noTask, refusedIf, _orElse_}
-use Rattle.sheet.specs.Format.{byteAt, countOf, taskSetOf}
+use Rattle.basics.specs.Numbers.{byteAt}
+use Rattle.sheet.specs.Format.{countOf, taskSetOf}
 use Rattle.reader.specs.Reading.{readOf}
 use Rattle.allocation.specs.Allocation.{chosenFor, sharesOf, choiceAnswer}
 use Rattle.planner.specs.Plan.{shortBuffer, planBytes, planAnswer, planned}

@@ -8,7 +8,7 @@ use native.Mathlib.Omega.{arith}
 use lib.Dec.{ltb}
 use lib.ListN.{getD}
 use borrow.Author.Tests.{ltb-true, ltb-false, lt-ltb, le-ltb, le-leb}
-use Rattle.nodes.specs.Sets.{every}
+use Rattle.basics.specs.Lists.{all}
 use Rattle.plan_text.specs.Decimal.{digit, digitsWithin, decimal, isDigit, valueAfter, IsDecimal}
 
 -- A tenth of what is not 0 is smaller.
@@ -49,13 +49,13 @@ value-both : (v : ℕ) (xs ys : List ℕ) → valueAfter v (xs ++ ys) ≡ valueA
 value-both v [] ys = refl
 value-both v (x ∷ xs) ys = value-both (10 * v + (x - digit 0)) xs ys
 
-digits-both : (xs ys : List ℕ) → every isDigit xs ≡ true → every isDigit ys ≡ true → every isDigit (xs ++ ys) ≡ true
+digits-both : (xs ys : List ℕ) → all isDigit xs ≡ true → all isDigit ys ≡ true → all isDigit (xs ++ ys) ≡ true
 digits-both [] ys h g = g
 digits-both (x ∷ xs) ys h g =
-    let both = and-eq-true-iff (isDigit x) (every isDigit xs) .0 h in
-    and-eq-true-iff (isDigit x) (every isDigit (xs ++ ys)) .1 (both .0, digits-both xs ys (both .1) g)
+    let both = and-eq-true-iff (isDigit x) (all isDigit xs) .0 h in
+    and-eq-true-iff (isDigit x) (all isDigit (xs ++ ys)) .1 (both .0, digits-both xs ys (both .1) g)
 
-digit-is : (d : ℕ) → d < 10 → every isDigit (digit d ∷ []) ≡ true
+digit-is : (d : ℕ) → d < 10 → all isDigit (digit d ∷ []) ≡ true
 unfolding isDigit
 digit-is d h = rw (le-leb (digit 0) (digit d) (omega arith), le-leb (digit d) (digit 9) (omega arith))
 

@@ -5,9 +5,8 @@ use native.Mathlib.Decide.{decLt}
 use native.Mathlib.Nat.{div-lt-iff-lt-mul, pow-suc}
 use native.Mathlib.Omega.{arith}
 use lib.ListN.{length, getD, length-append}
-use Rattle.sheet.specs.Format.{byteAt, u16At}
-use Rattle.nodes.specs.Sets.{range}
-use Rattle.allocation.specs.Enumeration.{each}
+use Rattle.basics.specs.Numbers.{byteAt, u16At}
+use Rattle.basics.specs.Lists.{range, each}
 use Rattle.plan_text.specs.Decimal.{digit, decimal}
 use Rattle.plan_text.specs.Lines.{mark, line}
 use Rattle.plan_text.specs.Printed.{refusalLine}

@@ -9,11 +9,11 @@ use native.Mathlib.Omega.{arith}
 use lib.ListN.{length, getD}
 use lib.Seq.{getD-append-add}
 use Rattle.sheet.specs.declared.task.TaskSet.{TaskSet}
-use Rattle.sheet.specs.Format.{byteAt, u16At, taskIn}
+use Rattle.basics.specs.Numbers.{byteAt, u16At}
+use Rattle.sheet.specs.Format.{taskIn}
 use Rattle.shares.specs.declared.share.Share.{Share}
 use Rattle.shares.specs.Deadline.{virtualOf}
-use Rattle.nodes.specs.Sets.{range}
-use Rattle.allocation.specs.Enumeration.{each}
+use Rattle.basics.specs.Lists.{range, each}
 use Rattle.allocation.specs.Blocks.{offsetIn, lengthIn}
 use Rattle.planner.specs.Plan.{blockBytes, virtualBytes, planBytes}
 use Rattle.plan_text.specs.Printed.{fieldsOf, planLines}

@@ -2,14 +2,16 @@
 use mathlib.Core.Path.{_≡_, refl}
 use mathlib.Core.List.{[], _∷_, _++_}
 use Rattle.sheet.specs.Answers.{firstOver}
-use Rattle.sheet.specs.Format.{byteAt, u16At, u32At, processorsOf, countOf, offsetOf, lengthOf, startOf, cellsFrom, levelAt, nodesAt, figuresAt, masksAt, taskAt, zeroTask, tasksBelow, taskSetOf, zeroTaskSet, taskIn}
-use Rattle.sheet.specs.Rules.{levelLawful, shapeLawful, inRange, inOrder, lowLawful, figuresLawful, maskLawful, allBelow, masksLawful, isHeavy, taskAnswer}
+use Rattle.basics.specs.Numbers.{byteAt, u16At, u32At}
+use Rattle.basics.specs.Lists.{cellsFrom, allBelow, range}
+use Rattle.sheet.specs.Format.{processorsOf, countOf, offsetOf, lengthOf, startOf, levelAt, nodesAt, figuresAt, masksAt, taskAt, zeroTask, tasksBelow, taskSetOf, zeroTaskSet, taskIn}
+use Rattle.sheet.specs.Level.{levelLawful, isLow, bytesBeforeMasks, figureLimit, isHigh}
+use Rattle.sheet.specs.Rules.{shapeLawful, inRange, inOrder, lowLawful, figuresLawful, maskLawful, masksLawful, isHeavy, taskAnswer}
 use Rattle.reader.proofs.Worked.{sheetABE}
 use Rattle.reader.specs.Reading.{headerLawful, headerAnswer, placeAnswer, endAnswer, shapeAnswer, recordAnswer, answerOf, readOf}
 use Rattle.shares.specs.Test.{excess, demand, passes, virtualDeadline}
-use Rattle.shares.specs.Low.{isLow, ceilDiv, lowShare, hasLowShare}
+use Rattle.shares.specs.Low.{ceilDiv, lowShare, hasLowShare}
 use Rattle.shares.specs.Deadline.{virtualOf}
-use Rattle.nodes.specs.Sets.{range}
 use Rattle.allocation.specs.Choice.{lowOptions, pairsWithin, highOptions, optionsOf, fits, leastOf, fitting, chosen}
 use Rattle.allocation.specs.Blocks.{offsetIn, lengthIn}
 use Rattle.allocation.specs.Allocation.{chosenFor, shareAnswer, choiceAnswer}
@@ -32,5 +34,5 @@ pub record Sheets : Type 0 where
   pub too-long : textOf (sheetABE 8 ++ 0 ∷ []) ≡ 114 ∷ 101 ∷ 102 ∷ 117 ∷ 115 ∷ 101 ∷ 100 ∷ 32 ∷ 50 ∷ 32 ∷ 50 ∷ 10 ∷ []
 
 sheets : Sheets
-unfolding firstOver byteAt u16At u32At processorsOf countOf offsetOf lengthOf startOf cellsFrom levelAt nodesAt figuresAt masksAt taskAt zeroTask tasksBelow taskSetOf zeroTaskSet taskIn levelLawful shapeLawful inRange inOrder lowLawful figuresLawful maskLawful allBelow masksLawful isHeavy taskAnswer headerLawful headerAnswer placeAnswer endAnswer shapeAnswer recordAnswer answerOf readOf excess demand passes virtualDeadline isLow ceilDiv lowShare hasLowShare virtualOf range lowOptions pairsWithin highOptions optionsOf fits leastOf fitting chosen offsetIn lengthIn chosenFor shareAnswer choiceAnswer digitsWithin decimal fieldsOf planLines refusalLine printedAnswer textOf
+unfolding firstOver byteAt u16At u32At processorsOf countOf offsetOf lengthOf startOf cellsFrom levelAt nodesAt figuresAt masksAt taskAt zeroTask tasksBelow taskSetOf zeroTaskSet taskIn levelLawful shapeLawful inRange inOrder lowLawful figuresLawful maskLawful allBelow masksLawful isHeavy taskAnswer headerLawful headerAnswer placeAnswer endAnswer shapeAnswer recordAnswer answerOf readOf excess demand passes virtualDeadline isLow ceilDiv lowShare hasLowShare virtualOf range lowOptions pairsWithin highOptions optionsOf fits leastOf fitting chosen offsetIn lengthIn chosenFor shareAnswer choiceAnswer digitsWithin decimal fieldsOf planLines refusalLine printedAnswer textOf isHigh figureLimit bytesBeforeMasks
 sheets = record { no-bytes = refl; printed = refl; no-fit = refl; no-share = refl; too-long = refl }

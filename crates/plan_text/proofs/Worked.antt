@@ -5,12 +5,13 @@ use mathlib.Core.List.{List, [], _∷_}
 use Rattle.sheet.specs.declared.task.Task.{Task}
 use Rattle.sheet.specs.declared.task.TaskSet.{TaskSet}
 use Rattle.sheet.specs.declared.answer.Answer.the-variants.{Refused}
-use Rattle.sheet.specs.Format.{byteAt, u16At, taskIn}
+use Rattle.basics.specs.Numbers.{byteAt, u16At}
+use Rattle.sheet.specs.Format.{taskIn}
 use Rattle.shares.specs.declared.share.Share.{Share}
 use Rattle.shares.specs.Test.{virtualDeadline}
-use Rattle.shares.specs.Low.{isLow}
+use Rattle.sheet.specs.Level.{isLow, isHigh}
 use Rattle.shares.specs.Deadline.{virtualOf}
-use Rattle.nodes.specs.Sets.{range}
+use Rattle.basics.specs.Lists.{range}
 use Rattle.allocation.specs.Blocks.{offsetIn, lengthIn}
 use Rattle.plan_text.specs.Decimal.{digitsWithin, decimal, valueOf}
 use Rattle.plan_text.specs.Lines.{line}
@@ -68,7 +69,7 @@ pub record Worked : Type 0 where
       ≡ 114 ∷ 101 ∷ 102 ∷ 117 ∷ 115 ∷ 101 ∷ 100 ∷ 32 ∷ 56 ∷ 32 ∷ 50 ∷ 53 ∷ 53 ∷ 10 ∷ []
 
 worked : Worked
-unfolding byteAt u16At taskIn virtualDeadline isLow virtualOf range offsetIn lengthIn digitsWithin decimal fieldsOf planLines refusalLine fieldsAt
+unfolding byteAt u16At taskIn virtualDeadline isLow virtualOf range offsetIn lengthIn digitsWithin decimal fieldsOf planLines refusalLine fieldsAt isHigh
 worked =
     record {
       zero = refl;

@@ -5,7 +5,7 @@ use mathlib.Core.List.{List, [], _∷_, _++_}
 use mathlib.Core.Path.{_≡_}
 use lib.Dec.{leb, ltb}
 use lib.ListN.{getD}
-use Rattle.nodes.specs.Sets.{every}
+use Rattle.basics.specs.Lists.{all}
 
 -- The byte of a digit: `0` is 48.
 abbrev pub digit : ℕ → ℕ
@@ -34,8 +34,8 @@ abbrev pub valueOf : List ℕ → ℕ
 valueOf bytes = valueAfter 0 bytes
 
 -- S6.3, read the other way: bytes that are n in decimal. They say n, each is a digit, and the first is not `0` where n is not 0.
--- `Digits.decimal-reads` has this of `decimal n`, for every n.
+-- `Digits.decimal-reads` has this of `decimal n`, for all n.
 pub record IsDecimal (n : ℕ) (bytes : List ℕ) : Type 0 where
   pub says : valueOf bytes ≡ n
-  pub digits : every isDigit bytes ≡ true
+  pub digits : all isDigit bytes ≡ true
   pub front : 1 ≤ n → digit 1 ≤ getD bytes 0 0

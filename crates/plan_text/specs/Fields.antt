@@ -1,9 +1,8 @@
 -- S5.5, read the other way: what the bytes of a plan say of its tasks.
 use Prim.Native.Nat.{ℕ, _+_, _*_}
 use mathlib.Core.List.{List, [], _∷_}
-use Rattle.sheet.specs.Format.{byteAt, u16At}
-use Rattle.nodes.specs.Sets.{range}
-use Rattle.allocation.specs.Enumeration.{each}
+use Rattle.basics.specs.Numbers.{byteAt, u16At}
+use Rattle.basics.specs.Lists.{range, each}
 use Rattle.plan_text.specs.Lines.{line}
 
 -- S5.5, S6.1: the six numbers of task i in a plan of n tasks. The typical pairs stand first, the critical ones from byte 2n on,

@@ -2,7 +2,7 @@
 ghost use mathlib.Core.Path.{_≡_};
 ghost use Prim.Native.Nat.{_*_, _≤_, _<_};
 ghost use lib.ListN.{length};
-ghost use Rattle.sheet.specs.Format.{byteAt};
+ghost use Rattle.basics.specs.Numbers.{byteAt};
 ghost use Rattle.plan_text.specs.Fields.{fieldsAt, linesAt};
 ghost use Rattle.plan_text.specs.Growth.{Holds};
 use crate::line::with_line;

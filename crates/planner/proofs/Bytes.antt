@@ -7,8 +7,7 @@ use native.Mathlib.Numerals.{add-one}
 use native.Mathlib.Omega.{arith}
 use lib.ListN.{length, take, drop, set, length-append, length-drop, take-append-drop}
 use lib.Seq.{sets-eq, take-at, drop-append-add, drop-drop, length-take-le}
-use Rattle.nodes.specs.Sets.{range}
-use Rattle.allocation.specs.Enumeration.{each}
+use Rattle.basics.specs.Lists.{range, each}
 use Rattle.planner.specs.Writing.{laid}
 
 pub laid-none : (at : ℕ) (old : List ℕ) → laid at [] old ≡ old

@@ -8,7 +8,7 @@ use Rattle.sheet.specs.declared.task.TaskSet.{TaskSet}
 use Rattle.sheet.specs.Format.{taskIn}
 use Rattle.shares.specs.declared.share.Share.{Share}
 use Rattle.shares.specs.Deadline.{virtualOf}
-use Rattle.nodes.specs.Sets.{range}
+use Rattle.basics.specs.Lists.{range}
 use Rattle.allocation.specs.Blocks.{offsetIn, lengthIn}
 use Rattle.planner.specs.Plan.{blockBytes, virtualBytes, wordBytes}
 use Rattle.planner.specs.Writing.{laid}

@@ -14,11 +14,10 @@ use Rattle.sheet.specs.declared.task.TaskSet.{TaskSet}
 use Rattle.sheet.specs.Answers.{noTask}
 use Rattle.sheet.specs.Format.{taskIn}
 use Rattle.reader.specs.Reading.{readOf}
-use Rattle.sheet.proofs.Cells.{cells-length}
+use Rattle.basics.proofs.Cells.{cells-length}
 use Rattle.shares.specs.declared.share.Share.{Share}
 use Rattle.shares.specs.Deadline.{virtualOf}
-use Rattle.nodes.specs.Sets.{range}
-use Rattle.allocation.specs.Enumeration.{each}
+use Rattle.basics.specs.Lists.{range, each}
 use Rattle.shares.specs.Totals.{noProcessors, shareTotal}
 use Rattle.allocation.specs.Blocks.{offsetIn, lengthIn}
 use Rattle.allocation.specs.Allocation.{chosenFor, choiceAnswer, sharesOf, sixteen}

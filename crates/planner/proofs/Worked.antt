@@ -6,14 +6,16 @@ use mathlib.Core.List.{List, [], _∷_, _++_}
 use lib.ListN.{replicate}
 use Rattle.sheet.specs.declared.answer.Answer.the-variants.{Accepted, Refused}
 use Rattle.sheet.specs.Answers.{firstOver}
-use Rattle.sheet.specs.Format.{byteAt, u16At, u32At, processorsOf, countOf, offsetOf, lengthOf, startOf, cellsFrom, levelAt, nodesAt, figuresAt, masksAt, taskAt, zeroTask, tasksBelow, taskSetOf, taskIn}
-use Rattle.sheet.specs.Rules.{levelLawful, shapeLawful, inRange, inOrder, lowLawful, figuresLawful, maskLawful, allBelow, masksLawful, isHeavy, taskAnswer}
+use Rattle.basics.specs.Numbers.{byteAt, u16At, u32At}
+use Rattle.basics.specs.Lists.{cellsFrom, allBelow, range}
+use Rattle.sheet.specs.Format.{processorsOf, countOf, offsetOf, lengthOf, startOf, levelAt, nodesAt, figuresAt, masksAt, taskAt, zeroTask, tasksBelow, taskSetOf, taskIn}
+use Rattle.sheet.specs.Level.{levelLawful, isLow, bytesBeforeMasks, figureLimit, isHigh}
+use Rattle.sheet.specs.Rules.{shapeLawful, inRange, inOrder, lowLawful, figuresLawful, maskLawful, masksLawful, isHeavy, taskAnswer}
 use Rattle.reader.proofs.Worked.{sheetABE}
 use Rattle.reader.specs.Reading.{headerLawful, headerAnswer, placeAnswer, endAnswer, shapeAnswer, recordAnswer, answerOf, readOf}
 use Rattle.shares.specs.Deadline.{virtualOf}
-use Rattle.shares.specs.Low.{isLow, ceilDiv, lowShare, hasLowShare}
+use Rattle.shares.specs.Low.{ceilDiv, lowShare, hasLowShare}
 use Rattle.shares.specs.Test.{excess, demand, passes, virtualDeadline}
-use Rattle.nodes.specs.Sets.{range}
 use Rattle.allocation.specs.Choice.{lowOptions, pairsWithin, highOptions, optionsOf, fits, leastOf, fitting, chosen}
 use Rattle.allocation.specs.Blocks.{offsetIn, lengthIn}
 use Rattle.allocation.specs.Allocation.{chosenFor, shareAnswer, choiceAnswer, sharesOf}
@@ -69,7 +71,7 @@ pub record Worked : Type 0 where
   pub sheet-room : planAnswer (sheetABE 8) 17 ≡ Refused 9 255
 
 pub worked : Worked
-unfolding byteAt u16At u32At processorsOf countOf offsetOf lengthOf startOf cellsFrom levelAt nodesAt figuresAt masksAt taskAt zeroTask tasksBelow taskSetOf taskIn levelLawful shapeLawful inRange inOrder lowLawful figuresLawful maskLawful allBelow masksLawful isHeavy taskAnswer firstOver headerLawful headerAnswer placeAnswer endAnswer shapeAnswer recordAnswer answerOf readOf virtualOf isLow ceilDiv lowShare hasLowShare excess demand passes virtualDeadline range lowOptions pairsWithin highOptions optionsOf fits leastOf fitting chosen offsetIn lengthIn chosenFor shareAnswer choiceAnswer blockBytes virtualBytes planBytes planAnswer planned
+unfolding byteAt u16At u32At processorsOf countOf offsetOf lengthOf startOf cellsFrom levelAt nodesAt figuresAt masksAt taskAt zeroTask tasksBelow taskSetOf taskIn levelLawful shapeLawful inRange inOrder lowLawful figuresLawful maskLawful allBelow masksLawful isHeavy taskAnswer firstOver headerLawful headerAnswer placeAnswer endAnswer shapeAnswer recordAnswer answerOf readOf virtualOf isLow ceilDiv lowShare hasLowShare excess demand passes virtualDeadline range lowOptions pairsWithin highOptions optionsOf fits leastOf fitting chosen offsetIn lengthIn chosenFor shareAnswer choiceAnswer blockBytes virtualBytes planBytes planAnswer planned isHigh figureLimit bytesBeforeMasks
 worked =
     record {
       typical-blocks = refl;

@@ -12,8 +12,7 @@ use Rattle.sheet.specs.Format.{taskIn}
 use Rattle.reader.specs.Reading.{readOf}
 use Rattle.shares.specs.declared.share.Share.{Share}
 use Rattle.shares.specs.Deadline.{virtualOf}
-use Rattle.nodes.specs.Sets.{range}
-use Rattle.allocation.specs.Enumeration.{each}
+use Rattle.basics.specs.Lists.{range, each}
 use Rattle.allocation.specs.Blocks.{offsetIn, lengthIn}
 use Rattle.allocation.specs.Allocation.{chosenFor, choiceAnswer, sharesOf}
 

@@ -6,7 +6,8 @@ use native.Mathlib.Omega.{arith}
 use native.Mathlib.Numerals.{add-one}
 use lib.ListN.{length}
 use Rattle.sheet.specs.declared.answer.Answer.the-variants.{Accepted, Refused}
-use Rattle.sheet.specs.Format.{u16At, countOf, offsetOf, lengthOf, startOf}
+use Rattle.basics.specs.Numbers.{u16At}
+use Rattle.sheet.specs.Format.{countOf, offsetOf, lengthOf, startOf}
 use Rattle.reader.specs.Reading.{placeAnswer, endAnswer}
 use Rattle.sheet.proofs.Faults.{kept-equal, broken-equal}
 

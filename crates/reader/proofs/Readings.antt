@@ -12,9 +12,9 @@ use Rattle.sheet.specs.declared.task.Task.{Task}
 use Rattle.sheet.specs.declared.task.TaskSet.{TaskSet}
 use Rattle.sheet.specs.Answers.{_orElse_, firstOver}
 use Rattle.sheet.specs.Format.{processorsOf, countOf, tasksBelow, taskSetOf, zeroTaskSet}
-use Rattle.sheet.specs.Rules.{within}
+use Rattle.basics.specs.Numbers.{within}
 use Rattle.reader.specs.Reading.{headerLawful, headerAnswer, placeAnswer, endAnswer, recordAnswer, answerOf, readingOf}
-use Rattle.sheet.proofs.Logic.{left-true, right-true}
+use Rattle.basics.proofs.Logic.{left-true, right-true}
 use Rattle.sheet.proofs.Faults.{kept, broken, after-accepted, after-refused}
 
 -- The task set of a sheet, by its fields.

@@ -7,10 +7,12 @@ use native.Mathlib.Omega.{arith}
 use lib.Dec.{leb, eqb}
 use borrow.Author.Tests.{leb-true}
 use Rattle.sheet.specs.declared.answer.Answer.the-variants.{Refused}
-use Rattle.sheet.specs.Format.{u16At, offsetOf, lengthOf, levelAt, nodesAt, taskAt}
-use Rattle.sheet.specs.Rules.{shapeLawful, levelLawful, within, taskAnswer}
+use Rattle.basics.specs.Numbers.{u16At, within}
+use Rattle.sheet.specs.Format.{offsetOf, lengthOf, levelAt, nodesAt, taskAt}
+use Rattle.sheet.specs.Level.{levelLawful, bytesBeforeMasks}
+use Rattle.sheet.specs.Rules.{shapeLawful, taskAnswer}
 use Rattle.reader.specs.Reading.{shapeAnswer, recordAnswer}
-use Rattle.sheet.proofs.Logic.{left-true, right-true}
+use Rattle.basics.proofs.Logic.{left-true, right-true}
 use Rattle.sheet.proofs.Faults.{kept, broken, after-accepted, after-refused}
 
 -- A lawful shape has at most 32 nodes.
@@ -20,7 +22,7 @@ nodes-few level nodes bytes e =
     leb-true nodes 32
     (right-true (leb 1 nodes) (leb nodes 32)
     (right-true (levelLawful level) (within 1 32 nodes)
-    (left-true (levelLawful level && within 1 32 nodes) (eqb bytes (12 + 4 * nodes)) e)))
+    (left-true (levelLawful level && within 1 32 nodes) (eqb bytes (bytesBeforeMasks level + 4 * nodes)) e)))
 
 module _ (s : List ℕ) (i at bytes : ℕ) (offset : at ≡ u16At s (2 + 4 * i)) (size : bytes ≡ u16At s (2 + 4 * i + 2)) where
   same-offset : offsetOf s i ≡ at

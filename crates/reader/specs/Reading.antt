@@ -9,7 +9,8 @@ use Rattle.sheet.specs.declared.answer.Answer.the-variants.{Accepted, Refused}
 use Rattle.reader.specs.declared.Reading.{Reading}
 use Rattle.sheet.specs.Answers.{noTask, badHeader, badDirectory, badRecord, refusedIf, _orElse_, firstOver}
 use Rattle.sheet.specs.Format.{processorsOf, countOf, offsetOf, lengthOf, startOf, levelAt, nodesAt, taskAt, taskSetOf, zeroTaskSet}
-use Rattle.sheet.specs.Rules.{within, shapeLawful, taskAnswer}
+use Rattle.basics.specs.Numbers.{within}
+use Rattle.sheet.specs.Rules.{shapeLawful, taskAnswer}
 
 -- S2.1, S2.2, S9.1: M and n are there and in their ranges, and so is the directory.
 unfoldable pub headerLawful : List ℕ → Bool

@@ -4,10 +4,10 @@ ghost use Prim.Native.Nat.{_≤_};
 ghost use Rattle.sheet.specs.Answers.{_orElse_, firstOver};
 ghost use Rattle.sheet.specs.Format.{countOf};
 ghost use Rattle.reader.specs.Reading.{headerLawful, placeAnswer, endAnswer};
+use basics::numbers::byte_at;
+use basics::numbers::is_within;
+use basics::numbers::u16_at;
 use sheet::answer::Answer;
-use sheet::numbers::byte_at;
-use sheet::numbers::u16_at;
-use sheet::rules::is_within;
 
 // Refusal 2.
 const BAD_DIRECTORY: u8 = 2;

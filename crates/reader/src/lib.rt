@@ -7,9 +7,9 @@ ghost use Rattle.reader.specs.Reading.{recordAnswer, readingOf, readOf};
 use crate::directory::header_lawful;
 use crate::directory::places_answer;
 use crate::record::read_record;
+use basics::numbers::byte_at;
 use sheet::answer::Answer;
 use sheet::answer::NO_TASK;
-use sheet::numbers::byte_at;
 use sheet::task::TaskSet;
 use sheet::task::zero_task;
 

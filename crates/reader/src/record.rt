@@ -5,10 +5,11 @@ ghost use Rattle.sheet.specs.Format.{offsetOf, levelAt, nodesAt, figuresAt, mas
 ghost use Rattle.sheet.specs.Rules.{shapeLawful};
 ghost use Rattle.reader.specs.Reading.{recordAnswer};
 ghost use Rattle.sheet.specs.declared.answer.Answer.the-variants.{Accepted};
+use basics::numbers::byte_at;
+use basics::numbers::u16_at;
+use basics::numbers::u32_at;
 use sheet::answer::Answer;
-use sheet::numbers::byte_at;
-use sheet::numbers::u16_at;
-use sheet::numbers::u32_at;
+use sheet::level::bytes_before_masks;
 use sheet::rules::shape_lawful;
 use sheet::rules::task_answer;
 use sheet::task::Budget;
@@ -54,16 +55,16 @@ fn figures_at(s: &[u8], at: usize) -> Figures
     }
 }
 
-// S2.6: the masks of the nodes, and zeros behind them.
+// S2.6: the masks of the nodes, from a place on, and zeros behind them.
 fn masks_at(s: &[u8], at: usize, nodes: u8) -> [u32; 32]
-    requires { ⌜ (at < 65536) × (nodes ≤ 32) ⌝ }
+    requires { ⌜ (at < 131072) × (nodes ≤ 32) ⌝ }
     ensures { λ r. ⌜ r ≡ masksAt (now (s .entry)) at nodes ⌝ }
 {
     let mut masks = [0u32; 32];
     let k = nodes as usize;
     let mut v: usize = 0;
     while v < k {
-        masks[v] = u32_at(s, at + 12 + 4 * v);
+        masks[v] = u32_at(s, at + 4 * v);
         v += 1;
     }
     masks
@@ -74,12 +75,14 @@ fn task_at(s: &[u8], at: usize) -> Task
     requires { ⌜ (at < 65536) × (nodesAt (now s) at ≤ 32) ⌝ }
     ensures { λ r. ⌜ r ≡ taskAt (now (s .entry)) at ⌝ }
 {
+    let level = byte_at(s, at);
     let nodes = byte_at(s, at + 1);
+    let masks = at + bytes_before_masks(level) as usize;
     Task {
-        level: byte_at(s, at),
+        level,
         nodes,
         figures: figures_at(s, at),
-        predecessors: masks_at(s, at, nodes),
+        predecessors: masks_at(s, masks, nodes),
     }
 }
 

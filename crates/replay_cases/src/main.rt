@@ -3,10 +3,10 @@
 // Lengths 4, 3, 3: tick 9 switches, and the job has ended with tick 10.
 ghost use Prim.Native.Nat.{_≤_, _<_};
 ghost use lib.ListN.{length};
+use basics::numbers::byte_at;
+use basics::numbers::u32_at;
 use guarantee::replay::Replayed;
 use guarantee::replay::replay;
-use sheet::numbers::byte_at;
-use sheet::numbers::u32_at;
 
 const STDOUT: i32 = 1;
 

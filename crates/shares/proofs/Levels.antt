@@ -10,7 +10,8 @@ use borrow.Author.Tests.{ltb-true, leb-true, eqb-true, eqb-false, eq-eqb, ne-eqb
 use Rattle.sheet.specs.declared.task.Figures.{Figures}
 use Rattle.sheet.specs.declared.task.Task.{Task}
 use Rattle.shares.specs.declared.search.Found.the-variants.{At, Nothing}
-use Rattle.shares.specs.Low.{isLow, lowShare, hasLowShare, lowAnswer}
+use Rattle.sheet.specs.Level.{isLow}
+use Rattle.shares.specs.Low.{lowShare, hasLowShare, lowAnswer}
 use Rattle.shares.specs.Search.{leastCritical}
 use Rattle.shares.specs.Row.{lowCritical, criticalAt, tabulate, rowOf}
 use Rattle.shares.proofs.Least.{least-from}
@@ -106,18 +107,18 @@ module _ (M : ℕ) (f : Figures) where
           ∙ sym (low-critical-other (1 + i) (λ q. apart (q ∙ own)))
 
 module _ (M : ℕ) (t : Task) where
-  pub critical-low : isLow t ≡ true → (a : ℕ) → criticalAt M t a ≡ lowCritical M (t .figures) a
+  pub critical-low : isLow (t .level) ≡ true → (a : ℕ) → criticalAt M t a ≡ lowCritical M (t .figures) a
   unfolding criticalAt
   critical-low low a = rw low
 
-  pub critical-high : isLow t ≡ false → (a : ℕ) → criticalAt M t a ≡ leastCritical M (t .figures) a
+  pub critical-high : isLow (t .level) ≡ false → (a : ℕ) → criticalAt M t a ≡ leastCritical M (t .figures) a
   unfolding criticalAt
   critical-high high a = rw high
 
   -- Only typical shares within M have a critical share.
   pub critical-within : (a : ℕ) → criticalAt M t a ≤ M → a ≤ M
   unfolding criticalAt
-  critical-within a = go (isLow t)
+  critical-within a = go (isLow (t .level))
     where
       go : (l : Bool) → cond l (lowCritical M (t .figures) a) (leastCritical M (t .figures) a) ≤ M → a ≤ M
       go true within =
@@ -125,10 +126,10 @@ module _ (M : ℕ) (t : Task) where
           omega (arith, own .1, has-within M (t .figures) (own .0))
       go false within = omega (arith, least-from M (t .figures) a within)
 
-  pub row-low : isLow t ≡ true → rowOf M t ≡ tabulate (lowCritical M (t .figures)) 1 64
+  pub row-low : isLow (t .level) ≡ true → rowOf M t ≡ tabulate (lowCritical M (t .figures)) 1 64
   unfolding rowOf
   row-low low = ap (λ (g : ℕ → ℕ). tabulate g 1 64) (fun-ext (critical-low low))
 
-  pub row-high : isLow t ≡ false → rowOf M t ≡ tabulate (leastCritical M (t .figures)) 1 64
+  pub row-high : isLow (t .level) ≡ false → rowOf M t ≡ tabulate (leastCritical M (t .figures)) 1 64
   unfolding rowOf
   row-high high = ap (λ (g : ℕ → ℕ). tabulate g 1 64) (fun-ext (critical-high high))

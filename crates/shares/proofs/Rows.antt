@@ -11,7 +11,7 @@ use lib.ListN.{length, getD}
 use lib.Seq.{ext-getD}
 use borrow.Author.Tests.{lt-ltb, le-ltb}
 use Rattle.sheet.specs.declared.task.Task.{Task}
-use Rattle.sheet.specs.Format.{cellsFrom}
+use Rattle.basics.specs.Lists.{cellsFrom}
 use Rattle.shares.specs.Row.{tabulate, criticalAt, rowOf}
 
 module _ (g : ℕ → ℕ) where

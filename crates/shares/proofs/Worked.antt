@@ -6,7 +6,8 @@ use mathlib.Core.List.{[], _∷_}
 use Rattle.sheet.specs.declared.task.Task.{Task}
 use Rattle.sheet.specs.declared.task.Figures.{Figures}
 use Rattle.shares.specs.Test.{excess, demand, passes, virtualDeadline}
-use Rattle.shares.specs.Low.{isLow, ceilDiv, lowShare, hasLowShare}
+use Rattle.sheet.specs.Level.{isLow, isHigh}
+use Rattle.shares.specs.Low.{ceilDiv, lowShare, hasLowShare}
 use Rattle.shares.specs.Search.{first, leastCritical}
 use Rattle.shares.specs.Row.{lowCritical, criticalAt, tabulate}
 use Rattle.shares.specs.Deadline.{virtualOf}
@@ -37,7 +38,7 @@ pub record Worked : Type 0 where
   pub low-virtual : virtualOf (ofLevel 0 (lowTask 30)) 2 ≡ 0
 
 pub worked : Worked
-unfolding excess demand passes virtualDeadline isLow ceilDiv lowShare hasLowShare first leastCritical lowCritical criticalAt tabulate virtualOf
+unfolding excess demand passes virtualDeadline isLow ceilDiv lowShare hasLowShare first leastCritical lowCritical criticalAt tabulate virtualOf isHigh
 worked =
     record {
       itself = refl;

@@ -3,8 +3,8 @@ use Prim.Native.Nat.{ℕ}
 use mathlib.Core.Bool.{cond}
 use Rattle.sheet.specs.declared.task.Task.{Task}
 use Rattle.shares.specs.Test.{virtualDeadline}
-use Rattle.shares.specs.Low.{isLow}
+use Rattle.sheet.specs.Level.{isLow}
 
 -- S4.5: V of a task with typical share a; a low task has 0.
 unfoldable pub virtualOf : Task → ℕ → ℕ
-virtualOf t a = cond (isLow t) 0 (virtualDeadline (t .figures) a)
+virtualOf t a = cond (isLow (t .level)) 0 (virtualDeadline (t .figures) a)

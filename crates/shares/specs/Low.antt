@@ -1,15 +1,10 @@
--- S4.1: low tasks, and the one share that such a task may have.
+-- S4.1: the one share that a low task may have.
 use Prim.Native.Nat.{ℕ, _+_, _-_, _/_}
 use mathlib.Core.Bool.{Bool, cond, _&&_}
-use lib.Dec.{leb, ltb, eqb}
+use lib.Dec.{leb, ltb}
 use Rattle.sheet.specs.declared.task.Figures.{Figures}
-use Rattle.sheet.specs.declared.task.Task.{Task}
 use Rattle.shares.specs.declared.search.Found.{Found}
 use Rattle.shares.specs.declared.search.Found.the-variants.{At, Nothing}
-
--- S2.6: a task of level 0 is low.
-unfoldable pub isLow : Task → Bool
-isLow t = eqb (t .level) 0
 
 -- n / d rounded up.
 unfoldable pub ceilDiv : ℕ → ℕ → ℕ

@@ -5,7 +5,8 @@ use mathlib.Core.List.{List, [], _∷_}
 use lib.Dec.{eqb}
 use Rattle.sheet.specs.declared.task.Figures.{Figures}
 use Rattle.sheet.specs.declared.task.Task.{Task}
-use Rattle.shares.specs.Low.{isLow, lowShare, hasLowShare}
+use Rattle.sheet.specs.Level.{isLow}
+use Rattle.shares.specs.Low.{lowShare, hasLowShare}
 use Rattle.shares.specs.Search.{leastCritical}
 
 -- S4.4: in a low task's row 0 stands at its share, and M + 1 everywhere else.
@@ -14,7 +15,7 @@ lowCritical M f a = cond (hasLowShare M f && eqb a (lowShare f)) 0 (M + 1)
 
 -- S4.4: what a task's row says at typical share a; M + 1 stands for none.
 unfoldable pub criticalAt : ℕ → Task → ℕ → ℕ
-criticalAt M t a = cond (isLow t) (lowCritical M (t .figures) a) (leastCritical M (t .figures) a)
+criticalAt M t a = cond (isLow (t .level)) (lowCritical M (t .figures) a) (leastCritical M (t .figures) a)
 
 -- The values of g at the n numbers from k on.
 unfoldable pub tabulate : (ℕ → ℕ) → ℕ → ℕ → List ℕ

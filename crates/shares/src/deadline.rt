@@ -1,5 +1,6 @@
 // S4.5: the virtual deadline of a task.
 use crate::number::less;
+use sheet::level::is_low;
 use sheet::task::Figures;
 use sheet::task::Task;
 ghost use mathlib.Core.Path.{_≡_};
@@ -21,7 +22,7 @@ pub fn virtual_of(t: Task, a: u8) -> u32
     ensures { λ r. ⌜ r ≡ virtualOf t a ⌝ }
 {
     let f = t.figures;
-    if t.level == 0 {
+    if is_low(t.level) {
         0
     } else {
         virtual_deadline(f, a)

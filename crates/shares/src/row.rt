@@ -3,6 +3,7 @@ use crate::low::low_share;
 use crate::search::Found;
 use crate::search::least_critical;
 use crate::search::number_of;
+use sheet::level::is_low;
 use sheet::task::Figures;
 use sheet::task::Task;
 ghost use mathlib.Core.Path.{_≡_};
@@ -44,7 +45,7 @@ pub fn row(t: Task, m: u8) -> [u8; 64]
     ensures { λ r. ⌜ r ≡ rowOf m t ⌝ }
 {
     let f = t.figures;
-    if t.level == 0 {
+    if is_low(t.level) {
         low_row(f, m)
     } else {
         high_row(f, m)

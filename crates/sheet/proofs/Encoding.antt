@@ -1,56 +1,23 @@
--- A record that is written is read back: bytes in front move each place by their number, each number of two or four bytes is
--- the sum of its bytes, and the masks follow one by one.
+-- A record that is written is read back: its figures by their places, and the masks one by one.
 use Prim.Native.Nat.{ℕ, zero, suc, _≤_, _<_, _+_, _*_, _-_, _/_, _%_, _^_}
 use mathlib.Core.Bool.{true}
 use mathlib.Core.List.{List, [], _∷_, _++_}
 use mathlib.Core.Path.{_≡_, refl, sym, ap, _∙_}
 use native.Mathlib.Omega.{arith}
-use native.Mathlib.Nat.{mod-lt, mod-add-div, mod-eq-of-lt, div-div-eq-div-mul}
+use native.Mathlib.Nat.{mod-lt}
 use lib.Dec.{ltb}
 use lib.ListN.{length, getD, drop, replicate}
-use lib.Seq.{getD-append-add}
 use borrow.Author.Tests.{ltb-true, lt-ltb}
-use Rattle.nodes.specs.Sets.{every}
+use Rattle.basics.specs.Lists.{all, cellsFrom}
 use Rattle.sheet.specs.declared.task.Task.{Task}
-use Rattle.sheet.specs.Format.{byteAt, u16At, u32At, cellsFrom, levelAt, nodesAt, figuresAt, masksAt, taskAt}
-use Rattle.sheet.specs.Encoding.{u16Bytes, u32Bytes, masksBytes, recordBytes}
+use Rattle.basics.specs.Numbers.{byteAt, u16At, u32At, u16Bytes, u32Bytes}
+use Rattle.sheet.specs.Level.{bytesBeforeMasks}
+use Rattle.sheet.specs.Format.{levelAt, nodesAt, figuresAt, masksAt, taskAt}
+use Rattle.sheet.specs.Encoding.{masksBytes, recordBytes}
 use Rattle.sheet.specs.Laws.{Encodable, RoundTrip, RecordLength, RecordOfBytes}
-use Rattle.sheet.proofs.Cells.{cells-none}
-use Rattle.sheet.proofs.Logic.{left-true, right-true}
-
--- Bytes in front move each place.
-module _ (front s : List ℕ) where
-  byte-behind : (n place : ℕ) → place ≡ length front + n → byteAt (front ++ s) place ≡ byteAt s n
-  unfolding byteAt
-  byte-behind n place e = rw e (getD-append-add front s n 0)
-
-  u16-behind : (n place : ℕ) → place ≡ length front + n → u16At (front ++ s) place ≡ u16At s n
-  unfolding u16At
-  u16-behind n place e = rw (byte-behind n place e, byte-behind (n + 1) (place + 1) (omega arith))
-
-  u32-behind : (n place : ℕ) → place ≡ length front + n → u32At (front ++ s) place ≡ u32At s n
-  unfolding u32At
-  u32-behind n place e = rw (u16-behind n place e, u16-behind (n + 2) (place + 2) (omega arith))
-
--- A number is the sum of its bytes.
-u16-whole : (x : ℕ) → x < 65536 → x % 256 + 256 * (x / 256 % 256) ≡ x
-u16-whole x h = omega arith
-
-u32-sum : (x a b c r₀ r₁ r₂ : ℕ) → r₀ + 256 * a ≡ x → r₁ + 256 * b ≡ a → r₂ + 256 * c ≡ b → r₀ + 256 * r₁ + 65536 * (r₂ + 256 * c) ≡ x
-u32-sum x a b c r₀ r₁ r₂ e₀ e₁ e₂ = omega arith
-
-fourth-small : (x a b c r₀ r₁ r₂ : ℕ) → x < 4294967296 → r₀ + 256 * a ≡ x → r₁ + 256 * b ≡ a → r₂ + 256 * c ≡ b → c < 256
-fourth-small x a b c r₀ r₁ r₂ h e₀ e₁ e₂ = omega arith
-
-u32-whole : (x : ℕ) → x < 4294967296 → x % 256 + 256 * (x / 256 % 256) + 65536 * (x / 65536 % 256 + 256 * (x / 16777216 % 256)) ≡ x
-u32-whole x h =
-    let third : x / 65536 ≡ x / 256 / 256 = sym (div-div-eq-div-mul x 256 256) in
-    let fourth : x / 16777216 ≡ x / 256 / 256 / 256 = sym (div-div-eq-div-mul x 65536 256) ∙ ap (λ (n : ℕ). n / 256) third in
-    let low = mod-add-div x 256 in
-    let second = mod-add-div (x / 256) 256 in
-    let high = mod-add-div (x / 256 / 256) 256 in
-    rw (third, fourth, mod-eq-of-lt (fourth-small x _ _ _ _ _ _ h low second high))
-    (u32-sum x _ _ _ _ _ _ low second high)
+use Rattle.basics.proofs.Bytes.{byte-behind, u16-behind, u32-behind, u16-whole, u32-whole}
+use Rattle.basics.proofs.Cells.{cells-none}
+use Rattle.basics.proofs.Logic.{left-true, right-true}
 
 -- The first mask, and those behind it.
 module _ (mask : ℕ) (s : List ℕ) where
@@ -65,7 +32,7 @@ module _ (mask : ℕ) (s : List ℕ) where
 
 -- Cells that are read from the bytes of masks hold the masks: the first k by their bytes, the others are 0 on both sides.
 masks-read : (masks : List ℕ) (k first count : ℕ) (f : ℕ → ℕ) (back : List ℕ) → count ≡ first + k → k ≤ length masks
-    → every (λ mask. ltb mask (2 ^ 32)) masks ≡ true
+    → all (λ mask. ltb mask (2 ^ 32)) masks ≡ true
     → drop k masks ≡ replicate (length masks - k) 0
     → ((d v : ℕ) → v ≡ first + d → f v ≡ u32At (masksBytes k masks ++ back) (4 * d))
     → cellsFrom first (length masks) f 0 count ≡ masks
@@ -75,8 +42,8 @@ masks-read masks zero first count f back c few fit none reads =
     cells-none f 0 first (length masks) count (omega arith) ∙ sym (none ∙ ap (λ (n : ℕ). replicate n 0) all)
 masks-read [] (suc k) first count f back c few fit none reads = absurd (omega arith)
 masks-read (mask ∷ masks) (suc k) first count f back c few fit none reads =
-    let small = ltb-true mask (2 ^ 32) (left-true (ltb mask (2 ^ 32)) (every (λ m. ltb m (2 ^ 32)) masks) fit) in
-    let others = right-true (ltb mask (2 ^ 32)) (every (λ m. ltb m (2 ^ 32)) masks) fit in
+    let small = ltb-true mask (2 ^ 32) (left-true (ltb mask (2 ^ 32)) (all (λ m. ltb m (2 ^ 32)) masks) fit) in
+    let others = right-true (ltb mask (2 ^ 32)) (all (λ m. ltb m (2 ^ 32)) masks) fit in
     let head : f first ≡ mask = reads 0 first (omega arith) ∙ mask-first mask (masksBytes k masks ++ back) small in
     let left : suc (length masks) - suc k ≡ length masks - k = omega arith in
     let tail : cellsFrom (suc first) (length masks) f 0 count ≡ masks =
@@ -120,20 +87,21 @@ module _ (t : Task) (front back : List ℕ) where
   figure-read n x h e = u16-behind front whole n (length front + n) refl ∙ e ∙ u16-whole x h
 
   -- A mask, by its node.
-  mask-read : (d v : ℕ) → v ≡ 0 + d → u32At (front ++ whole) (length front + 12 + 4 * v) ≡ u32At (masksBytes (t .nodes) (t .predecessors) ++ back) (4 * d)
-  unfolding recordBytes u16Bytes
-  mask-read d v e =
+  mask-read : (level d v : ℕ) → v ≡ 0 + d → u32At (front ++ whole) (length front + bytesBeforeMasks level + 4 * v) ≡ u32At (masksBytes (t .nodes) (t .predecessors) ++ back) (4 * d)
+  unfolding recordBytes u16Bytes bytesBeforeMasks
+  mask-read level d v e =
       u32-behind front whole (12 + 4 * d) (length front + 12 + 4 * v) (omega arith)
       ∙ u32-behind (upToMasks t) (masksBytes (t .nodes) (t .predecessors) ++ back) (4 * d) (12 + 4 * d) refl
 
-  masks-whole : Encodable t → masksAt (front ++ whole) (length front) (nodesAt (front ++ whole) (length front)) ≡ t .predecessors
+  masks-whole : (level : ℕ) → Encodable t →
+      masksAt (front ++ whole) (length front + bytesBeforeMasks level) (nodesAt (front ++ whole) (length front)) ≡ t .predecessors
   unfolding masksAt
-  masks-whole fits =
+  masks-whole level fits =
       let few : t .nodes ≤ length (t .predecessors) = omega (arith, fits .nodes, fits .masks) in
       let none : drop (t .nodes) (t .predecessors) ≡ replicate (length (t .predecessors) - t .nodes) 0 = fits .masks-none ∙ ap (λ (n : ℕ). replicate (n - t .nodes) 0) (sym (fits .masks)) in
-      ap (λ (n : ℕ). cellsFrom 0 n (λ v. u32At (front ++ whole) (length front + 12 + 4 * v)) 0 (nodesAt (front ++ whole) (length front))) (sym (fits .masks))
-      ∙ masks-read (t .predecessors) (t .nodes) 0 (nodesAt (front ++ whole) (length front)) (λ v. u32At (front ++ whole) (length front + 12 + 4 * v)) back
-      (omega (arith, nodes-read)) few (fits .masks-fit) none mask-read
+      ap (λ (n : ℕ). cellsFrom 0 n (λ v. u32At (front ++ whole) (length front + bytesBeforeMasks level + 4 * v)) 0 (nodesAt (front ++ whole) (length front))) (sym (fits .masks))
+      ∙ masks-read (t .predecessors) (t .nodes) 0 (nodesAt (front ++ whole) (length front)) (λ v. u32At (front ++ whole) (length front + bytesBeforeMasks level + 4 * v)) back
+      (omega (arith, nodes-read)) few (fits .masks-fit) none (mask-read level)
 
 pub round-trip : RoundTrip
 unfolding RoundTrip taskAt figuresAt recordBytes u16Bytes u16At byteAt
@@ -144,7 +112,7 @@ round-trip t front back fits =
     (figure-read t front back 6 (t .figures .overload .work) (fits .overload-work) refl)
     (figure-read t front back 8 (t .figures .nominal .span) (fits .nominal-span) refl)
     (figure-read t front back 10 (t .figures .overload .span) (fits .overload-span) refl)
-    (masks-whole t front back fits)
+    (masks-whole t front back (levelAt (front ++ (recordBytes t ++ back)) (length front)) fits)
 
 masks-length : (k : ℕ) (masks : List ℕ) → k ≤ length masks → length (masksBytes k masks) ≡ 4 * k
 unfolding masksBytes u32Bytes
@@ -153,7 +121,7 @@ masks-length (suc k) [] h = absurd (omega arith)
 masks-length (suc k) (mask ∷ masks) h = omega (arith, masks-length k masks (omega arith))
 
 pub record-length : RecordLength
-unfolding RecordLength recordBytes u16Bytes
+unfolding RecordLength recordBytes u16Bytes bytesBeforeMasks
 record-length t fits =
     omega (arith, masks-length (t .nodes) (t .predecessors) (omega (arith, fits .nodes, fits .masks)))
 

@@ -9,10 +9,13 @@ use Rattle.sheet.specs.declared.answer.Answer.the-variants.{Accepted, Re
 use Rattle.sheet.specs.declared.task.Figures.{Figures}
 use Rattle.sheet.specs.declared.task.Task.{Task}
 use Rattle.sheet.specs.Answers.{numberOf, taskOf}
-use Rattle.sheet.specs.Format.{byteAt, u16At, u32At, cellsFrom, levelAt, nodesAt, figuresAt, masksAt, taskAt}
-use Rattle.sheet.specs.Encoding.{u16Bytes, u32Bytes, masksBytes, recordBytes}
+use Rattle.basics.specs.Numbers.{byteAt, u16At, u32At, u16Bytes, u32Bytes}
+use Rattle.basics.specs.Lists.{cellsFrom, allBelow}
+use Rattle.sheet.specs.Format.{levelAt, nodesAt, figuresAt, masksAt, taskAt}
+use Rattle.sheet.specs.Encoding.{masksBytes, recordBytes}
 use Rattle.sheet.specs.Laws.{Encodable}
-use Rattle.sheet.specs.Rules.{levelLawful, shapeLawful, inRange, inOrder, lowLawful, figuresLawful, maskLawful, allBelow, masksLawful, isHeavy, taskAnswer}
+use Rattle.sheet.specs.Level.{levelLawful, bytesBeforeMasks, figureLimit, isHigh}
+use Rattle.sheet.specs.Rules.{shapeLawful, inRange, inOrder, lowLawful, figuresLawful, maskLawful, masksLawful, isHeavy, taskAnswer}
 
 -- Figures in the order of a record: D, CN, CO, LN, LO.
 abbrev pub figures : ℕ → ℕ → ℕ → ℕ → ℕ → Figures
@@ -103,18 +106,18 @@ pub record Worked : Type 0 where
   pub length-long : shapeLawful 1 3 25 ≡ false
   pub one-byte : shapeLawful 0 1 1 ≡ false
   -- S2.9: each figure from 1 to 10,000.
-  pub least : inRange (figures 1 1 1 1 1) ≡ true
-  pub greatest : inRange (figures 10000 10000 10000 10000 10000) ≡ true
-  pub deadline-zero : inRange (figures 0 1 1 1 1) ≡ false
-  pub deadline-above : inRange (figures 10001 1 1 1 1) ≡ false
-  pub nominal-work-zero : inRange (figures 1 0 1 1 1) ≡ false
-  pub nominal-work-above : inRange (figures 1 10001 1 1 1) ≡ false
-  pub overload-work-zero : inRange (figures 1 1 0 1 1) ≡ false
-  pub overload-work-above : inRange (figures 1 1 10001 1 1) ≡ false
-  pub nominal-span-zero : inRange (figures 1 1 1 0 1) ≡ false
-  pub nominal-span-above : inRange (figures 1 1 1 10001 1) ≡ false
-  pub overload-span-zero : inRange (figures 1 1 1 1 0) ≡ false
-  pub overload-span-above : inRange (figures 1 1 1 1 10001) ≡ false
+  pub least : inRange 1 (figures 1 1 1 1 1) ≡ true
+  pub greatest : inRange 1 (figures 10000 10000 10000 10000 10000) ≡ true
+  pub deadline-zero : inRange 1 (figures 0 1 1 1 1) ≡ false
+  pub deadline-above : inRange 1 (figures 10001 1 1 1 1) ≡ false
+  pub nominal-work-zero : inRange 1 (figures 1 0 1 1 1) ≡ false
+  pub nominal-work-above : inRange 1 (figures 1 10001 1 1 1) ≡ false
+  pub overload-work-zero : inRange 1 (figures 1 1 0 1 1) ≡ false
+  pub overload-work-above : inRange 1 (figures 1 1 10001 1 1) ≡ false
+  pub nominal-span-zero : inRange 1 (figures 1 1 1 0 1) ≡ false
+  pub nominal-span-above : inRange 1 (figures 1 1 1 10001 1) ≡ false
+  pub overload-span-zero : inRange 1 (figures 1 1 1 1 0) ≡ false
+  pub overload-span-above : inRange 1 (figures 1 1 1 1 10001) ≡ false
   -- S2.10: each order, with equality and one past it.
   pub order-equal : inOrder (figures 1 8 8 8 8) ≡ true
   pub order-growth : inOrder (figures 1 8 12 4 8) ≡ true
@@ -152,7 +155,7 @@ pub record Worked : Type 0 where
   pub refused-task : taskOf (Refused 4 7) ≡ 7
 
 worked : Worked
-unfolding u16Bytes u32Bytes masksBytes recordBytes byteAt u16At u32At cellsFrom levelAt nodesAt figuresAt masksAt taskAt levelLawful shapeLawful inRange inOrder lowLawful figuresLawful maskLawful allBelow masksLawful isHeavy taskAnswer
+unfolding u16Bytes u32Bytes masksBytes recordBytes byteAt u16At u32At cellsFrom levelAt nodesAt figuresAt masksAt taskAt levelLawful shapeLawful inRange inOrder lowLawful figuresLawful maskLawful allBelow masksLawful isHeavy taskAnswer isHigh figureLimit bytesBeforeMasks
 worked =
     record {
       two-bytes = refl;

@@ -1,15 +1,8 @@
 -- A record written: the bytes that the format reads a task from.
-use Prim.Native.Nat.{ℕ, zero, suc, _/_, _%_}
+use Prim.Native.Nat.{ℕ, zero, suc}
 use mathlib.Core.List.{List, [], _∷_, _++_}
+use Rattle.basics.specs.Numbers.{u16Bytes, u32Bytes}
 use Rattle.sheet.specs.declared.task.Task.{Task}
-
--- S1.1: a number in two bytes, the lowest first.
-unfoldable pub u16Bytes : ℕ → List ℕ
-u16Bytes x = x % 256 ∷ x / 256 % 256 ∷ []
-
--- S1.1: a number in four bytes, the lowest first.
-unfoldable pub u32Bytes : ℕ → List ℕ
-u32Bytes x = x % 256 ∷ x / 256 % 256 ∷ x / 65536 % 256 ∷ x / 16777216 % 256 ∷ []
 
 -- S2.6: the masks of the first k nodes.
 unfoldable pub masksBytes : ℕ → List ℕ → List ℕ

@@ -1,24 +1,13 @@
 -- S2.1 to S2.6: where each number of a sheet stands, over the list of its bytes.
 use Prim.Native.Nat.{ℕ, zero, suc, _+_, _*_}
-use mathlib.Core.Bool.{cond}
-use mathlib.Core.List.{List, [], _∷_}
-use lib.Dec.{ltb}
+use mathlib.Core.List.{List, []}
 use lib.ListN.{getD, replicate}
+use Rattle.basics.specs.Lists.{cells}
+use Rattle.basics.specs.Numbers.{byteAt, u16At, u32At}
 use Rattle.sheet.specs.declared.task.Figures.{Figures}
 use Rattle.sheet.specs.declared.task.Task.{Task}
 use Rattle.sheet.specs.declared.task.TaskSet.{TaskSet}
-
--- The byte at a place; 0 past the end.
-unfoldable pub byteAt : List ℕ → ℕ → ℕ
-byteAt s at = getD s at 0
-
--- S1.1: the number in two bytes from a place on, the lower byte first.
-unfoldable pub u16At : List ℕ → ℕ → ℕ
-u16At s at = byteAt s at + 256 * byteAt s (at + 1)
-
--- S1.1: the number in four bytes from a place on.
-unfoldable pub u32At : List ℕ → ℕ → ℕ
-u32At s at = u16At s at + 65536 * u16At s (at + 2)
+use Rattle.sheet.specs.Level.{bytesBeforeMasks}
 
 -- S2.1: M, the number of processors.
 unfoldable pub processorsOf : List ℕ → ℕ
@@ -42,15 +31,6 @@ unfoldable pub startOf : List ℕ → ℕ → ℕ
 startOf s zero = 2 + 4 * countOf s
 startOf s (suc i) = offsetOf s i + lengthOf s i
 
--- size cells with the numbers from first on: those below count hold what f gives them, and the others hold none.
-unfoldable pub cellsFrom : {A : Type 0} → ℕ → ℕ → (ℕ → A) → A → ℕ → List A
-cellsFrom first zero f none count = []
-cellsFrom first (suc size) f none count = cond (ltb first count) (f first) none ∷ cellsFrom (suc first) size f none count
-
--- The same from cell 0 on.
-abbrev pub cells : {A : Type 0} → ℕ → (ℕ → A) → A → ℕ → List A
-cells size f none count = cellsFrom 0 size f none count
-
 -- S2.6: the level, in the record that begins at a place.
 unfoldable pub levelAt : List ℕ → ℕ → ℕ
 levelAt s at = byteAt s at
@@ -68,9 +48,9 @@ figuresAt s at =
       overload = record { work = u16At s (at + 6); span = u16At s (at + 10) };
     }
 
--- S2.6: the mask of each of k nodes, and 0 for the nodes from k on.
+-- S2.6: the masks that begin at a place, one of each of k nodes, and 0 for the nodes from k on.
 unfoldable pub masksAt : List ℕ → ℕ → ℕ → List ℕ
-masksAt s at k = cells 32 (λ v. u32At s (at + 12 + 4 * v)) 0 k
+masksAt s at k = cells 32 (λ v. u32At s (at + 4 * v)) 0 k
 
 -- S2.6: the task whose record begins at a place.
 unfoldable pub taskAt : List ℕ → ℕ → Task
@@ -79,7 +59,7 @@ taskAt s at =
       level = levelAt s at;
       nodes = nodesAt s at;
       figures = figuresAt s at;
-      predecessors = masksAt s at (nodesAt s at);
+      predecessors = masksAt s (at + bytesBeforeMasks (levelAt s at)) (nodesAt s at);
     }
 
 -- Figures of zeros.

@@ -6,9 +6,12 @@ use mathlib.Core.Logic.{_↔_}
 use mathlib.Core.Path.{_≡_}
 use lib.Dec.{ltb}
 use lib.ListN.{length, getD, drop, replicate}
-use Rattle.nodes.specs.Sets.{has, every}
+use Rattle.basics.specs.Lists.{all}
+use Rattle.nodes.specs.Sets.{has}
 use Rattle.sheet.specs.declared.task.Task.{Task}
-use Rattle.sheet.specs.Format.{byteAt, taskAt}
+use Rattle.basics.specs.Numbers.{byteAt}
+use Rattle.sheet.specs.Level.{bytesBeforeMasks}
+use Rattle.sheet.specs.Format.{taskAt}
 use Rattle.sheet.specs.Rules.{maskLawful, masksLawful}
 use Rattle.sheet.specs.Encoding.{recordBytes}
 
@@ -31,7 +34,7 @@ pub record Encodable (t : Task) : Type 0 where
   pub nominal-span : t .figures .nominal .span < 65536
   pub overload-span : t .figures .overload .span < 65536
   pub masks : length (t .predecessors) ≡ 32
-  pub masks-fit : every (λ mask. ltb mask (2 ^ 32)) (t .predecessors) ≡ true
+  pub masks-fit : all (λ mask. ltb mask (2 ^ 32)) (t .predecessors) ≡ true
   pub masks-none : drop (t .nodes) (t .predecessors) ≡ replicate (32 - t .nodes) 0
 
 -- S2.6: a record that is written is read as its task, wherever it stands.
@@ -39,9 +42,9 @@ unfoldable pub RoundTrip : Type 0
 RoundTrip =
     (t : Task) (front back : List ℕ) → Encodable t → taskAt (front ++ (recordBytes t ++ back)) (length front) ≡ t
 
--- S2.7: it has 12 + 4k bytes.
+-- S2.7: it has as many bytes as its level and its nodes ask for.
 unfoldable pub RecordLength : Type 0
-RecordLength = (t : Task) → Encodable t → length (recordBytes t) ≡ 12 + 4 * t .nodes
+RecordLength = (t : Task) → Encodable t → length (recordBytes t) ≡ bytesBeforeMasks (t .level) + 4 * t .nodes
 
 -- Each of them is a byte.
 unfoldable pub RecordOfBytes : Type 0

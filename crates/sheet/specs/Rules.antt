@@ -1,38 +1,29 @@
 -- S2.7 to S2.13: the rules of one record, for its level, number of nodes and length, its figures and its masks.
-use Prim.Native.Nat.{ℕ, zero, suc, _+_, _*_, _-_, _^_}
-use mathlib.Core.Bool.{Bool, true, _&&_, _||_, not}
+use Prim.Native.Nat.{ℕ, _+_, _*_, _-_, _^_}
+use mathlib.Core.Bool.{Bool, _&&_, _||_, not}
 use mathlib.Core.List.{List}
 use lib.Dec.{leb, ltb, eqb}
 use lib.ListN.{getD}
+use Rattle.basics.specs.Lists.{allBelow}
+use Rattle.basics.specs.Numbers.{within}
 use Rattle.sheet.specs.declared.answer.Answer.{Answer}
 use Rattle.sheet.specs.declared.task.Figures.{Figures}
 use Rattle.sheet.specs.declared.task.Task.{Task}
+use Rattle.sheet.specs.Level.{levelLawful, isHigh, figureLimit, bytesBeforeMasks}
 use Rattle.sheet.specs.Answers.{badFigure, badMask, notHeavy, refusedIf, _orElse_}
-
--- Whether a number lies in low to high, both included.
-abbrev pub within : ℕ → ℕ → ℕ → Bool
-within low high x = leb low x && leb x high
-
--- S2.7: the level is low or high.
-unfoldable pub levelLawful : ℕ → Bool
-levelLawful level = leb level 1
 
 -- S2.7: the level, 1 to 32 nodes, and as many bytes as go with them.
 unfoldable pub shapeLawful : ℕ → ℕ → ℕ → Bool
-shapeLawful level nodes bytes = levelLawful level && within 1 32 nodes && eqb bytes (12 + 4 * nodes)
-
--- S2.9: the greatest figure.
-abbrev pub figureLimit : ℕ
-figureLimit = 10000
+shapeLawful level nodes bytes = levelLawful level && within 1 32 nodes && eqb bytes (bytesBeforeMasks level + 4 * nodes)
 
 -- S2.9: each of the five figures lies in its range.
-unfoldable pub inRange : Figures → Bool
-inRange f =
-    within 1 figureLimit (f .deadline)
-    && within 1 figureLimit (f .nominal .work)
-    && within 1 figureLimit (f .overload .work)
-    && within 1 figureLimit (f .nominal .span)
-    && within 1 figureLimit (f .overload .span)
+unfoldable pub inRange : ℕ → Figures → Bool
+inRange level f =
+    within 1 (figureLimit level) (f .deadline)
+    && within 1 (figureLimit level) (f .nominal .work)
+    && within 1 (figureLimit level) (f .overload .work)
+    && within 1 (figureLimit level) (f .nominal .span)
+    && within 1 (figureLimit level) (f .overload .span)
 
 -- S2.10: a span is no greater than its work, overload figures are no smaller than nominal ones, and the span grows no more
 -- than the work.
@@ -47,21 +38,16 @@ inOrder f =
 -- S2.11: a low task's nominal figures are its overload figures.
 unfoldable pub lowLawful : ℕ → Figures → Bool
 lowLawful level f =
-    not (eqb level 0)
+    isHigh level
     || eqb (f .nominal .work) (f .overload .work) && eqb (f .nominal .span) (f .overload .span)
 
 -- S2.9 to S2.11 together.
 unfoldable pub figuresLawful : ℕ → Figures → Bool
-figuresLawful level f = inRange f && inOrder f && lowLawful level f
+figuresLawful level f = inRange level f && inOrder f && lowLawful level f
 
 -- S2.12: node v's mask has no bit from v on, which is to say that it lies below 2 ^ v (`Laws.MaskLaw`).
 unfoldable pub maskLawful : List ℕ → ℕ → Bool
 maskLawful masks v = ltb (getD masks v 0) (2 ^ v)
-
--- Whether every number below a bound passes a test.
-unfoldable pub allBelow : ℕ → (ℕ → Bool) → Bool
-allBelow zero test = true
-allBelow (suc n) test = allBelow n test && test n
 
 -- S2.12, for every node.
 unfoldable pub masksLawful : List ℕ → ℕ → Bool

@@ -1,12 +1,17 @@
 // S2.7 to S2.13: the rules of a record, each a test on what the record says.
 ghost use mathlib.Core.Path.{_≡_};
 ghost use Prim.Native.Nat.{_+_, _≤_};
-ghost use Rattle.sheet.specs.Rules.{within, shapeLawful, inRange, inOrder, lowLawful, figuresLawful, masksLawful, isHeavy, taskAnswer};
+ghost use Rattle.sheet.specs.Rules.{shapeLawful, inRange, inOrder, lowLawful, figuresLawful, masksLawful, isHeavy, taskAnswer};
 use crate::answer::Answer;
 use crate::answer::or_else;
 use crate::answer::refused_unless;
+use crate::level::bytes_before_masks;
+use crate::level::figure_limit;
+use crate::level::is_high;
+use crate::level::is_lawful;
 use crate::task::Figures;
 use crate::task::Task;
+use basics::numbers::is_within;
 
 // Refusals 4, 5 and 6.
 const BAD_FIGURE: u8 = 4;
@@ -15,32 +20,25 @@ const BAD_MASK: u8 = 5;
 
 const NOT_HEAVY: u8 = 6;
 
-// S2.9: the greatest figure.
-pub const FIGURE_LIMIT: u32 = 10000;
-
-// Whether a number lies between two others or is one of them.
-pub fn is_within(low: u32, high: u32, x: u32) -> bool
-    ensures { λ r. ⌜ r ≡ within low high x ⌝ }
-{
-    (low <= x) & (x <= high)
-}
-
 // S2.7: level, number of nodes and length.
 pub fn shape_lawful(level: u8, nodes: u8, bytes: u32) -> bool
     ensures { λ r. ⌜ r ≡ shapeLawful level nodes bytes ⌝ }
 {
-    (level <= 1) & is_within(1, 32, nodes as u32) & (bytes == 12 + 4 * (nodes as u32))
+    is_lawful(level)
+        & is_within(1, 32, nodes as u32)
+        & (bytes == bytes_before_masks(level) + 4 * (nodes as u32))
 }
 
 // S2.9: each figure by itself.
-fn in_range(f: Figures) -> bool
-    ensures { λ r. ⌜ r ≡ inRange f ⌝ }
+fn in_range(level: u8, f: Figures) -> bool
+    ensures { λ r. ⌜ r ≡ inRange level f ⌝ }
 {
-    is_within(1, FIGURE_LIMIT, f.deadline)
-        & is_within(1, FIGURE_LIMIT, f.nominal.work)
-        & is_within(1, FIGURE_LIMIT, f.overload.work)
-        & is_within(1, FIGURE_LIMIT, f.nominal.span)
-        & is_within(1, FIGURE_LIMIT, f.overload.span)
+    let limit = figure_limit(level);
+    is_within(1, limit, f.deadline)
+        & is_within(1, limit, f.nominal.work)
+        & is_within(1, limit, f.overload.work)
+        & is_within(1, limit, f.nominal.span)
+        & is_within(1, limit, f.overload.span)
 }
 
 // A sum that does not wrap.
@@ -65,14 +63,14 @@ fn in_order(f: Figures) -> bool
 fn low_lawful(level: u8, f: Figures) -> bool
     ensures { λ r. ⌜ r ≡ lowLawful level f ⌝ }
 {
-    (level != 0) | ((f.nominal.work == f.overload.work) & (f.nominal.span == f.overload.span))
+    is_high(level) | ((f.nominal.work == f.overload.work) & (f.nominal.span == f.overload.span))
 }
 
 // S9.4: the rules for the figures together.
 pub fn figures_lawful(level: u8, f: Figures) -> bool
     ensures { λ r. ⌜ r ≡ figuresLawful level f ⌝ }
 {
-    in_range(f) & in_order(f) & low_lawful(level, f)
+    in_range(level, f) & in_order(f) & low_lawful(level, f)
 }
 
 // S2.12: what is left of node v's mask past its lowest v bits is 0.

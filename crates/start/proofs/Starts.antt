@@ -13,9 +13,10 @@ use borrow.Author.Tests.{le-ltb}
 use Rattle.sheet.specs.declared.answer.Answer.{Answer}
 use Rattle.sheet.specs.declared.answer.Answer.the-variants.{Accepted, Refused}
 use Rattle.sheet.specs.declared.task.TaskSet.{TaskSet}
-use Rattle.sheet.specs.Format.{cellsFrom, taskIn}
+use Rattle.basics.specs.Lists.{cellsFrom}
+use Rattle.sheet.specs.Format.{taskIn}
 use Rattle.reader.specs.Reading.{readOf}
-use Rattle.sheet.proofs.Cells.{cells-none, cells-store}
+use Rattle.basics.proofs.Cells.{cells-none, cells-store}
 use Rattle.shares.specs.declared.share.Share.{Share}
 use Rattle.shares.specs.Totals.{noProcessors, shareAt}
 use Rattle.allocation.specs.Blocks.{lengthIn}

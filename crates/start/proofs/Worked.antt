@@ -5,7 +5,8 @@ use mathlib.Core.Path.{_≡_, refl}
 use lib.ListN.{replicate}
 use Rattle.sheet.specs.declared.answer.Answer.the-variants.{Refused}
 use Rattle.sheet.specs.Answers.{numberOf, taskOf}
-use Rattle.sheet.specs.Format.{byteAt, processorsOf, countOf}
+use Rattle.basics.specs.Numbers.{byteAt}
+use Rattle.sheet.specs.Format.{processorsOf, countOf}
 use Rattle.reader.specs.Reading.{headerLawful, headerAnswer, answerOf, readOf}
 use Rattle.entries.specs.Fresh.{zeroEntry}
 use Rattle.start.specs.Start.{zeroState, startAnswer, startOf}

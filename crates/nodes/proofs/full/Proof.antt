@@ -5,7 +5,8 @@ use native.Mathlib.Nat.{min-eq-left, min-eq-right}
 use native.Mathlib.Omega.{arith}
 use borrow.Author.Needs.{needs}
 use lib.Pow.{pow-pos, pow-mono}
-use Rattle.nodes.specs.Sets.{range, setOf}
+use Rattle.basics.specs.Lists.{range}
+use Rattle.nodes.specs.Sets.{setOf}
 use Rattle.nodes.proofs.Bits.{shl-one}
 use Rattle.nodes.proofs.Members.{setOf-range}
 use Rattle.nodes.proofs.full.Statement.{statement}

@@ -1,8 +1,9 @@
 -- `rows::rows_of` meets its contract. The loop's invariant: the rows of the tasks passed stand in their cells. The measure is
 -- the tasks left.
-use Rattle.sheet.proofs.Cells.{cells-store}
+use Rattle.basics.proofs.Cells.{cells-store}
 use borrow.Author.Needs.{needs}
-use Rattle.sheet.specs.Format.{cellsFrom, cells, taskIn}
+use Rattle.basics.specs.Lists.{cellsFrom, cells}
+use Rattle.sheet.specs.Format.{taskIn}
 use Prim.Native.Nat.{_-_, _≤_}
 use mathlib.Core.Path.{_≡_, refl}
 use native.Mathlib.Omega.{arith}

@@ -1,6 +1,6 @@
 -- `selection::select` meets its contract. The loop's invariant: the shares of the tasks passed stand in their cells, and those
 -- of the tasks left are the best of what is left. The measure is the tasks left.
-use Rattle.sheet.specs.Format.{cellsFrom, cells}
+use Rattle.basics.specs.Lists.{cellsFrom, cells}
 use Rattle.allocation.proofs.Lines.{missingTotals, best-total-within}
 use Rattle.allocation.proofs.Walk.{selection-none, selection-some, first-is, total-is, Step, walk-some, walk-step, walk-done}
 use borrow.Author.Needs.{needs}

@@ -6,8 +6,8 @@ use borrow.Author.Needs.{needs}
 use mathlib.Core.List.{List, _∷_}
 use mathlib.Core.Path.{_≡_, refl, sym, ap, ap₂, _∙_}
 use native.Mathlib.Omega.{arith}
-use Rattle.sheet.specs.Format.{cells, cellsFrom}
-use Rattle.sheet.proofs.Cells.{cells-none, cells-store}
+use Rattle.basics.specs.Lists.{cells, cellsFrom}
+use Rattle.basics.proofs.Cells.{cells-none, cells-store}
 use Rattle.shares.proofs.Rows.{cells-tabulated}
 use Rattle.allocation.proofs.Optimal.{with-none, with-past, with-some}
 use Rattle.allocation.proofs.selection.totals_with.Statement.{statement}

@@ -10,7 +10,7 @@ use denote.Ref.{now}
 use lib.Dec.{leb}
 use lib.ListN.{length, length-map, getD}
 use Rattle.nodes.specs.Sets.{isWithin}
-use Rattle.sheet.specs.Rules.{within}
+use Rattle.basics.specs.Numbers.{within}
 use Rattle.model.specs.Row.{isSubset, runningSet, tickedRow, isLate}
 use Rattle.entries.specs.declared.state.TaskState.{TaskState}
 use Rattle.dispatcher.specs.declared.tick.TickAnswer.the-variants.{Refused}

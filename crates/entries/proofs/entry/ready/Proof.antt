@@ -8,7 +8,8 @@ use native.Mathlib.Omega.{arith}
 use borrow.Author.Needs.{needs}
 use borrow.Author.Tests.{not-true, not-false}
 use lib.Bits.{and-le-l}
-use Rattle.nodes.specs.Sets.{keptIf, setOf}
+use Rattle.basics.specs.Lists.{keptIf}
+use Rattle.nodes.specs.Sets.{setOf}
 use Rattle.model.specs.Row.{predecessorsOf}
 use Rattle.entries.specs.Entry.{fixedOf, jobOf, rowOf}
 use Rattle.entries.proofs.NodeSets.{isUnblocked, ready-none, ready-less-ended, Gathered, gathered-none, gathered-more, gathered-all, gathered-fits}

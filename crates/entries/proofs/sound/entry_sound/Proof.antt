@@ -3,7 +3,7 @@ use mathlib.Core.Bool.{true}
 use mathlib.Core.Path.{_≡_, sym, _∙_}
 use native.Mathlib.Omega.{arith}
 use borrow.Author.Tests.{not-true, not-false}
-use Rattle.sheet.specs.Rules.{within}
+use Rattle.basics.specs.Numbers.{within}
 use Rattle.entries.proofs.Soundness.{within-bounds, nodes-broken, entry-by-tests}
 use borrow.Author.Needs.{needs}
 use Rattle.entries.proofs.sound.entry_sound.Statement.{statement}

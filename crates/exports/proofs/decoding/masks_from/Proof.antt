@@ -7,8 +7,9 @@ use native.Mathlib.Omega.{arith}
 use lib.ListN.{set}
 use denote.Ref.{now}
 use borrow.Author.Needs.{needs}
-use Rattle.sheet.specs.Format.{u32At, cells}
-use Rattle.sheet.proofs.Cells.{cells-none, cells-store}
+use Rattle.basics.specs.Lists.{cells}
+use Rattle.basics.specs.Numbers.{u32At}
+use Rattle.basics.proofs.Cells.{cells-none, cells-store}
 use Rattle.exports.specs.StateBytes.{masksFrom}
 use Rattle.exports.proofs.Decoded.{cells-full}
 use Rattle.exports.proofs.decoding.masks_from.Statement.{statement}

@@ -6,7 +6,7 @@ use mathlib.Core.Path.{ap₂, _≡_, refl, sym, ap, _∙_}
 use native.Mathlib.Omega.{arith}
 use denote.Ref.{now}
 use lib.ListN.{length, take, length-set}
-use Rattle.nodes.specs.Sets.{range}
+use Rattle.basics.specs.Lists.{range}
 use Rattle.guarantee.specs.Encoding.{reportsAt}
 use Rattle.guarantee.proofs.Encodings.{reports-more, take-set-more}
 use Rattle.guarantee.proofs.encoding.reports_at.Statement.{statement}

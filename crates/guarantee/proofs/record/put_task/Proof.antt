@@ -8,7 +8,7 @@ use denote.Ref.{now}
 use lib.ListN.{length, length-set}
 use lib.Seq.{sets}
 use Rattle.entries.specs.Entry.{jobOf}
-use Rattle.sheet.specs.Encoding.{u32Bytes}
+use Rattle.basics.specs.Numbers.{u32Bytes}
 use Rattle.guarantee.proofs.Records.{job-stored}
 use Rattle.guarantee.proofs.record.put_task.Statement.{statement}
 use Rattle.guarantee.proofs.record.put_task.Tie as tie

@@ -8,7 +8,7 @@ use denote.Ref.{now}
 use lib.ListN.{length}
 use lib.Seq.{length-take-le}
 use Rattle.model.specs.Step.{release, tick}
-use Rattle.sheet.specs.Format.{byteAt}
+use Rattle.basics.specs.Numbers.{byteAt}
 use Rattle.guarantee.specs.Encoding.{reportsAt}
 use Rattle.guarantee.specs.Record.{turnOf}
 use Rattle.guarantee.proofs.Encodings.{release-inside, tick-inside, call-release, call-tick}

@@ -3,7 +3,7 @@ use Prim.Native.Nat.{ℕ, _+_, _*_}
 use mathlib.Core.List.{List, [], _∷_}
 use mathlib.Core.Path.{_≡_}
 use denote.Ref.{now}
-use Rattle.sheet.specs.Format.{byteAt, u16At}
+use Rattle.basics.specs.Numbers.{byteAt, u16At}
 use Rattle.plan_text.specs.Fields.{fieldsAt}
 use native.Mathlib.Omega.{arith}
 use borrow.Author.Needs.{needs}

@@ -1,7 +1,7 @@
 -- `fields::u8_at` meets its contract: an element of a slice of bytes is below 256.
 use mathlib.Core.Path.{refl}
 use native.Mathlib.Omega.{arith}
-use Rattle.sheet.specs.Format.{byteAt}
+use Rattle.basics.specs.Numbers.{byteAt}
 use borrow.Author.Needs.{needs}
 use Rattle.plan_text.proofs.fields.u8_at.Statement.{statement}
 use Rattle.plan_text.proofs.fields.u8_at.Tie as tie

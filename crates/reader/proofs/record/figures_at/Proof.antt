@@ -4,7 +4,8 @@ use mathlib.Core.List.{List}
 use mathlib.Core.Path.{_≡_, ap, _∙_}
 use native.Mathlib.Omega.{arith}
 use denote.Ref.{now}
-use Rattle.sheet.specs.Format.{figuresAt, u16At}
+use Rattle.basics.specs.Numbers.{u16At}
+use Rattle.sheet.specs.Format.{figuresAt}
 use borrow.Author.Needs.{needs}
 use Rattle.reader.proofs.record.figures_at.Statement.{statement}
 use Rattle.reader.proofs.record.figures_at.Tie as tie

@@ -4,7 +4,8 @@ use native.Mathlib.Omega.{arith}
 use denote.Ref.{now}
 use Prim.Native.Nat.{_≤_, _+_, _*_, _-_}
 use mathlib.Core.Path.{_≡_, ap, _∙_}
-use Rattle.sheet.specs.Format.{masksAt, u32At}
+use Rattle.basics.specs.Numbers.{u32At}
+use Rattle.sheet.specs.Format.{masksAt}
 use Rattle.sheet.proofs.Cells.{masks-none, masks-store}
 use borrow.Author.Needs.{needs}
 use Rattle.reader.proofs.record.masks_at.Statement.{statement}
@@ -19,14 +20,11 @@ abbrev μ-loop : tie.MeasureT-loop
 loop-holds : tie.Need-loop-holds Inv-loop μ-loop
 loop-holds c = (omega arith, masks-none _ _)
 
-add-u32-at : tie.Need-add-u32-at Inv-loop μ-loop
-add-u32-at c = search needs
-
 mul-u32-at : tie.Need-mul-u32-at Inv-loop μ-loop
 mul-u32-at c = search needs
 
-add-u32-at-2 : tie.Need-add-u32-at-2 Inv-loop μ-loop
-add-u32-at-2 c = search needs
+add-u32-at : tie.Need-add-u32-at Inv-loop μ-loop
+add-u32-at c = search needs
 
 u32-at-requires : tie.Need-u32-at-requires Inv-loop μ-loop
 u32-at-requires c κs = search needs
@@ -47,7 +45,7 @@ loop-again : tie.Need-loop-again Inv-loop μ-loop
 loop-again c =
     let v = c .before .before .loop .v in
     let args = c .before .before .before .before .args in
-    let mask : c .u32-at .result ≡ u32At (now (args .s)) (args .at + 12 + 4 * v) = c .u32-at .ensures ∙ ap (u32At (now (args .s))) (omega arith) in
+    let mask : c .u32-at .result ≡ u32At (now (args .s)) (args .at + 4 * v) = c .u32-at .ensures ∙ ap (u32At (now (args .s))) (omega arith) in
     (omega arith, rw (mask, c .before .before .loop .inv .1) (masks-store (now (args .s)) (args .at) v (omega arith)))
 
 returns : tie.Need-returns Inv-loop μ-loop
@@ -63,9 +61,8 @@ masks-at-spec =
     Inv-loop
     μ-loop
     loop-holds
-    add-u32-at
     mul-u32-at
-    add-u32-at-2
+    add-u32-at
     u32-at-requires
     mul-masks
     array-write-masks

@@ -1,5 +1,7 @@
 -- `reader::record::shape_at` meets its contract: a record of fewer than two bytes has a wrong length. Assumes nothing.
-use Rattle.sheet.specs.Rules.{shapeLawful, levelLawful, within}
+use Rattle.basics.specs.Numbers.{within}
+use Rattle.sheet.specs.Level.{levelLawful}
+use Rattle.sheet.specs.Rules.{shapeLawful}
 use mathlib.Core.Bool.{_&&_}
 use denote.Ref.{now}
 use mathlib.Core.Path.{sym}
@@ -14,7 +16,7 @@ unfolding shapeLawful
 returns c =
     let s = now (c .before .before .args .s) in
     let at = c .before .before .args .at in
-    sym (length-broken (levelLawful (levelAt s at) && within 1 32 (nodesAt s at)) (nodesAt s at) _ (c .if1 .taken))
+    sym (length-broken (levelLawful (levelAt s at) && within 1 32 (nodesAt s at)) (levelAt s at) (nodesAt s at) _ (c .if1 .taken))
 
 byte-at-requires : tie.Need-byte-at-requires
 byte-at-requires c κs = search needs

@@ -7,8 +7,8 @@ use borrow.Author.Needs.{needs}
 use Rattle.shares.specs.Search.{leastCritical, numberOf}
 use Rattle.shares.proofs.Least.{least-bound, least-past}
 use Rattle.shares.proofs.Walk.{number-answer}
-use Rattle.sheet.specs.Format.{cellsFrom}
-use Rattle.sheet.proofs.Cells.{cells-none, cells-store-from}
+use Rattle.basics.specs.Lists.{cellsFrom}
+use Rattle.basics.proofs.Cells.{cells-none, cells-store-from}
 use Rattle.shares.proofs.Rows.{cells-tabulated}
 use Rattle.shares.proofs.row.high_row.Statement.{statement}
 use Rattle.shares.proofs.row.high_row.Tie as tie

@@ -1,11 +1,12 @@
 -- `row::row` meets its contract, by the task's level.
 use mathlib.Core.Path.{sym, _∙_}
 use borrow.Author.Needs.{needs}
-use borrow.Author.Tests.{eq-eqb, ne-eqb}
-use Rattle.shares.specs.Low.{isLow}
 use Rattle.shares.proofs.Levels.{row-low, row-high}
 use Rattle.shares.proofs.row.row.Statement.{statement}
 use Rattle.shares.proofs.row.row.Tie as tie
+
+is-low-requires : tie.Need-is-low-requires
+is-low-requires c κs = search needs
 
 low-row-requires : tie.Need-low-row-requires
 low-row-requires c κs = search needs
@@ -14,12 +15,10 @@ high-row-requires : tie.Need-high-row-requires
 high-row-requires c κs = search needs
 
 returns : tie.Need-returns
-unfolding isLow
-returns c = c .low-row .ensures ∙ sym (row-low _ _ (eq-eqb _ 0 (c .before .if1 .taken)))
+returns c = c .low-row .ensures ∙ sym (row-low _ _ (sym (c .before .before .is-low .ensures) ∙ c .before .if1 .taken))
 
 returns-2 : tie.Need-returns-2
-unfolding isLow
-returns-2 c = c .high-row .ensures ∙ sym (row-high _ _ (ne-eqb _ 0 (c .before .if1 .left)))
+returns-2 c = c .high-row .ensures ∙ sym (row-high _ _ (sym (c .before .before .is-low .ensures) ∙ c .before .if1 .left))
 
 pub row-spec : {M : Type 1} → statement M
-row-spec = tie.close (tie.spec low-row-requires high-row-requires returns returns-2)
+row-spec = tie.close (tie.spec is-low-requires low-row-requires high-row-requires returns returns-2)

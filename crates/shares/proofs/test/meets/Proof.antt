@@ -2,7 +2,7 @@
 use Prim.Native.Nat.{_+_, _-_, _*_, _^_, _<_}
 use lib.Dec.{leb}
 use borrow.Author.Tests.{le-leb, lt-leb, leb-true, leb-false, ltb-true, ltb-false}
-use Rattle.sheet.proofs.Logic.{test-same}
+use Rattle.basics.proofs.Logic.{test-same}
 use borrow.Author.Needs.{needs}
 use native.Mathlib.Omega.{arith}
 use Rattle.shares.specs.Terms.{meets}

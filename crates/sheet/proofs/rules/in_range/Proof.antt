@@ -1,8 +1,11 @@
--- `sheet::rules::in_range` meets its contract: each test is what `is_within` ensures. Assumes nothing.
+-- `sheet::rules::in_range` meets its contract: each test is what `is_within` ensures, up to the level's limit. Assumes nothing.
 use Rattle.sheet.specs.Rules.{inRange}
 use borrow.Author.Needs.{needs}
 use Rattle.sheet.proofs.rules.in_range.Statement.{statement}
 use Rattle.sheet.proofs.rules.in_range.Tie as tie
+
+figure-limit-requires : tie.Need-figure-limit-requires
+figure-limit-requires c κs = search needs
 
 is-within-requires : tie.Need-is-within-requires
 is-within-requires c κs = search needs
@@ -28,12 +31,14 @@ returns c =
       c .before .before .is-within3 .ensures,
       c .before .before .before .is-within2 .ensures,
       c .before .before .before .before .is-within .ensures,
+      c .before .before .before .before .before .figure-limit .ensures,
     )
 
 pub in-range-spec : {M : Type 1} → statement M
 in-range-spec =
     tie.close
     (tie.spec
+    figure-limit-requires
     is-within-requires
     is-within-requires-2
     is-within-requires-3

@@ -3,8 +3,10 @@
 use Prim.Native.Nat.{ℕ, _≤_, _-_}
 use mathlib.Core.Bool.{true}
 use mathlib.Core.Path.{_≡_, refl, sym, _∙_, ap}
-use Rattle.sheet.specs.Rules.{masksLawful, allBelow, maskLawful}
-use Rattle.sheet.proofs.Logic.{all-fails, all-more, mask-kept, mask-broken}
+use Rattle.basics.specs.Lists.{allBelow}
+use Rattle.sheet.specs.Rules.{masksLawful, maskLawful}
+use Rattle.basics.proofs.Below.{all-fails, all-more}
+use Rattle.sheet.proofs.Logic.{mask-kept, mask-broken}
 use native.Mathlib.Numerals.{add-one}
 use borrow.Author.Needs.{needs}
 use native.Mathlib.Omega.{arith}

@@ -1,11 +1,11 @@
--- `sheet::numbers::u32_at` meets its contract: each half is what `u16_at` ensures, or two bytes of the sheet. Assumes nothing.
+-- `numbers::u32_at` meets its contract: each half is what `u16_at` ensures, or two bytes of the sheet. Assumes nothing.
 use Prim.Native.Nat.{_+_}
 use mathlib.Core.Path.{_≡_}
 use native.Mathlib.Omega.{arith}
 use borrow.Author.Needs.{needs}
-use Rattle.sheet.specs.Format.{byteAt, u16At, u32At}
-use Rattle.sheet.proofs.numbers.u32_at.Statement.{statement}
-use Rattle.sheet.proofs.numbers.u32_at.Tie as tie
+use Rattle.basics.specs.Numbers.{byteAt, u16At, u32At}
+use Rattle.basics.proofs.numbers.u32_at.Statement.{statement}
+use Rattle.basics.proofs.numbers.u32_at.Tie as tie
 
 add-if1 : tie.Need-add-if1
 add-if1 c = search needs

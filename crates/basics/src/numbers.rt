@@ -1,9 +1,11 @@
-// S1.1: numbers in a sheet's bytes, lowest byte first.
+// S1.1: numbers in bytes, lowest byte first; and a number within bounds.
 ghost use mathlib.Core.Path.{_≡_};
-ghost use Prim.Native.Nat.{_+_, _*_, _<_, _^_};
-ghost use Rattle.sheet.specs.Format.{byteAt, u16At, u32At};
+ghost use Prim.Native.Nat.{_+_, _*_, _≤_, _<_, _^_};
+ghost use lib.ListN.{length};
+ghost use lib.Seq.{sets};
+ghost use Rattle.basics.specs.Numbers.{byteAt, u16At, u32At, u32Bytes, within};
 
-// The byte at a place; 0 past the sheet's end.
+// The byte at a place; 0 past the end.
 pub fn byte_at(s: &[u8], at: usize) -> u8
     ensures { λ r. ⌜ r ≡ byteAt (now (s .entry)) at ⌝ }
 {
@@ -39,4 +41,22 @@ pub fn u32_at(s: &[u8], at: usize) -> u32
         return u16_at(s, at) + 65536 * u16_at(s, at + 2);
     }
     pair(s[at], s[at + 1]) + 65536 * pair(s[at + 2], s[at + 3])
+}
+
+// Writes a number in four bytes from a place on.
+pub fn put_u32(out: &mut [u8], at: usize, x: u32)
+    requires { ⌜ at + 4 ≤ length (now out) ⌝ }
+    ensures { λ _. ⌜ now (out .exit) ≡ sets (now (out .entry)) at (u32Bytes x) ⌝ }
+{
+    out[at] = (x % 256) as u8;
+    out[at + 1] = (x / 256 % 256) as u8;
+    out[at + 2] = (x / 65536 % 256) as u8;
+    out[at + 3] = (x / 16777216 % 256) as u8;
+}
+
+// Whether a number lies between two others or is one of them.
+pub fn is_within(low: u32, high: u32, x: u32) -> bool
+    ensures { λ r. ⌜ r ≡ within low high x ⌝ }
+{
+    (low <= x) & (x <= high)
 }

@@ -1,11 +1,11 @@
--- `sheet::numbers::byte_at` meets its contract: past the end the list's default, 0, stands for the byte. Assumes nothing.
+-- `numbers::byte_at` meets its contract: past the end the list's default, 0, stands for the byte. Assumes nothing.
 use denote.Ref.{now}
 use lib.ListN.{List·getD-eq-default}
 use mathlib.Core.Path.{refl, sym}
-use Rattle.sheet.specs.Format.{byteAt}
+use Rattle.basics.specs.Numbers.{byteAt}
 use borrow.Author.Needs.{needs}
-use Rattle.sheet.proofs.numbers.byte_at.Statement.{statement}
-use Rattle.sheet.proofs.numbers.byte_at.Tie as tie
+use Rattle.basics.proofs.numbers.byte_at.Statement.{statement}
+use Rattle.basics.proofs.numbers.byte_at.Tie as tie
 
 shared-slice-read-result : tie.Need-shared-slice-read-result
 shared-slice-read-result c = search needs

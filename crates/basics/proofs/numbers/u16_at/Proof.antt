@@ -1,13 +1,13 @@
--- `sheet::numbers::u16_at` meets its contract: past the sheet's end the high byte is 0. Assumes nothing.
+-- `numbers::u16_at` meets its contract: past the end the high byte is 0. Assumes nothing.
 use Prim.Native.Nat.{_+_}
 use mathlib.Core.Path.{_≡_}
 use native.Mathlib.Omega.{arith}
 use borrow.Author.Needs.{needs}
 use denote.Ref.{now}
 use lib.ListN.{List·getD-eq-default}
-use Rattle.sheet.specs.Format.{byteAt, u16At}
-use Rattle.sheet.proofs.numbers.u16_at.Statement.{statement}
-use Rattle.sheet.proofs.numbers.u16_at.Tie as tie
+use Rattle.basics.specs.Numbers.{byteAt, u16At}
+use Rattle.basics.proofs.numbers.u16_at.Statement.{statement}
+use Rattle.basics.proofs.numbers.u16_at.Tie as tie
 
 add-if1 : tie.Need-add-if1
 add-if1 c = search needs

@@ -1,14 +1,13 @@
--- Laws of `range`, `keep` and `every`: lengths, elements, membership, and tests that agree. By induction on the list or on the count of the range.
+-- Laws of `range`, `keep` and `each`: lengths, elements, and tests that agree. By induction on the list or on the count of the range.
 use Prim.Native.Nat.{ℕ, zero, suc, _+_, _≤_, _<_, zero-le, suc-le-suc}
 use mathlib.Core.Path.{_≡_, refl, sym, ap, ap₂, _∙_}
-use mathlib.Core.Logic.{_⊎_, inl, inr}
-use mathlib.Core.Bool.{Bool, true, false, _&&_, and-eq-true-iff}
-use mathlib.Core.List.{List, [], _∷_, _++_, map, List·Memᴰ, List·Memᴰ·head, List·Memᴰ·tail, List·Memᴰ·not-nil, List·Memᴰ·cases-cons}
-use native.Mathlib.Nat.{le-step, add-zero, zero-add}
-use native.Mathlib.Decide.{ℕ-discrete}
+use mathlib.Core.Bool.{Bool, true, false, _&&_}
+use mathlib.Core.List.{List, [], _∷_, _++_, map, List·Memᴰ, List·Memᴰ·head, List·Memᴰ·tail}
+use native.Mathlib.Nat.{le-refl, le-step, add-zero, zero-add}
 use native.Mathlib.Omega.{arith}
 use lib.ListN.{length, getD}
-use Rattle.nodes.specs.Sets.{range, keep, keptIf, every}
+use Rattle.basics.specs.Lists.{range, keep, keptIf, each}
+use Rattle.basics.proofs.Members.{range-within}
 
 -- The numbers of a range.
 pub length-range : (first n : ℕ) → length (range first n) ≡ n
@@ -35,61 +34,13 @@ unfolding range
 map-suc-range first zero = refl
 map-suc-range first (suc n) = ap (λ (xs : List ℕ). suc first ∷ xs) (map-suc-range (suc first) n)
 
--- A number stands in a range just where it lies within its bounds.
-pub mem-range : (first n v : ℕ) → first ≤ v → v < first + n → List·Memᴰ v (range first n)
-unfolding range
-mem-range first zero v low high = absurd (omega arith)
-mem-range first (suc n) v low high = go (ℕ-discrete v first) (mem-range (suc first) n v)
-  where
-    go : Dec (v ≡ first) → (suc first ≤ v → v < suc first + n → List·Memᴰ v (range (suc first) n)) → List·Memᴰ v (first ∷ range (suc first) n)
-    go (yes e) rest = List·Memᴰ·head e
-    go (no e) rest = List·Memᴰ·tail (rest (omega arith) (omega arith))
-
-pub range-mem : (first n v : ℕ) → List·Memᴰ v (range first n) → (first ≤ v) × (v < first + n)
-unfolding range
-range-mem first zero v m = absurd (List·Memᴰ·not-nil m)
-range-mem first (suc n) v m = go (range-mem (suc first) n v) (List·Memᴰ·cases-cons m)
-  where
-    go : (List·Memᴰ v (range (suc first) n) → (suc first ≤ v) × (v < suc first + n)) → (v ≡ first) ⊎ List·Memᴰ v (range (suc first) n) → (first ≤ v) × (v < first + suc n)
-    go rest (inl e) = omega arith
-    go rest (inr i) = let b = rest i in omega arith
-
--- What `keep` keeps: a number of the list that passes the test, and every such number.
-mem-kept : (t : Bool) (v x : ℕ) (xs : List ℕ) → List·Memᴰ v (keptIf t x xs) → ((v ≡ x) × (t ≡ true)) ⊎ List·Memᴰ v xs
-mem-kept true v x xs m = go (List·Memᴰ·cases-cons m)
-  where
-    go : (v ≡ x) ⊎ List·Memᴰ v xs → ((v ≡ x) × (true ≡ true)) ⊎ List·Memᴰ v xs
-    go (inl e) = inl (e, refl)
-    go (inr i) = inr i
-mem-kept false v x xs m = inr m
-
-pub keep-mem : (p : ℕ → Bool) (xs : List ℕ) (v : ℕ) → List·Memᴰ v (keep p xs) → (p v ≡ true) × List·Memᴰ v xs
-keep-mem p [] v m = absurd (List·Memᴰ·not-nil m)
-keep-mem p (x ∷ xs) v m = go (keep-mem p xs v) (mem-kept (p x) v x (keep p xs) m)
-  where
-    go : (List·Memᴰ v (keep p xs) → (p v ≡ true) × List·Memᴰ v xs) → ((v ≡ x) × (p x ≡ true)) ⊎ List·Memᴰ v (keep p xs) → (p v ≡ true) × List·Memᴰ v (x ∷ xs)
-    go rest (inl e) = (ap p (e .0) ∙ e .1, List·Memᴰ·head (e .0))
-    go rest (inr i) = (rest i .0, List·Memᴰ·tail (rest i .1))
-
-kept-later : (t : Bool) (v x : ℕ) (xs : List ℕ) → List·Memᴰ v xs → List·Memᴰ v (keptIf t x xs)
-kept-later true v x xs m = List·Memᴰ·tail m
-kept-later false v x xs m = m
-
-pub mem-keep : (p : ℕ → Bool) (xs : List ℕ) (v : ℕ) → p v ≡ true → List·Memᴰ v xs → List·Memᴰ v (keep p xs)
-mem-keep p [] v t m = absurd (List·Memᴰ·not-nil m)
-mem-keep p (x ∷ xs) v t m = go (mem-keep p xs v t) (List·Memᴰ·cases-cons m)
-  where
-    go : (List·Memᴰ v xs → List·Memᴰ v (keep p xs)) → (v ≡ x) ⊎ List·Memᴰ v xs → List·Memᴰ v (keptIf (p x) x (keep p xs))
-    go rest (inl e) = rw (sym (ap p e) ∙ t) (List·Memᴰ·head e)
-    go rest (inr i) = kept-later (p x) v x (keep p xs) (rest i)
-
 -- Tests that agree on the list's numbers keep the same of them.
 pub keep-agree : (p q : ℕ → Bool) (xs : List ℕ) → ((v : ℕ) → List·Memᴰ v xs → p v ≡ q v) → keep p xs ≡ keep q xs
 keep-agree p q [] same = refl
 keep-agree p q (x ∷ xs) same = ap₂ (λ (t : Bool) (vs : List ℕ). keptIf t x vs) (same x (List·Memᴰ·head refl)) (keep-agree p q xs (λ v m. same v (List·Memᴰ·tail m)))
 
 pub keep-ext : (p q : ℕ → Bool) (first n : ℕ) → ((v : ℕ) → first ≤ v → v < first + n → p v ≡ q v) → keep p (range first n) ≡ keep q (range first n)
-keep-ext p q first n same = keep-agree p q (range first n) (λ v m. let b = range-mem first n v m in same v (b .0) (b .1))
+keep-ext p q first n same = keep-agree p q (range first n) (λ v m. let b = range-within first n v m in same v (b .0) (b .1))
 
 pub keep-ext-below : (p q : ℕ → Bool) (k : ℕ) → ((v : ℕ) → v < k → p v ≡ q v) → keep p (range 0 k) ≡ keep q (range 0 k)
 keep-ext-below p q k same = keep-ext p q 0 k (λ v low high. same v (omega arith))
@@ -143,15 +94,10 @@ pub keep-all : (p : ℕ → Bool) (xs : List ℕ) → ((v : ℕ) → List·Mem�
 keep-all p [] passes = refl
 keep-all p (x ∷ xs) passes = rw (passes x (List·Memᴰ·head refl)) (ap (λ (vs : List ℕ). x ∷ vs) (keep-all p xs (λ v m. passes v (List·Memᴰ·tail m))))
 
--- `every` says of each number of a list that it passes.
-pub every-mem : (p : ℕ → Bool) (vs : List ℕ) (v : ℕ) → every p vs ≡ true → List·Memᴰ v vs → p v ≡ true
-every-mem p [] v e m = absurd (List·Memᴰ·not-nil m)
-every-mem p (x ∷ vs) v e m = go (and-eq-true-iff (p x) (every p vs) .0 e) (every-mem p vs v) (List·Memᴰ·cases-cons m)
-  where
-    go : (p x ≡ true) × (every p vs ≡ true) → (every p vs ≡ true → List·Memᴰ v vs → p v ≡ true) → (v ≡ x) ⊎ List·Memᴰ v vs → p v ≡ true
-    go both rest (inl d) = ap p d ∙ both .0
-    go both rest (inr i) = rest (both .1) i
-
-pub mem-every : (p : ℕ → Bool) (vs : List ℕ) → ((v : ℕ) → List·Memᴰ v vs → p v ≡ true) → every p vs ≡ true
-mem-every p [] passes = refl
-mem-every p (x ∷ vs) passes = rw (passes x (List·Memᴰ·head refl)) (mem-every p vs (λ v m. passes v (List·Memᴰ·tail m)))
+-- What two functions give for the numbers of a range is the same where they agree on these.
+pub each-same : {A : Type 0} (f g : ℕ → List A) (first n : ℕ) → ((i : ℕ) → first ≤ i → i < first + n → f i ≡ g i) →
+    each (range first n) f ≡ each (range first n) g
+unfolding range
+each-same f g first zero same = refl
+each-same f g first (suc n) same =
+    ap₂ _++_ (same first (le-refl first) (omega arith)) (each-same f g (suc first) n (λ i low high. same i (omega arith) (omega arith)))

@@ -1,11 +1,11 @@
--- `record::put_u32` meets its contract: four stores, one behind the other. Assumes nothing.
+-- `numbers::put_u32` meets its contract: four stores, one behind the other. Assumes nothing.
 use native.Mathlib.Omega.{arith}
 use borrow.Author.Needs.{needs}
 use denote.Ref.{now}
 use lib.ListN.{length-set}
-use Rattle.guarantee.proofs.Records.{u32-stored}
-use Rattle.guarantee.proofs.record.put_u32.Statement.{statement}
-use Rattle.guarantee.proofs.record.put_u32.Tie as tie
+use Rattle.basics.proofs.Bytes.{u32-stored}
+use Rattle.basics.proofs.numbers.put_u32.Statement.{statement}
+use Rattle.basics.proofs.numbers.put_u32.Tie as tie
 
 cast-out : tie.Need-cast-out
 cast-out c = search needs

@@ -9,7 +9,7 @@ use borrow.Author.Tests.{ltb-true, ltb-false}
 use lib.Dec.{ltb}
 use lib.ListN.{length, take}
 use lib.Seq.{take-nil}
-use Rattle.nodes.specs.Sets.{range, keep, keptIf, bit, count}
+use Rattle.basics.specs.Lists.{range, keep, keptIf, bit, count}
 
 -- One number more.
 pub count-next : (p : ℕ → Bool) (v : ℕ) → count p (suc v) ≡ count p v + bit (p v)

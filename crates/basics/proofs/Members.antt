@@ -9,8 +9,7 @@ use native.Mathlib.Omega.{arith}
 use lib.Arith.{lt-of-le-ne}
 use lib.Dec.{eqb}
 use borrow.Author.Tests.{eqb-true, eqb-false}
-use Rattle.nodes.specs.Sets.{range}
-use Rattle.allocation.specs.Enumeration.{keep, each, all, find, isEmpty}
+use Rattle.basics.specs.Lists.{range, keptIf, keep, each, all, find, isEmpty}
 
 -- The numbers of a range.
 pub range-has : (first count x : ℕ) → first ≤ x → x < first + count → List·Memᴰ x (range first count)
@@ -79,7 +78,7 @@ module _ {A : Type 0} (test : A → Bool) where
   keep-has (z ∷ xs) x m e = go (test z) refl (λ later. keep-has xs x later e) (List·Memᴰ·cases-cons m)
     where
       go : (t : Bool) → test z ≡ t → (List·Memᴰ x xs → List·Memᴰ x (keep test xs)) → (x ≡ z) ⊎ List·Memᴰ x xs →
-          List·Memᴰ x (cond t (z ∷ keep test xs) (keep test xs))
+          List·Memᴰ x (keptIf t z (keep test xs))
       go true q rest (inl same) = List·Memᴰ·head same
       go true q rest (inr later) = List·Memᴰ·tail (rest later)
       go false q rest (inl same) = absurd (false≢true (sym q ∙ ap test (sym same) ∙ e))
@@ -95,7 +94,7 @@ module _ {A : Type 0} (test : A → Bool) where
       step q rest (inr later) = let found = rest later in (List·Memᴰ·tail (found .0), found .1)
 
       go : (t : Bool) → test z ≡ t → (List·Memᴰ x (keep test xs) → List·Memᴰ x xs × (test x ≡ true)) →
-          List·Memᴰ x (cond t (z ∷ keep test xs) (keep test xs)) → List·Memᴰ x (z ∷ xs) × (test x ≡ true)
+          List·Memᴰ x (keptIf t z (keep test xs)) → List·Memᴰ x (z ∷ xs) × (test x ≡ true)
       go true q rest n = step q rest (List·Memᴰ·cases-cons n)
       go false q rest n = let found = rest n in (List·Memᴰ·tail (found .0), found .1)
 

@@ -1,0 +1,7 @@
+pub mod Logic
+pub mod Members
+pub mod Lists
+pub mod Below
+pub mod Counts
+pub mod Cells
+pub mod Bytes

@@ -1,0 +1,47 @@
+-- Tests: joined by `&&`, equal to one another, and two comparisons that hold together.
+use Prim.Native.Nat.{ℕ, _≤_, _<_}
+use mathlib.Core.Bool.{Bool, true, false, _&&_, false≢true}
+use mathlib.Core.Path.{_≡_, refl, sym, _∙_}
+use native.Mathlib.Omega.{arith}
+use native.Mathlib.Decide.{decLe}
+use lib.Dec.{leb}
+use borrow.Author.Tests.{le-leb, lt-leb}
+
+-- Under a guard, only what holds where the guard does has to agree.
+pub under : (g : Bool) {x y : Bool} → (g ≡ true → x ≡ y) → (g && x) ≡ (g && y)
+under true h = h refl
+under false h = refl
+
+-- Both parts of a conjunction that holds.
+pub left-true : (a b : Bool) → (a && b) ≡ true → a ≡ true
+left-true true b h = refl
+left-true false b h = h
+
+pub right-true : (a b : Bool) → (a && b) ≡ true → b ≡ true
+right-true true b h = h
+right-true false b h = absurd (false≢true h)
+
+-- A test, however it is written, is another one where its value gives that one's.
+pub test-same : (t s : Bool) → (t ≡ true → s ≡ true) → (t ≡ false → s ≡ false) → t ≡ s
+test-same true s f g = sym (f refl)
+test-same false s f g = sym (g refl)
+
+-- Two tests are equal if each passes where the other does.
+pub bool-ext : (x y : Bool) → (x ≡ true → y ≡ true) → (y ≡ true → x ≡ true) → x ≡ y
+bool-ext true y f g = sym (f refl)
+bool-ext false true f g = g refl
+bool-ext false false f g = refl
+
+-- Two comparisons that hold together are one test.
+pub leb-same : (a b c d : ℕ) → (a ≤ b → c ≤ d) → (c ≤ d → a ≤ b) → leb a b ≡ leb c d
+leb-same a b c d to from = go (decLe a b)
+  where
+    go : Dec (a ≤ b) → leb a b ≡ leb c d
+    go (yes h) = le-leb a b h ∙ sym (le-leb c d (to h))
+    go (no h) =
+        let g : d < c = other (decLe c d) in
+        lt-leb a b (omega arith) ∙ sym (lt-leb c d g)
+      where
+        other : Dec (c ≤ d) → d < c
+        other (yes k) = absurd (h (from k))
+        other (no k) = omega arith
