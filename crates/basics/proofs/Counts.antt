@@ -1,5 +1,5 @@
 -- Counts of the numbers that pass a test, and the s lowest of them: as a list they are the first s of `keep`, as a test those with fewer than s passing below. By induction on the range, its start free.
-use Prim.Native.Nat.{ℕ, zero, suc, _+_, _-_, _≤_, _<_, zero-le}
+use Prim.Native.Nat.{ℕ, zero, suc, _+_, _-_, _≤_, _<_}
 use mathlib.Core.Path.{_≡_, refl, sym, ap, ap₂, _∙_}
 use mathlib.Core.Bool.{Bool, true, false, _&&_}
 use mathlib.Core.List.{List}
@@ -15,16 +15,6 @@ use Rattle.basics.specs.Lists.{range, keep, keptIf, bit, count}
 pub count-next : (p : ℕ → Bool) (v : ℕ) → count p (suc v) ≡ count p v + bit (p v)
 unfolding count
 count-next p v = refl
-
-bit-le : (t : Bool) → bit t ≤ 1
-bit-le true = le-refl 1
-bit-le false = zero-le
-
--- No more than all pass.
-pub count-le : (p : ℕ → Bool) (v : ℕ) → count p v ≤ v
-unfolding count
-count-le p zero = zero-le
-count-le p (suc v) = omega (arith, count-le p v, bit-le (p v))
 
 -- Tests that agree below v have the same count.
 pub count-ext : (p q : ℕ → Bool) (v : ℕ) → ((u : ℕ) → u < v → p u ≡ q u) → count p v ≡ count q v
@@ -45,26 +35,10 @@ count-mono p u v h =
     let e : u + (v - u) ≡ v = omega arith in
     rw e at (count-add p u (v - u))
 
-pub count-past : (p : ℕ → Bool) (u v : ℕ) → u < v → p u ≡ true → count p u < count p v
-count-past p u v h t =
-    let e : count p (suc u) ≡ count p u + 1 = rw t at (count-next p u) in
-    omega (arith, count-mono p (suc u) v h)
-
 -- The length of a keep, from any start.
 pub length-kept-bit : (t : Bool) (x : ℕ) (xs : List ℕ) → length (keptIf t x xs) ≡ bit t + length xs
 length-kept-bit true x xs = omega arith
 length-kept-bit false x xs = sym (zero-add (length xs))
-
-pub length-keep-from : (p : ℕ → Bool) (first n : ℕ) → count p first + length (keep p (range first n)) ≡ count p (first + n)
-unfolding range
-length-keep-from p first zero = simp add-zero
-length-keep-from p first (suc n) =
-    let e : first + suc n ≡ suc first + n = omega arith in
-    rw (e, ← (length-keep-from p (suc first) n), count-next p first, length-kept-bit (p first) first (keep p (range (suc first) n))) (omega arith)
-
-pub length-keep-range : (p : ℕ → Bool) (k : ℕ) → length (keep p (range 0 k)) ≡ count p k
-unfolding count
-length-keep-range p k = let e = length-keep-from p 0 k in simp zero-add at e
 
 -- The s lowest that pass, from any start: so many are left to take as s exceeds the count so far.
 pub take-keep-from : (p : ℕ → Bool) (s first n : ℕ) → keep (λ v. p v && ltb (count p v) s) (range first n) ≡ take (s - count p first) (keep p (range first n))

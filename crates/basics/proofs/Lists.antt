@@ -1,25 +1,12 @@
 -- Laws of `range`, `keep` and `each`: lengths, elements, and tests that agree. By induction on the list or on the count of the range.
-use Prim.Native.Nat.{ℕ, zero, suc, _+_, _≤_, _<_, zero-le, suc-le-suc}
+use Prim.Native.Nat.{ℕ, zero, suc, _+_, _≤_, _<_}
 use mathlib.Core.Path.{_≡_, refl, sym, ap, ap₂, _∙_}
-use mathlib.Core.Bool.{Bool, true, false, _&&_}
+use mathlib.Core.Bool.{Bool, true, false}
 use mathlib.Core.List.{List, [], _∷_, _++_, map, List·Memᴰ, List·Memᴰ·head, List·Memᴰ·tail}
-use native.Mathlib.Nat.{le-refl, le-step, add-zero, zero-add}
+use native.Mathlib.Nat.{le-refl, add-zero, zero-add}
 use native.Mathlib.Omega.{arith}
-use lib.ListN.{length, getD}
 use Rattle.basics.specs.Lists.{range, keep, keptIf, each}
 use Rattle.basics.proofs.Members.{range-within}
-
--- The numbers of a range.
-pub length-range : (first n : ℕ) → length (range first n) ≡ n
-unfolding range
-length-range first zero = refl
-length-range first (suc n) = ap suc (length-range (suc first) n)
-
-pub getD-range : (first n i d : ℕ) → i < n → getD (range first n) i d ≡ first + i
-unfolding range
-getD-range first zero i d h = absurd (omega arith)
-getD-range first (suc n) zero d h = sym (add-zero first)
-getD-range first (suc n) (suc i) d h = getD-range (suc first) n i d (omega arith) ∙ omega arith
 
 pub range-append : (first m n : ℕ) → range first (m + n) ≡ range first m ++ range (first + m) n
 unfolding range
@@ -45,23 +32,6 @@ keep-ext p q first n same = keep-agree p q (range first n) (λ v m. let b = rang
 pub keep-ext-below : (p q : ℕ → Bool) (k : ℕ) → ((v : ℕ) → v < k → p v ≡ q v) → keep p (range 0 k) ≡ keep q (range 0 k)
 keep-ext-below p q k same = keep-ext p q 0 k (λ v low high. same v (omega arith))
 
--- A keep of a keep, of a joined list and of a list of successors.
-keep-kept : (p : ℕ → Bool) (t : Bool) (x : ℕ) (xs : List ℕ) → keep p (keptIf t x xs) ≡ keptIf (t && p x) x (keep p xs)
-keep-kept p true x xs = refl
-keep-kept p false x xs = refl
-
-pub keep-keep : (p q : ℕ → Bool) (xs : List ℕ) → keep p (keep q xs) ≡ keep (λ v. q v && p v) xs
-keep-keep p q [] = refl
-keep-keep p q (x ∷ xs) = keep-kept p (q x) x (keep q xs) ∙ ap (keptIf (q x && p x) x) (keep-keep p q xs)
-
-kept-append : (t : Bool) (x : ℕ) (xs ys : List ℕ) → keptIf t x (xs ++ ys) ≡ keptIf t x xs ++ ys
-kept-append true x xs ys = refl
-kept-append false x xs ys = refl
-
-pub keep-append : (p : ℕ → Bool) (xs ys : List ℕ) → keep p (xs ++ ys) ≡ keep p xs ++ keep p ys
-keep-append p [] ys = refl
-keep-append p (x ∷ xs) ys = ap (keptIf (p x) x) (keep-append p xs ys) ∙ kept-append (p x) x (keep p xs) (keep p ys)
-
 map-kept : (t : Bool) (x : ℕ) (xs : List ℕ) → map suc (keptIf t x xs) ≡ keptIf t (suc x) (map suc xs)
 map-kept true x xs = refl
 map-kept false x xs = refl
@@ -74,15 +44,6 @@ keep-map-suc p (x ∷ xs) = ap (keptIf (p (suc x)) (suc x)) (keep-map-suc p xs) 
 pub keep-next : (p : ℕ → Bool) (k : ℕ) → keep p (range 0 (suc k)) ≡ keptIf (p 0) 0 (map suc (keep (λ v. p (suc v)) (range 0 k)))
 unfolding range
 keep-next p k = ap (keptIf (p 0) 0) (ap (keep p) (sym (map-suc-range 0 k)) ∙ keep-map-suc p (range 0 k))
-
--- A keep is no longer than its list.
-length-kept : (t : Bool) (x : ℕ) (xs : List ℕ) (n : ℕ) → length xs ≤ n → length (keptIf t x xs) ≤ suc n
-length-kept true x xs n h = suc-le-suc h
-length-kept false x xs n h = le-step h
-
-pub length-keep : (p : ℕ → Bool) (xs : List ℕ) → length (keep p xs) ≤ length xs
-length-keep p [] = zero-le
-length-keep p (x ∷ xs) = length-kept (p x) x (keep p xs) (length xs) (length-keep p xs)
 
 -- A test that nothing passes keeps nothing.
 pub keep-none : (p : ℕ → Bool) (xs : List ℕ) → ((v : ℕ) → List·Memᴰ v xs → p v ≡ false) → keep p xs ≡ []

@@ -142,7 +142,3 @@ module _ {A : Type 0} where
   pub none-empty : (xs : List A) → ((x : A) → List·Memᴰ x xs → ⊥) → xs ≡ []
   none-empty [] h = refl
   none-empty (z ∷ xs) h = absurd (h z (List·Memᴰ·head refl))
-
-  pub not-empty : (xs : List A) (x : A) → List·Memᴰ x xs → isEmpty xs ≡ false
-  not-empty [] x m = absurd (List·Memᴰ·not-nil m)
-  not-empty (z ∷ xs) x m = refl

@@ -9,7 +9,7 @@ use native.Mathlib.Numerals.{one-add}
 use native.Mathlib.Omega.{arith}
 use borrow.Author.Tests.{eqb-true, lt-ltb}
 use lib.Arith.{bin-ind}
-use lib.Bits.{bitAnd, bitOr, and-shr, or-shr, and-mod, or-mod, and-mask}
+use lib.Bits.{bitAnd, bitOr, and-shr, or-shr, and-mod, or-mod}
 use lib.Dec.{eqb, ltb, eqb·zero-suc, eqb·suc-zero, eqb·suc-suc, leb·suc-suc, leb·suc-zero, leb·zero}
 use lib.Pow.{pow-pos, pow-mono, shr-shr, shl-exact, lt-of-le-ones}
 use Rattle.nodes.specs.Sets.{has}
@@ -118,10 +118,6 @@ pub has-ext : (k a b : ℕ) → a < 2 ^ k → b < 2 ^ k → ((v : ℕ) → v < k
 has-ext k a b ha hb same =
     within-antisymm a b (λ v m. sym (same v (has-lt k a v ha m)) ∙ m) (λ v m. same v (has-lt k b v hb m) ∙ m)
 
--- A set below 2 ^ k is a part of the k lowest nodes, and only such a set has no member from k on.
-pub within-ones : (k set : ℕ) → set < 2 ^ k → Within set (2 ^ k - 1)
-within-ones k set below v m = has-ones k v ∙ lt-ltb v k (has-lt k set v below m)
-
 pub below-of-has : (k set : ℕ) → ((v : ℕ) → has set v ≡ true → v < k) → set < 2 ^ k
 below-of-has k set w = lt-of-le-ones k (within-le set (2 ^ k - 1) (λ v m. has-ones k v ∙ lt-ltb v k (w v m)))
 
@@ -142,10 +138,6 @@ within-power a j h v e = ap (has a) (eqb-true v j (sym (has-power j v) ∙ e)) �
 pub within-and : (a b : ℕ) → Within (bitAnd a b) a
 within-and a b v e = and-eq-true-iff (has a v) (has b v) .0 (sym (has-and a b v) ∙ e) .0
 
--- A set less one of its nodes, and less all that it shares with another.
-pub has-sub-power : (a j v : ℕ) → has a j ≡ true → has (a - 2 ^ j) v ≡ (has a v && not (eqb v j))
-has-sub-power a j v h = has-sub a (2 ^ j) v (within-power a j h) ∙ ap (λ (t : Bool). has a v && not t) (has-power j v)
-
 pub has-without : (a b v : ℕ) → has (a - bitAnd a b) v ≡ (has a v && not (has b v))
 has-without a b v = has-sub a (bitAnd a b) v (within-and a b) ∙ rw has-and (go (has a v) (has b v))
   where
@@ -156,8 +148,3 @@ has-without a b v = has-sub a (bitAnd a b) v (within-and a b) ∙ rw has-and (go
 -- A word of width w with bit v alone, as a shift makes it.
 pub shl-one : (w v : ℕ) → v < w → (1 * 2 ^ v) % 2 ^ w ≡ 2 ^ v
 shl-one w v h = shl-exact 1 v w (omega arith) (omega arith) ∙ one-mul (2 ^ v)
-
--- A bit, shifted to the lowest place and masked.
-pub shr-mask : (set v : ℕ) → eqb (bitAnd (set / 2 ^ v) 1) 1 ≡ has set v
-unfolding has
-shr-mask set v = ap (λ (n : ℕ). eqb n 1) (and-mask (set / 2 ^ v) 1)

@@ -3,20 +3,19 @@
 use Prim.Native.Nat.{ℕ, zero, suc, _+_, _-_, _*_, _/_, _%_, _^_, _<_}
 use mathlib.Core.Path.{_≡_, refl, sym, ap, ap₂, _∙_}
 use mathlib.Core.Logic.{_⊎_, inl, inr}
-use mathlib.Core.Bool.{Bool, true, false, not, _&&_, _||_}
+use mathlib.Core.Bool.{Bool, true, false, _&&_}
 use mathlib.Core.List.{List, [], _∷_, map, List·Memᴰ}
 use native.Mathlib.Nat.{pow-suc}
 use native.Mathlib.Omega.{arith}
 use borrow.Author.Tests.{lt-ltb}
 use lib.Arith.{lt-one}
-use lib.Bits.{bitAnd, bitOr}
 use lib.Count.{ones, ones-step}
 use lib.Dec.{eqb, ltb, leb·zero, leb·suc-zero, leb·suc-suc}
 use lib.ListN.{length, length-map, take}
 use lib.Pow.{ones-lt}
 use Rattle.basics.specs.Lists.{range, keptIf, keep, bit, count}
 use Rattle.nodes.specs.Sets.{has, members, setOf}
-use Rattle.nodes.proofs.Bits.{digit-cases, has-first, has-next, has-zero, has-or, has-and, has-ones, has-sub, has-without, has-ext, Within}
+use Rattle.nodes.proofs.Bits.{digit-cases, has-first, has-next, has-zero, has-ones, has-ext}
 use Rattle.basics.proofs.Members.{range-has, range-within, keep-has, keep-from}
 use Rattle.basics.proofs.Lists.{keep-ext-below, keep-none, keep-all, keep-next}
 use Rattle.basics.proofs.Counts.{length-kept-bit, keep-lowest}
@@ -93,23 +92,6 @@ setOf-range k =
     ∙ has-ext k (setOf (keep (λ v. true) (range 0 k))) (2 ^ k - 1) (setOf-keep-lt (λ v. true) k) (ones-lt k)
     (λ v h. has-setOf-below (λ v. true) k v h ∙ sym (has-ones k v ∙ lt-ltb v k h))
 
--- Members of the operations on words.
-pub members-or : (k a b : ℕ) → members k (bitOr a b) ≡ keep (λ v. has a v || has b v) (range 0 k)
-unfolding members
-members-or k a b = keep-ext-below (has (bitOr a b)) (λ v. has a v || has b v) k (λ v h. has-or a b v)
-
-pub members-and : (k a b : ℕ) → members k (bitAnd a b) ≡ keep (λ v. has a v && has b v) (range 0 k)
-unfolding members
-members-and k a b = keep-ext-below (has (bitAnd a b)) (λ v. has a v && has b v) k (λ v h. has-and a b v)
-
-pub members-sub : (k a b : ℕ) → Within b a → members k (a - b) ≡ keep (λ v. has a v && not (has b v)) (range 0 k)
-unfolding members
-members-sub k a b w = keep-ext-below (has (a - b)) (λ v. has a v && not (has b v)) k (λ v h. has-sub a b v w)
-
-pub members-without : (k a b : ℕ) → members k (a - bitAnd a b) ≡ keep (λ v. has a v && not (has b v)) (range 0 k)
-unfolding members
-members-without k a b = keep-ext-below (has (a - bitAnd a b)) (λ v. has a v && not (has b v)) k (λ v h. has-without a b v)
-
 pub members-zero : (k : ℕ) → members k 0 ≡ []
 unfolding members
 members-zero k = keep-none (has 0) (range 0 k) (λ v m. has-zero v)
@@ -142,11 +124,5 @@ pub take-members : (k set s : ℕ) → take s (members k set) ≡ keep (λ v. ha
 unfolding members
 take-members k set s = sym (keep-lowest (has set) s k)
 
-pub has-lowest : (k set s v : ℕ) → has (setOf (take s (members k set))) v ≡ (ltb v k && (has set v && ltb (count (has set) v) s))
-has-lowest k set s v = rw (take-members k set s) (has-setOf-keep (λ u. has set u && ltb (count (has set) u) s) k v)
-
 pub setOf-lowest-lt : (k set s : ℕ) → setOf (take s (members k set)) < 2 ^ k
 setOf-lowest-lt k set s = rw (take-members k set s) (setOf-keep-lt (λ v. has set v && ltb (count (has set) v) s) k)
-
-pub members-lowest : (k set s : ℕ) → members k (setOf (take s (members k set))) ≡ take s (members k set)
-members-lowest k set s = rw (take-members k set s) (members-setOf-keep (λ v. has set v && ltb (count (has set) v) s) k)

@@ -8,7 +8,7 @@ use lib.Bits.{bitAnd, and-le-l}
 use lib.Dec.{eqb}
 use Rattle.basics.proofs.Logic.{bool-ext}
 use Rattle.nodes.specs.Sets.{has, members, isWithin}
-use Rattle.nodes.proofs.Bits.{has-lt, has-and, has-ext, Within}
+use Rattle.nodes.proofs.Bits.{has-and, has-ext}
 use Rattle.basics.proofs.Members.{all-member, all-members}
 use Rattle.nodes.proofs.Members.{members-mem, mem-members}
 
@@ -20,10 +20,6 @@ isWithin-has k a b v e h m = all-member (has b) (members k a) v e (mem-members k
 pub has-isWithin : (k a b : ℕ) → ((v : ℕ) → v < k → has a v ≡ true → has b v ≡ true) → isWithin k a b ≡ true
 unfolding isWithin
 has-isWithin k a b w = all-members (has b) (members k a) (λ v m. let i = members-mem k a v m in w v (i .1) (i .0))
-
--- For a set below 2 ^ k the test says that a has nothing that b lacks.
-pub isWithin-within : (k a b : ℕ) → a < 2 ^ k → isWithin k a b ≡ true → Within a b
-isWithin-within k a b below e v m = isWithin-has k a b v e (has-lt k a v below m) m
 
 -- The word's test.
 implied : (s t : Bool) → (s ≡ true → t ≡ true) → (s && t) ≡ s

@@ -9,7 +9,7 @@ use borrow.Author.Tests.{eq-eqb, ne-eqb}
 use lib.Dec.{eqb}
 use lib.ListN.{take}
 use Rattle.basics.specs.Lists.{range, keep, keptIf}
-use Rattle.nodes.specs.Sets.{has, members, setOf}
+use Rattle.nodes.specs.Sets.{members, setOf}
 use Rattle.basics.proofs.Lists.{keep-ext, keep-none}
 use Rattle.nodes.proofs.Members.{members-setOf-keep, setOf-keep-lt}
 
@@ -41,10 +41,6 @@ pub rising-range : (first n k : ℕ) → first + n ≤ k → Rising first k (ran
 unfolding range
 rising-range first zero k h = tt
 rising-range first (suc n) k h = (omega arith, omega arith, rising-range (suc first) n k (omega arith))
-
-pub rising-members : (k set : ℕ) → Rising 0 k (members k set)
-unfolding members
-rising-members k set = rising-keep (has set) 0 k (range 0 k) (rising-range 0 k k (omega arith))
 
 -- Whether a number is in a list.
 abbrev isIn : ℕ → List ℕ → Bool

@@ -2,7 +2,7 @@
 use Prim.Native.Nat.{ℕ, zero, suc, _-_, _/_, _%_, _^_, _≤_, _<_}
 use mathlib.Core.Path.{_≡_, _∙_}
 use mathlib.Core.Logic.{_⊎_, inl, inr}
-use mathlib.Core.Bool.{true, false}
+use mathlib.Core.Bool.{true}
 use mathlib.Core.List.{_∷_, map}
 use native.Mathlib.Nat.{pow-suc}
 use native.Mathlib.Omega.{arith}
@@ -34,18 +34,6 @@ has-trailing (suc k) set low high = go (digit-cases set) (λ pos. has-trailing k
     go : (set % 2 ≡ 0) ⊎ (set % 2 ≡ 1) → (0 < set / 2 → has (set / 2) (trailingZeros k (set / 2)) ≡ true) → has set (trailingZeros (suc k) set) ≡ true
     go (inl e) rest = rw (trailing-even k set e, has-next set (trailingZeros k (set / 2))) (rest (omega arith))
     go (inr e) rest = rw (trailing-odd k set e, has-first set, e)
-
--- Nothing below it is.
-pub none-below : (k set v : ℕ) → v < trailingZeros k set → has set v ≡ false
-unfolding trailingZeros
-none-below zero set v h = absurd (omega arith)
-none-below (suc k) set v h = go v (digit-cases set) (none-below k (set / 2)) h
-  where
-    go : (u : ℕ) → (set % 2 ≡ 0) ⊎ (set % 2 ≡ 1) → ((w : ℕ) → w < trailingZeros k (set / 2) → has (set / 2) w ≡ false) → u < trailingZeros (suc k) set → has set u ≡ false
-    go zero (inl e) rest below = rw (has-first set, e)
-    go (suc u) (inl e) rest below = has-next set u ∙ rest u (omega (arith, trailing-even k set e))
-    go zero (inr e) rest below = absurd (omega (arith, trailing-odd k set e))
-    go (suc u) (inr e) rest below = absurd (omega (arith, trailing-odd k set e))
 
 -- It lies below the width, and its power is a part of the set.
 pub trailing-lt : (k set : ℕ) → 0 < set → set < 2 ^ k → trailingZeros k set < k

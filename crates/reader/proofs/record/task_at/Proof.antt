@@ -1,7 +1,6 @@
 -- `reader::record::task_at` meets its contract: each part is what its callee ensures. Assumes nothing.
 use native.Mathlib.Omega.{arith}
 use Rattle.sheet.specs.Format.{taskAt, levelAt, nodesAt}
-use Rattle.sheet.specs.Level.{bytesBeforeMasks}
 use borrow.Author.Needs.{needs}
 use Rattle.reader.proofs.record.task_at.Statement.{statement}
 use Rattle.reader.proofs.record.task_at.Tie as tie
