@@ -1,11 +1,11 @@
--- `main` is safe: a text is at most as long as the buffer that it is written to.
+-- `print_plan` is safe: a text is at most as long as the buffer that it is written to.
 use mathlib.Core.Path.{_≡_, sym}
 use native.Mathlib.Omega.{arith}
 use lib.ListN.{length}
 use lib.Seq.{length-take-le}
 use borrow.Author.Needs.{needs}
-use Rattle.plan_printer.proofs.main.Statement.{statement}
-use Rattle.plan_printer.proofs.main.Tie as tie
+use Rattle.plan_printer.proofs.print_plan.Statement.{statement}
+use Rattle.plan_printer.proofs.print_plan.Tie as tie
 
 buffer-requires : tie.Need-buffer-requires
 buffer-requires c κs = search needs
@@ -40,11 +40,20 @@ slice-aggregate-write-all c =
 write-all-requires : tie.Need-write-all-requires
 write-all-requires c κs = search needs
 
+slice-aggregate-write-all-2 : tie.Need-slice-aggregate-write-all-2
+slice-aggregate-write-all-2 c = search needs
+
+write-all-requires-2 : tie.Need-write-all-requires-2
+write-all-requires-2 c κs = search needs
+
 returns : tie.Need-returns
 returns c = search needs
 
-pub main-spec : {M : Type 1} → statement M
-main-spec =
+returns-2 : tie.Need-returns-2
+returns-2 c = search needs
+
+pub print-plan-spec : {M : Type 1} → statement M
+print-plan-spec =
     tie.close
     (tie.spec
     buffer-requires
@@ -57,4 +66,7 @@ main-spec =
     array-share-prefix-text
     slice-aggregate-write-all
     write-all-requires
-    returns)
+    slice-aggregate-write-all-2
+    write-all-requires-2
+    returns
+    returns-2)
