@@ -19,7 +19,7 @@ use Rattle.entries.specs.declared.state.TaskState.{TaskState}
 use Rattle.dispatcher.specs.declared.state.State.{State}
 use Rattle.dispatcher.specs.declared.tick.Ticked.{Ticked}
 use Rattle.dispatcher.specs.declared.tick.TickAnswer.the-variants.{Ran, Switched, Refused as TickRefused}
-use Rattle.entries.specs.Entry.{rowOf, withJob}
+use Rattle.entries.specs.Entry.{rowOf, withRow}
 use Rattle.dispatcher.specs.Holds.{entriesOf, modelOf, withModel}
 use Rattle.entries.specs.Sound.{entrySound}
 use Rattle.dispatcher.specs.Sound.{isSound}
@@ -113,7 +113,7 @@ ticked-fixed (r ∷ rows) [] = refl
 ticked-fixed (r ∷ rows) (x ∷ reports) = ap (λ (fs : List Fixed). r .fixed ∷ fs) (ticked-fixed rows reports)
 
 -- An entry is late after its part of the tick as its row is.
-pub late-after : (e : TaskState) (report : ℕ) (after : TaskState) → after ≡ withJob e (tickedRow (rowOf e) report .job)
+pub late-after : (e : TaskState) (report : ℕ) (after : TaskState) → after ≡ withRow e (tickedRow (rowOf e) report)
     → isLate (rowOf after) ≡ isLate (tickedRow (rowOf e) report)
 unfolding tickedRow rowOf
 late-after e report after stored = ap (λ (x : TaskState). isLate (rowOf x)) stored ∙ ap isLate (row-with e (tickedRow (rowOf e) report) refl)
@@ -195,7 +195,7 @@ module _ (s : State) (reports : List ℕ) (long : s .count ≤ length (s .entrie
       → wrong′ ≡ cond (eqb wrong noTask && missing) i wrong → late′ ≡ cond (eqb late noTask && reached) i late
       → missing ≡ not (isSubset (getD reports i 0) (runningSet (s .critical) (rowOf (entryAt s i))))
       → reached ≡ isLate (tickedRow (rowOf (entryAt s i)) (getD reports i 0))
-      → after ≡ withJob (entryAt s i) (tickedRow (rowOf (entryAt s i)) (getD reports i 0) .job)
+      → after ≡ withRow (entryAt s i) (tickedRow (rowOf (entryAt s i)) (getD reports i 0))
       → Scanned s reports (i + 1) typical′ critical′ wrong′ late′
       (record { processors = next .processors; count = next .count; critical = next .critical; entries = set (next .entries) i after })
   scanned-more i typical critical wrong late next typical′ critical′ wrong′ late′ missing reached after p same h small sound a b ts cs ws ls m r stored =

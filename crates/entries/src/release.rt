@@ -18,9 +18,9 @@ const TOO_EARLY: u8 = 13;
 
 // Refusals 12 and 13, put to one entry.
 pub fn entry_answer(e: TaskState, critical: bool, task: u8) -> Answer
-    ensures { λ r. ⌜ r ≡ refusedIf (critical && not (isHigh (fixedOf e))) lowInCritical task orElse refusedIf (e .alive || ltb (e .age) (e .deadline)) tooEarly task ⌝ }
+    ensures { λ r. ⌜ r ≡ refusedIf (critical && not (isHigh (fixedOf e))) lowInCritical task orElse refusedIf (e .job .alive || ltb (e .age) (e .deadline)) tooEarly task ⌝ }
 {
     let by_mode = refused_unless(!(critical & (e.level != HIGH)), LOW_IN_CRITICAL, task);
-    let by_job = refused_unless(!(e.alive | (e.age < e.deadline)), TOO_EARLY, task);
+    let by_job = refused_unless(!(e.job.alive | (e.age < e.deadline)), TOO_EARLY, task);
     or_else(by_mode, by_job)
 }

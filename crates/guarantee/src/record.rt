@@ -4,9 +4,9 @@ ghost use Prim.Native.Nat.{_+_, _*_, _≤_};
 ghost use lib.ListN.{length};
 ghost use lib.Seq.{sets};
 ghost use Rattle.sheet.specs.Encoding.{u32Bytes};
-ghost use Rattle.entries.specs.Entry.{jobOf};
+ghost use Rattle.entries.specs.Entry.{rowOf};
 ghost use Rattle.dispatcher.specs.Holds.{modelOf};
-ghost use Rattle.guarantee.specs.Record.{answerBytes, markByte, jobBytes, modelBytes, turnBytes};
+ghost use Rattle.guarantee.specs.Record.{answerBytes, markByte, taskBytes, modelBytes, turnBytes};
 use crate::turn::Turn;
 use dispatcher::state::State;
 use entries::state::TaskState;
@@ -31,11 +31,11 @@ fn put_u32(out: &mut [u8], at: usize, x: u32)
 
 fn put_task(out: &mut [u8], at: usize, e: TaskState)
     requires { ⌜ at + 9 ≤ length (now out) ⌝ }
-    ensures { λ _. ⌜ now (out .exit) ≡ sets (now (out .entry)) at (jobBytes (jobOf e)) ⌝ }
+    ensures { λ _. ⌜ now (out .exit) ≡ sets (now (out .entry)) at (taskBytes (rowOf e)) ⌝ }
 {
-    out[at] = mark_byte(e.alive);
+    out[at] = mark_byte(e.job.alive);
     put_u32(out, at + 1, e.age);
-    put_u32(out, at + 5, e.ended);
+    put_u32(out, at + 5, e.job.ended);
 }
 
 // What the state holds: the mode and its tasks.

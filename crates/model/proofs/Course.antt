@@ -59,7 +59,7 @@ count-zero false n e = (refl, omega arith)
 pub high-switched : (r : Row) → isHigh (r .fixed) ≡ true → switchedRow r ≡ r
 unfolding switchedRow
 high-switched r h =
-    ap (λ (b : Bool). record { fixed = r .fixed; job = record { age = r .job .age; ended = r .job .ended; alive = b } })
+    ap (λ (b : Bool). record { fixed = r .fixed; age = r .age; job = record { ended = r .job .ended; alive = b } })
     (ap (λ (t : Bool). r .job .alive && t) h ∙ and-true (r .job .alive))
 
 -- A high task's row, and every row while the mode stays typical, is after an accepted tick what its part of the tick makes of it;

@@ -109,7 +109,7 @@ pub record Live (len : ℕ → ℕ) (work span : ℕ) (r : Row) (critical : Bool
   pub partial : ℕ
   pub ticks : full₁ + full₂ + partial ≡ n
   pub typical : critical ≡ false → full₂ ≡ 0
-  pub age : r .job .age ≡ min n (r .fixed .deadline)
+  pub age : r .age ≡ min n (r .fixed .deadline)
   pub done : (v : ℕ) → v < r .fixed .nodes → has (r .job .ended) v ≡ ended len c v
   pub progress : Progress (r .fixed .nodes) (precedes (r .fixed .predecessors)) len (r .fixed .share .typical)
       (r .fixed .share .critical) span c full₁ full₂ partial

@@ -30,7 +30,7 @@ use Rattle.model.proofs.Course.{TrueFrom, true-from-start, ranAfter, tr
 
 -- While a job that keeps the budget is alive in typical mode, fewer than V ticks have passed.
 abbrev Before : ℕ → ℕ → Fixed → Type 0
-Before work span f = TypicalBelow work span f (f .virtual)
+Before work span f = TypicalBelow work span f (f .virtualDeadline)
 
 -- An alive job of task i that keeps such a budget, with true reports over the calls to come.
 record Honest (i : ℕ) (m : Model) (calls : List Call) : Type 0 where
@@ -60,7 +60,7 @@ none-late-intro j (r ∷ rows) h =
     go t q o e n = ap (λ (b : Bool). cond b (some q) o) e ∙ n
 
 -- No job is late if it is below V, where it is an alive one of a high task.
-below-not-late : (r : Row) → (isHigh (r .fixed) ≡ true → r .job .alive ≡ true → r .job .age < r .fixed .virtual) → isLate r ≡ false
+below-not-late : (r : Row) → (isHigh (r .fixed) ≡ true → r .job .alive ≡ true → r .age < r .fixed .virtualDeadline) → isLate r ≡ false
 unfolding isLate
 below-not-late r below = go (isLate r) refl (isHigh (r .fixed)) refl (r .job .alive) refl
   where
@@ -84,7 +84,7 @@ part-not-late m reports calls calm a i known = below-not-late part early
     part : Row
     part = tickedRow r (getD reports i 0)
 
-    early : isHigh (r .fixed) ≡ true → part .job .alive ≡ true → part .job .age < r .fixed .virtual
+    early : isHigh (r .fixed) ≡ true → part .job .alive ≡ true → part .age < r .fixed .virtualDeadline
     early high alive =
         settled (part-step i m (honest .live) reports calls a (tick-at m i reports a known) (honest .reports))
       where
@@ -93,7 +93,7 @@ part-not-late m reports calls calm a i known = below-not-late part early
             (and-eq-true-iff (r .job .alive) (not (allEnded (r .fixed .nodes) (joined r (getD reports i 0)))) .0 alive .0)
 
         settled : AfterTick (honest .live) (tickedRow r (getD reports i 0)) (ranAfter i m (tick reports) (honest .counts)) →
-            part .job .age < r .fixed .virtual
+            part .age < r .fixed .virtualDeadline
         settled (goes-on l most fixed) = omega (arith, typical-below l (calm .typical) (honest .before), l .age)
         settled (ends o) = absurd (true≢false (sym alive ∙ o .gone))
 

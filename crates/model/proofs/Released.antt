@@ -35,7 +35,7 @@ plannedFixed ts shares i = freshRow (taskIn ts i) (shareAt shares i) .fixed
 -- A high task's row says so, and has the virtual deadline of its typical share.
 pub high-fixed : (ts : TaskSet) (shares : List Share) (i : ℕ) → taskIn ts i .level ≡ highLevel →
     (isHigh (plannedFixed ts shares i) ≡ true)
-    × (plannedFixed ts shares i .virtual ≡ virtualDeadline (taskIn ts i .figures) (shareAt shares i .typical))
+    × (plannedFixed ts shares i .virtualDeadline ≡ virtualDeadline (taskIn ts i .figures) (shareAt shares i .typical))
 unfolding freshRow isHigh virtualOf isLow highLevel
 high-fixed ts shares i e = (
   eq-eqb (taskIn ts i .level) 1 e,

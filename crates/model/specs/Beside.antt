@@ -30,7 +30,7 @@ ReleasesApart ts shares calls =
 
 -- S7.2, of one task's job: the age is at most D, no node from k on has ended, and an alive job has a node that has not.
 pub record SoundRow (r : Row) : Type 0 where
-  pub age : r .job .age ≤ r .fixed .deadline
+  pub age : r .age ≤ r .fixed .deadline
   pub ended : r .job .ended < 2 ^ r .fixed .nodes
   pub alive : r .job .alive ≡ true → allEnded (r .fixed .nodes) (r .job .ended) ≡ false
 

@@ -69,10 +69,11 @@ noRow =
             nodes = 0;
             predecessors = [];
             deadline = 0;
-            virtual = 0;
+            virtualDeadline = 0;
             share = record { typical = 0; critical = 0 };
           };
-      job = record { age = 0; ended = 0; alive = false };
+      age = 0;
+      job = record { ended = 0; alive = false };
     }
 
 -- The row of task i.
@@ -84,7 +85,7 @@ unfoldable pub releaseRefusal : Model → ℕ → Option Refusal
 releaseRefusal m i =
     cond (leb (length (m .rows)) i) (refusal unknownTask noTask)
     (cond (m .critical && not (isHigh (rowAt m i .fixed))) (refusal lowInCritical i)
-    (cond (rowAt m i .job .alive || ltb (rowAt m i .job .age) (rowAt m i .fixed .deadline)) (refusal tooEarly i)
+    (cond (rowAt m i .job .alive || ltb (rowAt m i .age) (rowAt m i .fixed .deadline)) (refusal tooEarly i)
     none))
 
 -- S9.15, over the tasks from i on: the first task whose report has a node that is not running.

@@ -14,7 +14,7 @@ use Rattle.sheet.specs.Rules.{within}
 use Rattle.model.specs.Row.{isSubset, runningSet, tickedRow, isLate}
 use Rattle.entries.specs.declared.state.TaskState.{TaskState}
 use Rattle.dispatcher.specs.declared.tick.TickAnswer.the-variants.{Refused}
-use Rattle.entries.specs.Entry.{rowOf, withJob}
+use Rattle.entries.specs.Entry.{rowOf, withRow}
 use Rattle.entries.specs.Sound.{entrySound}
 use Rattle.entries.proofs.NodeSets.{within-subset}
 use Rattle.entries.proofs.Soundness.{few-nodes}
@@ -187,8 +187,8 @@ loop-again c =
     let reports = now (args .reports) in
     let report = getD reports (loop .i) 0 in
     let e = entryAt s (loop .i) in
-    let stored : c .before .before .ticked .result ≡ withJob e (tickedRow (rowOf e) report .job) =
-    c .before .before .ticked .ensures ∙ ap (λ (x : TaskState). withJob x (tickedRow (rowOf x) report .job)) (untouched turn) in
+    let stored : c .before .before .ticked .result ≡ withRow e (tickedRow (rowOf e) report) =
+    c .before .before .ticked .ensures ∙ ap (λ (x : TaskState). withRow x (tickedRow (rowOf x) report)) (untouched turn) in
     let late : c .before .is-late .result ≡ isLate (rowOf (c .before .before .ticked .result)) = c .before .is-late .ensures in
     let read = getD (loop .next .entries) (loop .i) noEntry in
     let typicals : c .passed .result .typical ≡ loop .pass .typical + read .share .typical = c .passed .ensures .0 in

@@ -23,7 +23,7 @@ unfolding isHigh highLevel fixedOf lowInCritical tooEarly
 returns c =
     let args = c .before .before .before .before .before .before .args in
     let e = args .e in
-    two-causes (args .critical && not (isHigh (fixedOf e))) (e .alive || ltb (e .age) (e .deadline)) 12 13 (args .task) _ _ _
+    two-causes (args .critical && not (isHigh (fixedOf e))) (e .job .alive || ltb (e .age) (e .deadline)) 12 13 (args .task) _ _ _
     (c .before .before .before .before .refused-unless .ensures)
     (c .before .refused-unless2 .ensures)
     (c .or-else .ensures)
