@@ -6,7 +6,8 @@ use mathlib.Core.List.{List, [], _∷_, _++_, map}
 use native.Mathlib.Omega.{arith}
 use lib.ListN.{length, getD, set, take, drop, length-map, List·getD-map}
 use Rattle.model.specs.Row.{Fixed, Row, fixedOf as rowFixed}
-use Rattle.model.specs.Step.{Model, noRow, rowAt}
+use Rattle.shares.specs.Totals.{shareIn}
+use Rattle.model.specs.Step.{Model, noRow, rowAt, granted}
 use Rattle.entries.specs.declared.state.TaskState.{TaskState}
 use Rattle.dispatcher.specs.declared.state.State.{State}
 use Rattle.entries.specs.Entry.{fixedOf, jobOf, rowOf, withRow}
@@ -127,6 +128,15 @@ module _ (s : State) (long : s .count ≤ length (s .entries)) where
       ap (getD (map rowOf (entriesOf s)) i) (sym no-entry-row)
       ∙ List·getD-map rowOf (entriesOf s) i noEntry
       ∙ ap rowOf (entries-at s long i h)
+
+  entry-share : (i : ℕ) → i < s .count → rowAt (modelOf s) i .fixed .share ≡ entryAt s i .share
+  unfolding rowOf fixedOf
+  entry-share i h = ap (λ (r : Row). r .fixed .share) (model-row i h)
+
+  -- S8.3: what the model grants a task is its entry's share in the mode.
+  pub granted-entry : (i : ℕ) → i < s .count → granted (modelOf s) i ≡ shareIn (s .critical) (entryAt s i .share)
+  unfolding granted modelOf
+  granted-entry i h = ap (shareIn (s .critical)) (entry-share i h)
 
 -- A state written back row by row.
 module _ (s : State) (critical : Bool) (rows : List Row) where

@@ -64,12 +64,12 @@ pub fn share_in(e: TaskState, critical: bool) -> u8
     }
 }
 
-// S8.3: the running nodes, as a set.
-pub fn running(e: TaskState, critical: bool) -> u32
+// S8.3: the running nodes, as a set, where the task is granted so many processors.
+pub fn running(e: TaskState, grant: u8) -> u32
     requires { ⌜ e .nodes ≤ 32 ⌝ }
-    ensures { λ r. ⌜ r ≡ runningSet critical (rowOf e) ⌝ }
+    ensures { λ r. ⌜ r ≡ runningSet grant (rowOf e) ⌝ }
 {
-    nodes::lowest(ready(e), share_in(e, critical) as u32)
+    nodes::lowest(ready(e), grant as u32)
 }
 
 // S8.4: the entry with a job that begins.

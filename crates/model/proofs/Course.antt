@@ -10,13 +10,14 @@ use lib.Bits.{bitOr}
 use lib.ListN.{length, getD}
 use Rattle.nodes.specs.Sets.{has, bit}
 use Rattle.nodes.proofs.Bits.{has-or}
+use Rattle.shares.specs.Totals.{shareIn}
 use Rattle.model.specs.Row.{Row, isHigh, runningSet, joined, tickedRow, isLate, switchedRow}
-use Rattle.model.specs.Step.{Model, Call, tick, rowAt}
+use Rattle.model.specs.Step.{Model, Call, tick, rowAt, granted, runningAt}
 use Rattle.model.specs.Run.{after, isAccepted, isTick, isReleaseOf, releasesIn, isRunning, runsOn, runsIn, isDue, TrueReports}
 use Rattle.model.proofs.Nodes.{all-ended-at, all-ended-intro}
 use Rattle.model.proofs.Steps.{next, Turn, same, begins, ticks, TickAt, Settled, stays-critical, stays-typical, turns, turn, release-of}
 use Rattle.model.proofs.Lasting.{length-step, kept-by-call}
-use Rattle.model.proofs.Job.{Live, Over, AfterTick, goes-on, ends, live-tick}
+use Rattle.model.proofs.Job.{pace, Live, Over, AfterTick, goes-on, ends, live-tick}
 
 -- The reports of task i are true over the calls, where each node v ran on c v ticks before them.
 unfoldable pub TrueFrom : ℕ → (ℕ → ℕ) → (ℕ → ℕ) → Model → List Call → Type 0
@@ -49,6 +50,11 @@ true-from-next i len c m x calls none h before reports rest e z a v =
   where
     grouped : (a b d : ℕ) → a + (b + d) ≡ a + b + d
     grouped a b d = omega arith
+
+-- S8.3: what task i is granted is its pace in the mode. Only here does the proof of a job learn what decides the grant.
+granted-paced : (m : Model) (i : ℕ) → granted m i ≡ shareIn (m .critical) (pace (rowAt m i .fixed))
+unfolding granted
+granted-paced m i = refl
 
 -- A count of calls that is 0 has none of its calls, neither the first nor among the rest.
 pub count-zero : (t : Bool) (n : ℕ) → cond t 1 0 + n ≡ 0 → (t ≡ false) × (n ≡ 0)
@@ -110,7 +116,7 @@ over-switched r o = record { nodes = o .nodes; gone = false-and (r .job .alive) 
 over-step : (m : Model) (x : Call) (i : ℕ) → i < length (m .rows) → isReleaseOf i m x ≡ false → Over (rowAt m i) →
     Over (rowAt (next m x) i)
 over-step m x i h none o =
-    kept-by-call Over (λ r critical report named. over-ticked r report) over-switched m x i h (λ e. absurd (true≢false (sym e ∙ none))) o
+    kept-by-call Over (λ r grant report named. over-ticked r report) over-switched m x i h (λ e. absurd (true≢false (sym e ∙ none))) o
 
 -- A job that is not alive stays so until the next Release of its task.
 abbrev Dead : Row → Type 0
@@ -127,7 +133,7 @@ dead-switched r e = false-and (r .job .alive) _ e
 pub dead-step : (m : Model) (x : Call) (i : ℕ) → i < length (m .rows) → isReleaseOf i m x ≡ false →
     rowAt m i .job .alive ≡ false → rowAt (next m x) i .job .alive ≡ false
 dead-step m x i h none e =
-    kept-by-call Dead (λ r critical report named. dead-ticked r report) dead-switched m x i h (λ t. absurd (true≢false (sym t ∙ none))) e
+    kept-by-call Dead (λ r grant report named. dead-ticked r report) dead-switched m x i h (λ t. absurd (true≢false (sym t ∙ none))) e
 
 pub over-after : (m : Model) (calls : List Call) (i : ℕ) → i < length (m .rows) → releasesIn i m calls ≡ 0 → Over (rowAt m i) →
     Over (rowAt (after m calls) i)
@@ -179,18 +185,18 @@ module _ {len : ℕ → ℕ} {work span : ℕ} (i : ℕ) (m : Model) {c : ℕ �
 
   pub true-head : (reports : List ℕ) (calls : List Call) → isAccepted m (tick reports) ≡ true →
       TrueFrom i len c m (tick reports ∷ calls) →
-      (v : ℕ) → has (getD reports i 0) v ≡ isDue (has (runningSet (m .critical) (rowAt m i)) v) (c v) (len v)
-  unfolding TrueFrom isRunning
+      (v : ℕ) → has (getD reports i 0) v ≡ isDue (has (runningSet (granted m i) (rowAt m i)) v) (c v) (len v)
+  unfolding TrueFrom isRunning runningAt runningSet
   true-head reports calls a h v =
       h [] reports calls refl refl a v
-      ∙ ap (λ (z : ℕ). isDue (has (runningSet (m .critical) (rowAt m i)) v) z (len v)) (add-zero (c v))
+      ∙ ap (λ (z : ℕ). isDue (has (runningSet (granted m i) (rowAt m i)) v) z (len v)) (add-zero (c v))
 
   pub ran-head : (reports : List ℕ) → isAccepted m (tick reports) ≡ true →
-      (v : ℕ) → ranAfter i m (tick reports) c v ≡ c v + bit (has (runningSet (m .critical) (rowAt m i)) v)
-  unfolding isRunning
+      (v : ℕ) → ranAfter i m (tick reports) c v ≡ c v + bit (has (runningSet (granted m i) (rowAt m i)) v)
+  unfolding isRunning runningAt runningSet
   ran-head reports a v =
-      ap (λ (b : Bool). c v + cond (b && has (runningSet (m .critical) (rowAt m i)) v) 1 0) a
-      ∙ ap (λ (z : ℕ). c v + z) (one (has (runningSet (m .critical) (rowAt m i)) v))
+      ap (λ (b : Bool). c v + cond (b && has (runningSet (granted m i) (rowAt m i)) v) 1 0) a
+      ∙ ap (λ (z : ℕ). c v + z) (one (has (runningSet (granted m i) (rowAt m i)) v))
     where
       one : (t : Bool) → cond t 1 0 ≡ bit t
       one true = refl
@@ -201,7 +207,7 @@ module _ {len : ℕ → ℕ} {work span : ℕ} (i : ℕ) (m : Model) {c : ℕ �
       TrueFrom i len c m (tick reports ∷ calls) →
       AfterTick live (tickedRow (rowAt m i) (getD reports i 0)) (ranAfter i m (tick reports) c)
   part-step reports calls a at h =
-      live-tick live (ranAfter i m (tick reports) c) (getD reports i 0) (at .named) (ran-head reports a)
+      live-tick live (granted m i) (granted-paced m i) (ranAfter i m (tick reports) c) (getD reports i 0) (at .named) (ran-head reports a)
       (true-head reports calls a h)
 
   tick-step : (reports : List ℕ) (calls : List Call) → isAccepted m (tick reports) ≡ true → TickAt m i reports →

@@ -20,14 +20,14 @@ use Rattle.model.specs.Plan.{freshRow, Planned}
 use Rattle.model.specs.Claim.{begun, EndInTime, Deadline}
 use Rattle.model.proofs.Steps.{next}
 use Rattle.model.proofs.Lasting.{fixed-step, same-fixed}
-use Rattle.model.proofs.Job.{Live, live-bounds}
+use Rattle.model.proofs.Job.{pace, Live, live-bounds}
 use Rattle.model.proofs.Released.{plannedFixed, high-fixed}
 use Rattle.model.proofs.Ending.{Kept, ended-by-deadline}
 
 -- A job that keeps the budget and had at most V full ticks in typical mode is alive only below D.
 abbrev Closes : ℕ → ℕ → Fixed → Type 0
 Closes work span f =
-    (f₁ f₂ p : ℕ) → f₁ ≤ f .virtualDeadline → p + 1 ≤ span → f .share .typical * f₁ + f .share .critical * f₂ + p + 1 ≤ work →
+    (f₁ f₂ p : ℕ) → f₁ ≤ f .virtualDeadline → p + 1 ≤ span → pace f .typical * f₁ + pace f .critical * f₂ + p + 1 ≤ work →
     f₁ + f₂ + p + 1 ≤ f .deadline
 
 -- A high job in time: n ticks after its release, f₁ of them full in typical mode.

@@ -6,7 +6,7 @@ use mathlib.Core.List.{List, [], _∷_, _++_}
 use lib.ListN.{replicate, getD}
 use Rattle.nodes.specs.Sets.{has, range, keep}
 use Rattle.model.specs.Row.{Row, highLevel, isHigh, isSubset, allEnded, predecessorsOf, isReady, ready, running, runningSet, releasedRow, joined, tickedRow, isLate, switchedRow}
-use Rattle.model.specs.Step.{Model, Call, release, tick, accepted, ran, switched, refused, step, rowAt, unknownTask, lowInCritical, tooEarly, wrongCount, notRunning, releaseRefusal, tickRefusal, released, ticked}
+use Rattle.model.specs.Step.{Model, Call, release, tick, accepted, ran, switched, refused, step, rowAt, granted, runningAt, unknownTask, lowInCritical, tooEarly, wrongCount, notRunning, releaseRefusal, tickRefusal, released, ticked}
 use Rattle.model.specs.Run.{after, answers, isAccepted, ticksIn, isRunning, runsIn, isDue}
 
 -- A row without a job: level, nodes, masks, D, V and both shares.
@@ -77,7 +77,7 @@ ladder = record { critical = false; rows = idle 1 4 (0 ∷ 1 ∷ 2 ∷ 5 ∷ [])
 
 -- What runs of a model's task 0 after a list of calls.
 abbrev runs : Model → List Call → List ℕ
-runs m calls = running (after m calls .critical) (rowAt (after m calls) 0)
+runs m calls = runningAt (after m calls) 0
 
 -- What calls change of a task (S7.1).
 record Changed : Type 0 where
@@ -128,9 +128,9 @@ pub record Worked : Type 0 where
       ≡ record { age = 2; ended = 1; alive = false }
   pub kept : changedAt (after mixed (three ++ silent ∷ silent ∷ [])) 2 ≡ record { age = 2; ended = 0; alive = true }
   -- S8.3: the lowest ready nodes run, as many as the share in the mode; a node that ends lets a later one start.
-  pub first-nodes : running false (rowAt (after fork (release 0 ∷ [])) 0) ≡ 0 ∷ 1 ∷ []
-  pub next-nodes : running false (rowAt (after fork (release 0 ∷ tick (1 ∷ []) ∷ [])) 0) ≡ 1 ∷ 2 ∷ []
-  pub in-critical : running true (rowAt (after fork (release 0 ∷ tick (1 ∷ []) ∷ [])) 0) ≡ 1 ∷ 2 ∷ 3 ∷ []
+  pub first-nodes : runs fork (release 0 ∷ []) ≡ 0 ∷ 1 ∷ []
+  pub next-nodes : runs fork (release 0 ∷ tick (1 ∷ []) ∷ []) ≡ 1 ∷ 2 ∷ []
+  pub in-critical : runningAt (record { critical = true; rows = after fork (release 0 ∷ tick (1 ∷ []) ∷ []) .rows }) 0 ≡ 1 ∷ 2 ∷ 3 ∷ []
   pub counted : runsIn 0 2 fork (release 0 ∷ tick (1 ∷ []) ∷ tick (2 ∷ []) ∷ tick (0 ∷ []) ∷ []) ≡ 2
   -- S8.2: a node waits until each of its predecessors has ended, although there is a processor for it: node 3 too, of whose
   -- predecessors node 0 has.
@@ -153,7 +153,7 @@ pub record Worked : Type 0 where
   pub afresh : changedAt (after (after alone endsInTime) (quiet 36 ++ release 0 ∷ [])) 0 ≡ record { age = 0; ended = 0; alive = true }
 
 worked : Worked
-unfolding has range highLevel isHigh isSubset allEnded predecessorsOf isReady ready running runningSet releasedRow joined tickedRow isLate switchedRow step rowAt unknownTask lowInCritical tooEarly wrongCount notRunning releaseRefusal tickRefusal released ticked isAccepted isRunning isDue
+unfolding has range highLevel isHigh isSubset allEnded predecessorsOf isReady ready running runningSet releasedRow joined tickedRow isLate switchedRow step rowAt granted runningAt unknownTask lowInCritical tooEarly wrongCount notRunning releaseRefusal tickRefusal released ticked isAccepted isRunning isDue
 worked =
     record {
       in-time = refl;

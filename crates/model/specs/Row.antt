@@ -6,7 +6,6 @@ use lib.Bits.{bitAnd, bitOr}
 use lib.Dec.{eqb, leb}
 use lib.ListN.{getD, take}
 use Rattle.shares.specs.declared.share.Share.{Share}
-use Rattle.shares.specs.Totals.{shareIn}
 use Rattle.nodes.specs.Sets.{has, range, keep, every, setOf}
 
 -- S7.1: a task's level, k, masks, D, V and shares. The sheet and the plan fix them; no call changes them.
@@ -72,13 +71,13 @@ isReady r v =
 unfoldable pub ready : Row → List ℕ
 ready r = keep (isReady r) (range 0 (r .fixed .nodes))
 
--- S8.3: of the ready nodes the first ones run, as many as the share in the mode allows.
-unfoldable pub running : Bool → Row → List ℕ
-running critical r = take (shareIn critical (r .fixed .share)) (ready r)
+-- S8.3: of the ready nodes the first ones run, as many as the task is granted processors at this moment.
+unfoldable pub running : ℕ → Row → List ℕ
+running grant r = take grant (ready r)
 
 -- The running nodes as a set.
-unfoldable pub runningSet : Bool → Row → ℕ
-runningSet critical r = setOf (running critical r)
+unfoldable pub runningSet : ℕ → Row → ℕ
+runningSet grant r = setOf (running grant r)
 
 -- S8.4: a job begins: it is alive, no node has ended, the age is 0.
 unfoldable pub releasedRow : Row → Row
