@@ -4,11 +4,11 @@ ghost use mathlib.Core.List.{[]};
 ghost use Prim.Native.Nat.{suc, min, _≤_, _<_};
 ghost use Rattle.nodes.specs.Sets.{keptIf, setOf};
 ghost use Rattle.shares.specs.Totals.{shareIn};
-ghost use Rattle.model.specs.Row.{isSubset, allEnded, ready, runningSet, releasedRow, tickedRow, isLate, switchedRow};
-ghost use Rattle.entries.specs.Entry.{rowOf, withRow};
+ghost use Rattle.model.specs.Row.{isSubset, allEnded, ready, runningSet, releasedRow, tickedRow, isLate, survives, switchedRow};
+ghost use Rattle.entries.specs.Entry.{fixedOf, rowOf, withRow};
 use crate::state::TaskState;
 
-pub const HIGH: u8 = 1;
+const HIGH: u8 = 1;
 
 // S8.5: whether all nodes have ended.
 pub fn all_ended(nodes: u8, ended: u32) -> bool
@@ -111,11 +111,18 @@ pub fn is_late(e: TaskState) -> bool
     (e.level == HIGH) & e.job.alive & (e.virtual_deadline <= e.age)
 }
 
-// S8.6: the entry in the mode turned critical: a low task's job is dropped.
+// S8.6: whether a switch leaves the task's job: that of a high task.
+pub fn survives(e: TaskState) -> bool
+    ensures { λ r. ⌜ r ≡ survives (fixedOf e) ⌝ }
+{
+    e.level == HIGH
+}
+
+// S8.6: the entry in the mode turned critical: a job that does not survive is dropped.
 pub fn switched(e: TaskState) -> TaskState
     ensures { λ r. ⌜ r ≡ withRow e (switchedRow (rowOf e)) ⌝ }
 {
-    let alive = e.job.alive & (e.level == HIGH);
+    let alive = e.job.alive & survives(e);
     let mut next = e;
     next.job.alive = alive;
     next

@@ -13,7 +13,7 @@ use Rattle.sheet.specs.declared.task.TaskSet.{TaskSet}
 use Rattle.shares.specs.declared.share.Share.{Share}
 use Rattle.sheet.specs.Answers.{noTask}
 use Rattle.sheet.specs.Format.{taskIn}
-use Rattle.model.specs.Row.{Fixed, Row, isHigh, releasedRow, tickedRow, switchedRow}
+use Rattle.model.specs.Row.{Fixed, Row, releasedRow, tickedRow, survives, switchedRow}
 use Rattle.model.specs.Step.{Model, Call, release, tick, refusal, unknownTask, lowInCritical, tooEarly, releaseRefusal, rowAt}
 use Rattle.model.specs.Run.{after, isNone, isAccepted, isTick, isReleaseOf, countCalls, ticksIn, releasesIn}
 use Rattle.model.specs.Plan.{freshRow, fresh, Planned}
@@ -28,7 +28,7 @@ use Rattle.model.proofs.Released.{after-append, known-task, since-relea
 release-aged : (m : Model) (i : ℕ) → isAccepted m (release i) ≡ true → rowAt m i .fixed .deadline ≤ rowAt m i .age
 unfolding isAccepted releaseRefusal
 release-aged m i e =
-    let aged = go (leb (length (m .rows)) i) (m .critical && not (isHigh (rowAt m i .fixed))) (rowAt m i .job .alive) _ e in
+    let aged = go (leb (length (m .rows)) i) (m .critical && not (survives (rowAt m i .fixed))) (rowAt m i .job .alive) _ e in
     omega (arith, ltb-false)
   where
     go : (unknown low alive early : Bool) →

@@ -11,7 +11,7 @@ use lib.ListN.{length, getD}
 use Rattle.nodes.specs.Sets.{has, bit}
 use Rattle.nodes.proofs.Bits.{has-or}
 use Rattle.shares.specs.Totals.{shareIn}
-use Rattle.model.specs.Row.{Row, isHigh, runningSet, joined, tickedRow, isLate, switchedRow}
+use Rattle.model.specs.Row.{Row, runningSet, joined, tickedRow, isLate, survives, switchedRow}
 use Rattle.model.specs.Step.{Model, Call, tick, rowAt, granted, runningAt}
 use Rattle.model.specs.Run.{after, isAccepted, isTick, isReleaseOf, releasesIn, isRunning, runsOn, runsIn, isDue, TrueReports}
 use Rattle.model.proofs.Nodes.{all-ended-at, all-ended-intro}
@@ -61,35 +61,35 @@ pub count-zero : (t : Bool) (n : ℕ) → cond t 1 0 + n ≡ 0 → (t ≡ false)
 count-zero true n e = absurd (omega arith)
 count-zero false n e = (refl, omega arith)
 
--- The switch leaves a high task's row.
-pub high-switched : (r : Row) → isHigh (r .fixed) ≡ true → switchedRow r ≡ r
+-- The switch leaves a row whose job survives it.
+survivor-switched : (r : Row) → survives (r .fixed) ≡ true → switchedRow r ≡ r
 unfolding switchedRow
-high-switched r h =
+survivor-switched r h =
     ap (λ (b : Bool). record { fixed = r .fixed; age = r .age; job = record { ended = r .job .ended; alive = b } })
     (ap (λ (t : Bool). r .job .alive && t) h ∙ and-true (r .job .alive))
 
--- A high task's row, and every row while the mode stays typical, is after an accepted tick what its part of the tick makes of it;
+-- The row of a job that survives a switch, and every row while the mode stays typical, is after an accepted tick what its part of the tick makes of it;
 -- and where the mode is typical after the tick, it was so before and no job is late.
 pub record PlainTick (m : Model) (i : ℕ) (reports : List ℕ) : Type 0 where
   pub row : rowAt (next m (tick reports)) i ≡ tickedRow (rowAt m i) (getD reports i 0)
   pub calm : next m (tick reports) .critical ≡ false →
       (m .critical ≡ false) × (isLate (rowAt (next m (tick reports)) i) ≡ false)
 
-high-ticked : (r : Row) (report : ℕ) → isHigh (r .fixed) ≡ true → isHigh (tickedRow r report .fixed) ≡ true
+survivor-ticked : (r : Row) (report : ℕ) → survives (r .fixed) ≡ true → survives (tickedRow r report .fixed) ≡ true
 unfolding tickedRow
-high-ticked r report h = h
+survivor-ticked r report h = h
 
 pub plain-tick : (m : Model) (i : ℕ) (reports : List ℕ) → TickAt m i reports →
-    (isHigh (rowAt m i .fixed) ≡ true) ⊎ (next m (tick reports) .critical ≡ false) → PlainTick m i reports
+    (survives (rowAt m i .fixed) ≡ true) ⊎ (next m (tick reports) .critical ≡ false) → PlainTick m i reports
 plain-tick m i reports at why = go why (at .settled)
   where
-    go : (isHigh (rowAt m i .fixed) ≡ true) ⊎ (next m (tick reports) .critical ≡ false) →
+    go : (survives (rowAt m i .fixed) ≡ true) ⊎ (next m (tick reports) .critical ≡ false) →
         Settled m (next m (tick reports)) i (tickedRow (rowAt m i) (getD reports i 0)) → PlainTick m i reports
     go w (stays-critical b n e) = record { row = e; calm = λ f. absurd (true≢false (sym n ∙ f)) }
     go w (stays-typical b n e l) = record { row = e; calm = λ f. (b, ap isLate e ∙ l) }
     go (inl h) (turns b n e) =
         record {
-          row = e ∙ high-switched (tickedRow (rowAt m i) (getD reports i 0)) (high-ticked (rowAt m i) (getD reports i 0) h);
+          row = e ∙ survivor-switched (tickedRow (rowAt m i) (getD reports i 0)) (survivor-ticked (rowAt m i) (getD reports i 0) h);
           calm = λ f. absurd (true≢false (sym n ∙ f));
         }
     go (inr h) (turns b n e) = absurd (true≢false (sym n ∙ h))
@@ -211,7 +211,7 @@ module _ {len : ℕ → ℕ} {work span : ℕ} (i : ℕ) (m : Model) {c : ℕ �
       (true-head reports calls a h)
 
   tick-step : (reports : List ℕ) (calls : List Call) → isAccepted m (tick reports) ≡ true → TickAt m i reports →
-      (isHigh (rowAt m i .fixed) ≡ true) ⊎ (next m (tick reports) .critical ≡ false) →
+      (survives (rowAt m i .fixed) ≡ true) ⊎ (next m (tick reports) .critical ≡ false) →
       TrueFrom i len c m (tick reports ∷ calls) →
       Moved live (isTick m (tick reports)) (rowAt (next m (tick reports)) i) (next m (tick reports) .critical)
       (ranAfter i m (tick reports) c)
@@ -233,9 +233,9 @@ module _ {len : ℕ → ℕ} {work span : ℕ} (i : ℕ) (m : Model) {c : ℕ �
           (λ f. (plain .calm f .0, ap isLate (sym (plain .row)) ∙ plain .calm f .1))
       go (ends o) = ended o
 
-  -- One call of a high task's alive job, or of any while the mode stays typical.
+  -- One call of an alive job that survives a switch, or of any while the mode stays typical.
   pub live-step : (x : Call) (calls : List Call) → i < length (m .rows) →
-      (isHigh (rowAt m i .fixed) ≡ true) ⊎ (next m x .critical ≡ false) →
+      (survives (rowAt m i .fixed) ≡ true) ⊎ (next m x .critical ≡ false) →
       isReleaseOf i m x ≡ false → TrueFrom i len c m (x ∷ calls) →
       Moved live (isTick m x) (rowAt (next m x) i) (next m x .critical) (ranAfter i m x c)
   live-step x calls known why none h = go (turn m i x known)
@@ -246,5 +246,5 @@ module _ {len : ℕ → ℕ} {work span : ℕ} (i : ℕ) (m : Model) {c : ℕ �
       go (ticks reports e a at) =
           subst (λ (y : Call). Moved live (isTick m y) (rowAt (next m y) i) (next m y .critical) (ranAfter i m y c)) (sym e)
           (tick-step reports calls (ap (isAccepted m) (sym e) ∙ a) at
-          (subst (λ (y : Call). (isHigh (rowAt m i .fixed) ≡ true) ⊎ (next m y .critical ≡ false)) e why)
+          (subst (λ (y : Call). (survives (rowAt m i .fixed) ≡ true) ⊎ (next m y .critical ≡ false)) e why)
           (subst (λ (y : Call). TrueFrom i len c m (y ∷ calls)) e h))

@@ -12,7 +12,7 @@ use Rattle.sheet.specs.declared.task.Budget.{Budget}
 use Rattle.sheet.specs.declared.task.TaskSet.{TaskSet}
 use Rattle.shares.specs.declared.share.Share.{Share}
 use Rattle.shares.proofs.Ends.{overload-ends, virtual-positive}
-use Rattle.model.specs.Row.{Fixed, Row, highLevel, isHigh, isLate}
+use Rattle.model.specs.Row.{Fixed, Row, highLevel, isHigh, isLate, survives}
 use Rattle.model.specs.Step.{Model, Call, rowAt}
 use Rattle.sheet.specs.Format.{taskIn}
 use Rattle.shares.specs.Totals.{shareAt}
@@ -49,6 +49,11 @@ unfolding isLate
 not-late r high alive e =
     let not-past = rw (high, alive) at e in omega (arith, leb-false)
 
+-- S8.6: the job of a high task survives a switch.
+high-survives : (f : Fixed) → isHigh f ≡ true → survives f ≡ true
+unfolding survives
+high-survives f high = high
+
 -- One more tick in time.
 timely-tick : {len : ℕ → ℕ} {work span : ℕ} {r r′ : Row} {critical critical′ : Bool} {c d : ℕ → ℕ} {n : ℕ} →
     (live : Live len work span r critical c n) → Timely work span (r′ .fixed) critical n (live .full₁) →
@@ -74,7 +79,7 @@ unfolding AtModel
 kept-timely len work span i =
     record {
       in-time = λ m calls c n live t. below live (t .early) (t .closes);
-      plain = λ m x calls n f₁ t. inl (t .high);
+      plain = λ m x calls n f₁ t. inl (high-survives (rowAt m i .fixed) (t .high));
       on-rest = λ m x calls n f₁ t mode.
           subst₂ (λ (f : Fixed) (b : Bool). Timely work span f b n f₁) (sym (fixed m x)) (sym mode) t;
       on-tick = λ m x calls c d n live t l most more calm.

@@ -5,7 +5,7 @@ use mathlib.Core.Path.{_≡_, refl, sym, ap, subst, _∙_}
 use mathlib.Core.Bool.{Bool, true, false, cond, not, true≢false, and-eq-true-iff}
 use mathlib.Core.List.{List, [], _∷_}
 use mathlib.Core.Option.{Option, none, some}
-use mathlib.Core.Logic.{inl}
+use mathlib.Core.Logic.{inr}
 use native.Mathlib.Omega.{arith}
 use borrow.Author.Tests.{leb-true, eqb-true}
 use lib.Dec.{eqb}
@@ -159,10 +159,10 @@ later m x calls i job =
       accepted = job .accepted;
     }
 
-honest-next : (m : Model) (x : Call) (calls : List Call) (i : ℕ) → i < length (m .rows) → isHigh (rowAt m i .fixed) ≡ true →
+honest-next : (m : Model) (x : Call) (calls : List Call) (i : ℕ) → i < length (m .rows) → next m x .critical ≡ false →
     isReleaseOf i m x ≡ false → rowAt (next m x) i .job .alive ≡ true → Honest i m (x ∷ calls) → Honest i (next m x) calls
-honest-next m x calls i known high no-release alive h =
-    go (live-step i m (h .live) x calls known (inl high) no-release (h .reports))
+honest-next m x calls i known typical no-release alive h =
+    go (live-step i m (h .live) x calls known (inr typical) no-release (h .reports))
   where
     before : Before (h .work) (h .span) (rowAt (next m x) i .fixed)
     before = subst (Before (h .work) (h .span)) (sym (same-fixed (next m x) m (fixed-step m x) i)) (h .before)
@@ -207,7 +207,7 @@ calm-next m x calls calm =
         goes no-release = was (rowAt m i .job .alive) refl
           where
             was : (t : Bool) → rowAt m i .job .alive ≡ t → Honest i (next m x) calls
-            was true e = honest-next m x calls i known high no-release alive (calm .alive i known high e)
+            was true e = honest-next m x calls i known (quiet-step m x calls calm .typical) no-release alive (calm .alive i known high e)
             was false e = absurd (true≢false (sym alive ∙ dead-step m x i known no-release e))
 
         go : Turn m i x → Honest i (next m x) calls

@@ -105,11 +105,15 @@ tickedRow r report =
 unfoldable pub isLate : Row → Bool
 isLate r = isHigh (r .fixed) && r .job .alive && leb (r .fixed .virtualDeadline) (r .age)
 
--- S8.6: what a switch does to one task: a low job is no longer alive, and its ended set stands.
+-- S8.6: whether a switch leaves the task's job: that of a high task.
+unfoldable pub survives : Fixed → Bool
+survives f = isHigh f
+
+-- S8.6: what a switch does to one task: a job that does not survive it is no longer alive, and its ended set stands.
 unfoldable pub switchedRow : Row → Row
 switchedRow r =
     record {
       fixed = r .fixed;
       age = r .age;
-      job = record { ended = r .job .ended; alive = r .job .alive && isHigh (r .fixed) };
+      job = record { ended = r .job .ended; alive = r .job .alive && survives (r .fixed) };
     }

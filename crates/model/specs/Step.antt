@@ -7,7 +7,7 @@ use lib.Dec.{eqb, leb, ltb}
 use lib.ListN.{length, getD, set}
 use Rattle.sheet.specs.Answers.{noTask}
 use Rattle.shares.specs.Totals.{shareIn}
-use Rattle.model.specs.Row.{Row, isHigh, isSubset, running, runningSet, releasedRow, tickedRow, isLate, switchedRow}
+use Rattle.model.specs.Row.{Row, isSubset, running, runningSet, releasedRow, tickedRow, isLate, survives, switchedRow}
 
 -- S10.2: the model holds the mode, critical or not, and a row for each task.
 pub record Model : Type 0 where
@@ -40,7 +40,7 @@ pub record Step : Type 0 where
 unfoldable pub unknownTask : ℕ
 unknownTask = 11
 
--- S9.12: a low task in critical mode.
+-- S9.12: a low task in critical mode: its job would not survive the switch.
 unfoldable pub lowInCritical : ℕ
 lowInCritical = 12
 
@@ -93,7 +93,7 @@ runningAt m i = running (granted m i) (rowAt m i)
 unfoldable pub releaseRefusal : Model → ℕ → Option Refusal
 releaseRefusal m i =
     cond (leb (length (m .rows)) i) (refusal unknownTask noTask)
-    (cond (m .critical && not (isHigh (rowAt m i .fixed))) (refusal lowInCritical i)
+    (cond (m .critical && not (survives (rowAt m i .fixed))) (refusal lowInCritical i)
     (cond (rowAt m i .job .alive || ltb (rowAt m i .age) (rowAt m i .fixed .deadline)) (refusal tooEarly i)
     none))
 
