@@ -17,8 +17,7 @@ use Rattle.sheet.specs.declared.answer.Answer.{Answer}
 use Rattle.sheet.specs.declared.answer.Answer.the-variants.{Accepted, Refused}
 use Rattle.shares.specs.Totals.{shareIn}
 use Rattle.model.specs.Row.{Row, running, runningSet}
-use Rattle.model.specs.Step.{noRow, rowAt}
-use Rattle.model.specs.Claim.{runningCount}
+use Rattle.model.specs.Step.{Model, noRow, rowAt, granted}
 use Rattle.model.proofs.Capacity.{running-count}
 use Rattle.dispatcher.specs.declared.state.State.{State}
 use Rattle.entries.specs.Entry.{fixedOf, rowOf}
@@ -94,16 +93,44 @@ pub pairs-length : (task : ℕ) (nodes : List ℕ) → length (pairsOf task node
 pairs-length task [] = refl
 pairs-length task (v ∷ nodes) = omega (arith, pairs-length task nodes)
 
-pub running-few : (critical : Bool) (r : Row) → length (running critical r) ≤ shareIn critical (r .fixed .share)
-unfolding runningCount
-running-few critical r = running-count critical r
-
-pub block-length : (critical : Bool) (task : ℕ) (r : Row) → length (block critical task r) ≡ 2 * shareIn critical (r .fixed .share)
+pub block-length : (grant task : ℕ) (r : Row) → length (block grant task r) ≡ 2 * grant
 unfolding block idle
-block-length critical task r =
-    simp (length-append, pairs-length, length-replicate) (omega (arith, running-few critical r))
+block-length grant task r =
+    simp (length-append, pairs-length, length-replicate) (omega (arith, running-count grant r))
 
-pub blocks-length : (critical : Bool) (i : ℕ) (rows : List Row) → length (blocks critical i rows) ≡ 2 * sharesIn critical rows
+-- What a row's task is granted: its share in the mode.
+abbrev pub grantIn : Bool → Row → ℕ
+grantIn critical r = shareIn critical (r .fixed .share)
+
+-- What runs of it.
+abbrev pub runningIn : Bool → Row → List ℕ
+runningIn critical r = running (grantIn critical r) r
+
+-- Its block.
+abbrev pub blockIn : Bool → ℕ → Row → List ℕ
+blockIn critical task r = block (grantIn critical r) task r
+
+-- The blocks of rows by the mode.
+abbrev pub blocksIn : Bool → ℕ → List Row → List ℕ
+blocksIn critical i [] = []
+blocksIn critical i (r ∷ rows) = blockIn critical i r ++ blocksIn critical (suc i) rows
+
+-- The model's blocks are these: each task is granted its share.
+blocks-by-mode : (grants : ℕ → ℕ) (critical : Bool) (first : ℕ) (rows : List Row)
+    → ((i : ℕ) → grants (first + i) ≡ grantIn critical (getD rows i noRow)) → blocks grants first rows ≡ blocksIn critical first rows
+blocks-by-mode grants critical first [] same = refl
+blocks-by-mode grants critical first (r ∷ rows) same =
+    let here : first + 0 ≡ first = omega arith in
+    ap₂ (λ (n : ℕ) (xs : List ℕ). block n first r ++ xs)
+    (rw here at (same 0))
+    (blocks-by-mode grants critical (suc first) rows (λ i. let next : suc first + i ≡ first + suc i = omega arith in rw next (same (suc i))))
+
+pub blocks-granted : (m : Model) → blocks (granted m) 0 (m .rows) ≡ blocksIn (m .critical) 0 (m .rows)
+unfolding granted rowAt
+blocks-granted m =
+    blocks-by-mode (granted m) (m .critical) 0 (m .rows) (λ i. let here : 0 + i ≡ i = omega arith in rw here)
+
+pub blocks-length : (critical : Bool) (i : ℕ) (rows : List Row) → length (blocksIn critical i rows) ≡ 2 * sharesIn critical rows
 blocks-length critical i [] = refl
 blocks-length critical i (r ∷ rows) = simp (length-append, block-length) (omega (arith, blocks-length critical (suc i) rows))
 
@@ -132,13 +159,13 @@ module _ (before pairs : List ℕ) (running share left : ℕ) (long : length pai
 
 -- The blocks of one task more.
 pub blocks-more : (critical : Bool) (first : ℕ) (rows : List Row) (i : ℕ) → i < length rows
-    → blocks critical first (take (suc i) rows) ≡ blocks critical first (take i rows) ++ block critical (first + i) (getD rows i noRow)
+    → blocksIn critical first (take (suc i) rows) ≡ blocksIn critical first (take i rows) ++ blockIn critical (first + i) (getD rows i noRow)
 blocks-more critical first [] i h = absurd (omega arith)
-blocks-more critical first (r ∷ rows) zero h = rw (add-zero first) (append-nil (block critical first r))
+blocks-more critical first (r ∷ rows) zero h = rw (add-zero first) (append-nil (blockIn critical first r))
 blocks-more critical first (r ∷ rows) (suc i) h =
     let place : suc first + i ≡ first + suc i = omega arith in
-    ap (λ (xs : List ℕ). block critical first r ++ xs) (blocks-more critical (suc first) rows i (omega arith) ∙ ap (λ (n : ℕ). blocks critical (suc first) (take i rows) ++ block critical n (getD rows i noRow)) place)
-    ∙ sym (append-assoc (block critical first r) (blocks critical (suc first) (take i rows)) (block critical (first + suc i) (getD rows i noRow)))
+    ap (λ (xs : List ℕ). blockIn critical first r ++ xs) (blocks-more critical (suc first) rows i (omega arith) ∙ ap (λ (n : ℕ). blocksIn critical (suc first) (take i rows) ++ blockIn critical n (getD rows i noRow)) place)
+    ∙ sym (append-assoc (blockIn critical first r) (blocksIn critical (suc first) (take i rows)) (blockIn critical (first + suc i) (getD rows i noRow)))
 
 pub shares-more : (critical : Bool) (rows : List Row) (i : ℕ) → i < length rows
     → sharesIn critical (take (suc i) rows) ≡ sharesIn critical (take i rows) + shareIn critical (getD rows i noRow .fixed .share)
@@ -162,7 +189,7 @@ shares-fit s t = go (s .critical)
 
 -- The board with the blocks of the first i tasks.
 abbrev pub boardTo : ℕ → Bool → List Row → ℕ → List ℕ
-boardTo processors critical rows i = blocks critical 0 (take i rows) ++ idle (processors - sharesIn critical (take i rows))
+boardTo processors critical rows i = blocksIn critical 0 (take i rows) ++ idle (processors - sharesIn critical (take i rows))
 
 module _ (processors : ℕ) (critical : Bool) (rows : List Row) (fit : sharesIn critical rows ≤ processors) where
   pub board-length : (i : ℕ) → length (boardTo processors critical rows i) ≡ 2 * processors
@@ -170,7 +197,7 @@ module _ (processors : ℕ) (critical : Bool) (rows : List Row) (fit : sharesIn 
   board-length i =
       omega (
         arith,
-        length-append (blocks critical 0 (take i rows)) (replicate (2 * (processors - sharesIn critical (take i rows))) unused),
+        length-append (blocksIn critical 0 (take i rows)) (replicate (2 * (processors - sharesIn critical (take i rows))) unused),
         blocks-length critical 0 (take i rows),
         length-replicate (2 * (processors - sharesIn critical (take i rows))) unused,
         shares-part critical rows i,
@@ -182,26 +209,26 @@ module _ (processors : ℕ) (critical : Bool) (rows : List Row) (fit : sharesIn 
   board-room i h = omega (arith, shares-more critical rows i h, shares-part critical rows (suc i))
 
   pub board-more : (i : ℕ) → i < length rows
-      → sets (boardTo processors critical rows i) (2 * sharesIn critical (take i rows)) (pairsOf i (running critical (getD rows i noRow)))
+      → sets (boardTo processors critical rows i) (2 * sharesIn critical (take i rows)) (pairsOf i (runningIn critical (getD rows i noRow)))
       ≡ boardTo processors critical rows (i + 1)
   unfolding block
   board-more i h =
       let r = getD rows i noRow in
-      let before = blocks critical 0 (take i rows) in
+      let before = blocksIn critical 0 (take i rows) in
       let left = processors - sharesIn critical (take i rows) in
       let share = shareIn critical (r .fixed .share) in
       let place : 2 * sharesIn critical (take i rows) ≡ length before = sym (blocks-length critical 0 (take i rows)) in
       let task : 0 + i ≡ i = omega arith in
       let behind : left - share ≡ processors - sharesIn critical (take (suc i) rows) = omega (arith, shares-more critical rows i h) in
-      ap (λ (n : ℕ). sets (boardTo processors critical rows i) n (pairsOf i (running critical r))) place
-      ∙ block-put before (pairsOf i (running critical r)) (length (running critical r)) share left
-      (pairs-length i (running critical r)) (running-few critical r) (omega (arith, shares-more critical rows i h, shares-part critical rows (suc i)))
+      ap (λ (n : ℕ). sets (boardTo processors critical rows i) n (pairsOf i (runningIn critical r))) place
+      ∙ block-put before (pairsOf i (runningIn critical r)) (length (runningIn critical r)) share left
+      (pairs-length i (runningIn critical r)) (running-count (grantIn critical r) r) (omega (arith, shares-more critical rows i h, shares-part critical rows (suc i)))
       ∙ ap₂ (λ (xs : List ℕ) (n : ℕ). xs ++ idle n)
-      (sym (blocks-more critical 0 rows i h ∙ ap (λ (n : ℕ). blocks critical 0 (take i rows) ++ block critical n r) task)) behind
+      (sym (blocks-more critical 0 rows i h ∙ ap (λ (n : ℕ). blocksIn critical 0 (take i rows) ++ blockIn critical n r) task)) behind
       ∙ ap (boardTo processors critical rows) (sym (add-one i))
 
   pub board-whole : (i : ℕ) → length rows ≤ i
-      → boardTo processors critical rows i ≡ blocks critical 0 rows ++ idle (processors - sharesIn critical rows)
+      → boardTo processors critical rows i ≡ blocksIn critical 0 rows ++ idle (processors - sharesIn critical rows)
   board-whole i h = rw (take-all i rows h)
 
 -- On the way through the tasks of a state: the next block's place, and the board so far.
@@ -218,11 +245,11 @@ module _ (s : State) (long : s .count ≤ length (s .entries)) (sound : isSound 
   unfolding rowOf fixedOf
   share-here i h = ap (λ (r : Row). shareIn (s .critical) (r .fixed .share)) (row-here i h)
 
-  nodes-here : (i : ℕ) → i < s .count → members 32 (runningSet (s .critical) (rowOf (entryAt s i))) ≡ running (s .critical) (getD (modelOf s .rows) i noRow)
+  nodes-here : (i : ℕ) → i < s .count → members 32 (runningSet (shareIn (s .critical) (entryAt s i .share)) (rowOf (entryAt s i))) ≡ runningIn (s .critical) (getD (modelOf s .rows) i noRow)
   unfolding rowOf fixedOf
   nodes-here i h =
-      running-members (s .critical) (rowOf (entryAt s i)) (few-nodes (entryAt s i) (sound-at s long sound i h))
-      ∙ ap (running (s .critical)) (sym (row-here i h))
+      running-members (shareIn (s .critical) (entryAt s i .share)) (rowOf (entryAt s i)) (few-nodes (entryAt s i) (sound-at s long sound i h))
+      ∙ ap (runningIn (s .critical)) (sym (row-here i h))
 
   pub boarding-none : (buffer : List ℕ) → buffer ≡ idle (s .processors) → Boarding s buffer 0 0
   boarding-none buffer e = record { place = refl; bytes = e ∙ ap idle (let z : s .processors ≡ s .processors - 0 = omega arith in z) }
@@ -241,7 +268,7 @@ module _ (s : State) (long : s .count ≤ length (s .entries)) (sound : isSound 
       )
 
   pub boarding-fits : (buffer : List ℕ) (at i : ℕ) → i < s .count → Boarding s buffer at i
-      → at + 2 * length (members 32 (runningSet (s .critical) (rowOf (entryAt s i)))) ≤ length buffer
+      → at + 2 * length (members 32 (runningSet (shareIn (s .critical) (entryAt s i .share)) (rowOf (entryAt s i)))) ≤ length buffer
   boarding-fits buffer at i h b =
       omega (
         arith,
@@ -249,11 +276,11 @@ module _ (s : State) (long : s .count ≤ length (s .entries)) (sound : isSound 
         boarding-room buffer at i h b,
         ap length (nodes-here i h),
         share-here i h,
-        running-few (s .critical) (getD (modelOf s .rows) i noRow),
+        running-count (grantIn (s .critical) (getD (modelOf s .rows) i noRow)) (getD (modelOf s .rows) i noRow),
       )
 
   pub boarding-more : (buffer : List ℕ) (at i : ℕ) → i < s .count → Boarding s buffer at i
-      → Boarding s (sets buffer at (pairsOf i (members 32 (runningSet (s .critical) (rowOf (entryAt s i)))))) (at + 2 * shareIn (s .critical) (entryAt s i .share)) (i + 1)
+      → Boarding s (sets buffer at (pairsOf i (members 32 (runningSet (shareIn (s .critical) (entryAt s i .share)) (rowOf (entryAt s i)))))) (at + 2 * shareIn (s .critical) (entryAt s i .share)) (i + 1)
   boarding-more buffer at i h b =
       let inside : i < length (modelOf s .rows) = omega (arith, model-length s long) in
       record {
@@ -268,7 +295,9 @@ module _ (s : State) (long : s .count ≤ length (s .entries)) (sound : isSound 
   pub boarding-all : (buffer : List ℕ) (at i : ℕ) → s .count ≤ i → Boarding s buffer at i → buffer ≡ boardBytes (s .processors) (modelOf s)
   unfolding boardBytes modelOf
   boarding-all buffer at i h b =
-      b .bytes ∙ board-whole (s .processors) (s .critical) (modelOf s .rows) (shares-fit s sound) i (omega (arith, model-length s long))
+      b .bytes
+      ∙ board-whole (s .processors) (s .critical) (modelOf s .rows) (shares-fit s sound) i (omega (arith, model-length s long))
+      ∙ ap (λ (xs : List ℕ). xs ++ idle (s .processors - sharesIn (s .critical) (modelOf s .rows))) (sym (blocks-granted (modelOf s)))
 
 -- Board by its answer.
 module _ (s : State) (bytes : ℕ) where

@@ -25,11 +25,10 @@ noEntry =
       nodes = 0;
       predecessors = [];
       deadline = 0;
-      threshold = 0;
+      «virtual_deadline» = 0;
       share = record { typical = 0; critical = 0 };
       age = 0;
-      ended = 0;
-      alive = false;
+      job = record { ended = 0; alive = false };
     }
 
 -- Entry i of the line.

@@ -17,7 +17,7 @@ use Rattle.model.proofs.Lasting.{KeptSound, fixed-step, length-step, sound-step
 use Rattle.entries.specs.declared.state.TaskState.{TaskState}
 use Rattle.dispatcher.specs.declared.state.State.{State}
 use Rattle.dispatcher.specs.declared.tick.TickAnswer.the-variants.{Refused as TickRefused}
-use Rattle.entries.specs.Entry.{fixedOf, jobOf, rowOf, withJob}
+use Rattle.entries.specs.Entry.{fixedOf, jobOf, rowOf, withRow}
 use Rattle.dispatcher.specs.Holds.{entriesOf, modelOf, withRows, withModel}
 use Rattle.entries.specs.Sound.{entrySound}
 use Rattle.dispatcher.specs.Sound.{entriesSound, isSound}
@@ -36,7 +36,7 @@ row-sound e t =
     let f = entry-facts e t in
     record {
       some = within-bounds 1 32 (e .nodes) (f .nodes) .0;
-      sound = record { age = f .age; ended = f .ended; alive = λ alive. unended (e .alive) (allEnded (e .nodes) (e .ended)) alive (f .alive) };
+      sound = record { age = f .age; ended = f .ended; alive = λ alive. unended (e .job .alive) (allEnded (e .nodes) (e .job .ended)) alive (f .alive) };
     }
   where
     unended : (a b : Bool) → a ≡ true → not (a && b) ≡ true → b ≡ false
@@ -47,24 +47,26 @@ ended-test : (a b : Bool) → (a ≡ true → b ≡ false) → not (a && b) ≡ 
 ended-test true b h = rw (h refl)
 ended-test false b h = refl
 
-job-kept : (e : TaskState) (j : Job) → SoundEntry e → KeptSound (record { fixed = fixedOf e; job = j }) → SoundEntry (withJob e j)
-unfolding fixedOf withJob
-job-kept e j f k =
+row-kept : (e : TaskState) (age : ℕ) (j : Job) → SoundEntry e → KeptSound (record { fixed = fixedOf e; age = age; job = j })
+    → SoundEntry (withRow e (record { fixed = fixedOf e; age = age; job = j }))
+unfolding fixedOf withRow
+row-kept e age j f k =
     record {
       level = f .level;
       nodes = f .nodes;
       masks = f .masks;
       deadline = f .deadline;
-      threshold = f .threshold;
+      virtual = f .virtual;
       age = k .sound .age;
       ended = k .sound .ended;
       alive = ended-test (j .alive) (allEnded (e .nodes) (j .ended)) (k .sound .alive);
     }
 
-entry-kept : (e : TaskState) (r : Row) → entrySound e ≡ true → r .fixed ≡ fixedOf e → KeptSound r → entrySound (withJob e (r .job)) ≡ true
+entry-kept : (e : TaskState) (r : Row) → entrySound e ≡ true → r .fixed ≡ fixedOf e → KeptSound r → entrySound (withRow e r) ≡ true
+unfolding withRow
 entry-kept e r t same kept =
-    sound-entry (withJob e (r .job))
-    (job-kept e (r .job) (entry-facts e t) (subst (λ (f : Fixed). KeptSound (record { fixed = f; job = r .job })) same kept))
+    sound-entry (withRow e r)
+    (row-kept e (r .age) (r .job) (entry-facts e t) (subst (λ (f : Fixed). KeptSound (record { fixed = f; age = r .age; job = r .job })) same kept))
 
 -- All entries.
 entries-kept : (n : ℕ) (es : List TaskState) (rows : List Row) → entriesSound (take n es) ≡ true

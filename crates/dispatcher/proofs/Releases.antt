@@ -12,12 +12,12 @@ use lib.ListN.{length, set}
 use Rattle.sheet.specs.declared.answer.Answer.{Answer}
 use Rattle.sheet.specs.declared.answer.Answer.the-variants.{Accepted, Refused}
 use Rattle.sheet.specs.Answers.{refusedIf, _orElse_}
-use Rattle.model.specs.Row.{isHigh, releasedRow}
+use Rattle.model.specs.Row.{releasedRow, survives}
 use Rattle.model.specs.Step.{Refusal, refusal, unknownTask, lowInCritical, tooEarly, step, stepBy, release, released, releaseRefusal}
 use Rattle.entries.specs.declared.state.TaskState.{TaskState}
 use Rattle.dispatcher.specs.declared.state.State.{State}
 use Rattle.dispatcher.specs.declared.release.Released.{Released}
-use Rattle.entries.specs.Entry.{fixedOf, jobOf, rowOf, withJob}
+use Rattle.entries.specs.Entry.{fixedOf, jobOf, rowOf, withRow}
 use Rattle.dispatcher.specs.Holds.{entriesOf, modelOf, withModel}
 use Rattle.dispatcher.specs.Sound.{isSound}
 use Rattle.dispatcher.specs.Answers.{refusalAnswer}
@@ -43,17 +43,17 @@ module _ (s : State) (i : ℕ) (long : s .count ≤ length (s .entries)) where
   unknown h = rw (model-length s long, le-leb (s .count) i h)
 
   entry-rows : (e : TaskState)
-      → refusalAnswer (cond (modelOf s .critical && not (isHigh (rowOf e .fixed))) (refusal lowInCritical i)
-      (cond (rowOf e .job .alive || ltb (rowOf e .job .age) (rowOf e .fixed .deadline)) (refusal tooEarly i) none))
-      ≡ (refusedIf (s .critical && not (isHigh (fixedOf e))) lowInCritical i orElse refusedIf (e .alive || ltb (e .age) (e .deadline)) tooEarly i)
+      → refusalAnswer (cond (modelOf s .critical && not (survives (rowOf e .fixed))) (refusal lowInCritical i)
+      (cond (rowOf e .job .alive || ltb (rowOf e .age) (rowOf e .fixed .deadline)) (refusal tooEarly i) none))
+      ≡ (refusedIf (s .critical && not (survives (fixedOf e))) lowInCritical i orElse refusedIf (e .job .alive || ltb (e .age) (e .deadline)) tooEarly i)
   unfolding modelOf rowOf fixedOf jobOf
-  entry-rows e = in-order (s .critical && not (isHigh (fixedOf e))) (e .alive || ltb (e .age) (e .deadline)) i
+  entry-rows e = in-order (s .critical && not (survives (fixedOf e))) (e .job .alive || ltb (e .age) (e .deadline)) i
 
   -- Refusals 12 and 13.
   pub known : i < s .count
       → refusalAnswer (releaseRefusal (modelOf s) i)
-      ≡ (refusedIf (s .critical && not (isHigh (fixedOf (entryAt s i)))) lowInCritical i
-      orElse refusedIf (entryAt s i .alive || ltb (entryAt s i .age) (entryAt s i .deadline)) tooEarly i)
+      ≡ (refusedIf (s .critical && not (survives (fixedOf (entryAt s i)))) lowInCritical i
+      orElse refusedIf (entryAt s i .job .alive || ltb (entryAt s i .age) (entryAt s i .deadline)) tooEarly i)
   unfolding releaseRefusal
   known h = rw (model-length s long, lt-leb (s .count) i h, model-row s long i h) (entry-rows (entryAt s i))
 
@@ -73,7 +73,7 @@ module _ (s : State) (i : ℕ) where
         processors = s .processors;
         count = s .count;
         critical = s .critical;
-        entries = set (s .entries) i (withJob (entryAt s i) (releasedRow (rowOf (entryAt s i)) .job));
+        entries = set (s .entries) i (withRow (entryAt s i) (releasedRow (rowOf (entryAt s i))));
       }
 
   pub release-unsound : isSound s ≡ false → record { state = s; answer = Refused 10 255 } ≡ releaseOf s i

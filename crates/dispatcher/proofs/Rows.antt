@@ -5,26 +5,27 @@ use mathlib.Core.Bool.{Bool}
 use mathlib.Core.List.{List, [], _∷_, _++_, map}
 use native.Mathlib.Omega.{arith}
 use lib.ListN.{length, getD, set, take, drop, length-map, List·getD-map}
-use Rattle.model.specs.Row.{Fixed, Job, Row, fixedOf as rowFixed}
-use Rattle.model.specs.Step.{Model, noRow, rowAt}
+use Rattle.model.specs.Row.{Fixed, Row, fixedOf as rowFixed}
+use Rattle.shares.specs.Totals.{shareIn}
+use Rattle.model.specs.Step.{Model, noRow, rowAt, granted}
 use Rattle.entries.specs.declared.state.TaskState.{TaskState}
 use Rattle.dispatcher.specs.declared.state.State.{State}
-use Rattle.entries.specs.Entry.{fixedOf, jobOf, rowOf, withJob}
+use Rattle.entries.specs.Entry.{fixedOf, jobOf, rowOf, withRow}
 use Rattle.dispatcher.specs.Holds.{entriesOf, modelOf, withRows, withModel}
 use Rattle.dispatcher.proofs.Entries.{noEntry, entryAt, entries-length, entries-at}
 
--- One entry: its own job put back changes nothing, a job put back is read again, and the last one counts.
-pub job-own : (e : TaskState) → withJob e (rowOf e .job) ≡ e
-unfolding withJob rowOf jobOf
-job-own e = refl
+-- One entry: its own row put back changes nothing, a row put back is read again, and the last one counts.
+pub row-own : (e : TaskState) → withRow e (rowOf e) ≡ e
+unfolding withRow rowOf jobOf
+row-own e = refl
 
-pub row-with : (e : TaskState) (r : Row) → r .fixed ≡ fixedOf e → rowOf (withJob e (r .job)) ≡ r
-unfolding rowOf fixedOf jobOf withJob
-row-with e r same = ap (λ (f : Fixed). record { fixed = f; job = r .job }) (sym same)
+pub row-with : (e : TaskState) (r : Row) → r .fixed ≡ fixedOf e → rowOf (withRow e r) ≡ r
+unfolding rowOf fixedOf jobOf withRow
+row-with e r same = ap (λ (f : Fixed). record { fixed = f; age = r .age; job = r .job }) (sym same)
 
-pub job-again : (e : TaskState) (a b : Job) → withJob (withJob e a) b ≡ withJob e b
-unfolding withJob
-job-again e a b = refl
+pub row-again : (e : TaskState) (a b : Row) → withRow (withRow e a) b ≡ withRow e b
+unfolding withRow
+row-again e a b = refl
 
 pub no-entry-row : rowOf noEntry ≡ noRow
 unfolding rowOf fixedOf jobOf
@@ -35,7 +36,7 @@ pub rows-own : (n : ℕ) (es : List TaskState) → withRows es (map rowOf (take 
 rows-own zero [] = refl
 rows-own zero (e ∷ es) = refl
 rows-own (suc n) [] = refl
-rows-own (suc n) (e ∷ es) = ap₂ (λ (x : TaskState) (xs : List TaskState). x ∷ xs) (job-own e) (rows-own n es)
+rows-own (suc n) (e ∷ es) = ap₂ (λ (x : TaskState) (xs : List TaskState). x ∷ xs) (row-own e) (rows-own n es)
 
 pub rows-with : (n : ℕ) (es : List TaskState) (rows : List Row) → map rowFixed rows ≡ map rowFixed (map rowOf (take n es))
     → map rowOf (take n (withRows es rows)) ≡ rows
@@ -56,7 +57,7 @@ rows-again (e ∷ es) [] [] same = refl
 rows-again (e ∷ es) [] (r ∷ others) same = absurd (omega arith)
 rows-again (e ∷ es) (r ∷ rows) [] same = absurd (omega arith)
 rows-again (e ∷ es) (r ∷ rows) (o ∷ others) same =
-    ap₂ (λ (x : TaskState) (xs : List TaskState). x ∷ xs) (job-again e (r .job) (o .job)) (rows-again es rows others (omega arith))
+    ap₂ (λ (x : TaskState) (xs : List TaskState). x ∷ xs) (row-again e r o) (rows-again es rows others (omega arith))
 
 pub rows-length : (es : List TaskState) (rows : List Row) → length (withRows es rows) ≡ length es
 rows-length [] rows = refl
@@ -71,14 +72,14 @@ rows-behind (e ∷ es) (r ∷ rows) zero same = absurd (omega arith)
 rows-behind (e ∷ es) (r ∷ rows) (suc i) same = rows-behind es rows i (omega arith)
 
 pub rows-more : (es : List TaskState) (rows : List Row) (r : Row) (i : ℕ) → length rows ≡ i → i < length es
-    → set (withRows es rows) i (withJob (getD es i noEntry) (r .job)) ≡ withRows es (rows ++ r ∷ [])
+    → set (withRows es rows) i (withRow (getD es i noEntry) r) ≡ withRows es (rows ++ r ∷ [])
 rows-more [] rows r i same h = absurd (omega arith)
 rows-more (e ∷ []) [] r zero same h = refl
 rows-more (e ∷ x ∷ es) [] r zero same h = refl
 rows-more (e ∷ es) [] r (suc i) same h = absurd (omega arith)
 rows-more (e ∷ es) (o ∷ rows) r zero same h = absurd (omega arith)
 rows-more (e ∷ es) (o ∷ rows) r (suc i) same h =
-    ap (λ (xs : List TaskState). withJob e (o .job) ∷ xs) (rows-more es rows r i (omega arith) (omega arith))
+    ap (λ (xs : List TaskState). withRow e o ∷ xs) (rows-more es rows r i (omega arith) (omega arith))
 
 pub rows-none : (es : List TaskState) → withRows es [] ≡ es
 rows-none [] = refl
@@ -93,12 +94,12 @@ rows-rest (suc n) (e ∷ es) (r ∷ rows) h = rows-rest n es rows (omega arith)
 
 -- One row set among those of the state.
 pub rows-set : (n : ℕ) (es : List TaskState) (r : Row) (i : ℕ) → i < n → n ≤ length es
-    → withRows es (set (map rowOf (take n es)) i r) ≡ set es i (withJob (getD es i noEntry) (r .job))
+    → withRows es (set (map rowOf (take n es)) i r) ≡ set es i (withRow (getD es i noEntry) r)
 rows-set zero es r i h long = absurd (omega arith)
 rows-set (suc n) [] r i h long = absurd (omega arith)
-rows-set (suc n) (e ∷ es) r zero h long = ap (λ (xs : List TaskState). withJob e (r .job) ∷ xs) (rows-own n es)
+rows-set (suc n) (e ∷ es) r zero h long = ap (λ (xs : List TaskState). withRow e r ∷ xs) (rows-own n es)
 rows-set (suc n) (e ∷ es) r (suc i) h long =
-    ap₂ (λ (x : TaskState) (xs : List TaskState). x ∷ xs) (job-own e) (rows-set n es r i (omega arith) (omega arith))
+    ap₂ (λ (x : TaskState) (xs : List TaskState). x ∷ xs) (row-own e) (rows-set n es r i (omega arith) (omega arith))
 
 -- The whole state.
 module _ (s : State) where
@@ -128,6 +129,15 @@ module _ (s : State) (long : s .count ≤ length (s .entries)) where
       ∙ List·getD-map rowOf (entriesOf s) i noEntry
       ∙ ap rowOf (entries-at s long i h)
 
+  entry-share : (i : ℕ) → i < s .count → rowAt (modelOf s) i .fixed .share ≡ entryAt s i .share
+  unfolding rowOf fixedOf
+  entry-share i h = ap (λ (r : Row). r .fixed .share) (model-row i h)
+
+  -- S8.3: what the model grants a task is its entry's share in the mode.
+  pub granted-entry : (i : ℕ) → i < s .count → granted (modelOf s) i ≡ shareIn (s .critical) (entryAt s i .share)
+  unfolding granted modelOf
+  granted-entry i h = ap (shareIn (s .critical)) (entry-share i h)
+
 -- A state written back row by row.
 module _ (s : State) (critical : Bool) (rows : List Row) where
   -- The state with these rows written.
@@ -139,7 +149,7 @@ module _ (s : State) (critical : Bool) (rows : List Row) where
   written-at next i same h = ap (λ (t : State). getD (t .entries) i noEntry) same ∙ rows-behind (s .entries) rows i h
 
   pub written-more : (next : State) (i : ℕ) (r : Row) (e : TaskState) → next ≡ writtenTo → length rows ≡ i → i < length (s .entries)
-      → e ≡ withJob (entryAt s i) (r .job)
+      → e ≡ withRow (entryAt s i) r
       → _≡_ {A = State} (record { processors = next .processors; count = next .count; critical = next .critical; entries = set (next .entries) i e })
       (withModel s (record { critical = critical; rows = rows ++ r ∷ [] }))
   unfolding withModel

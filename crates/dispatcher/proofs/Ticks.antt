@@ -13,13 +13,13 @@ use lib.Seq.{drop-cons, take-all, length-take-le}
 use Rattle.sheet.specs.Answers.{noTask}
 use Rattle.basics.specs.Numbers.{within}
 use Rattle.model.specs.Row.{Fixed, Row, isSubset, runningSet, tickedRow, isLate, switchedRow, fixedOf as rowFixed}
-use Rattle.model.specs.Step.{Model, Refusal, refusal, wrongCount, notRunning, step, ticked, noRow, rowAt, reportRefusal, tickRefusal, tickedRows, lowestLate, switching}
+use Rattle.model.specs.Step.{Model, Refusal, refusal, wrongCount, notRunning, step, ticked, noRow, rowAt, granted, reportRefusal, tickRefusal, tickedRows, lowestLate, switching}
 use Rattle.model.proofs.Steps.{length-ticked}
 use Rattle.entries.specs.declared.state.TaskState.{TaskState}
 use Rattle.dispatcher.specs.declared.state.State.{State}
 use Rattle.dispatcher.specs.declared.tick.Ticked.{Ticked}
 use Rattle.dispatcher.specs.declared.tick.TickAnswer.the-variants.{Ran, Switched, Refused as TickRefused}
-use Rattle.entries.specs.Entry.{rowOf, withJob}
+use Rattle.entries.specs.Entry.{rowOf, withRow}
 use Rattle.dispatcher.specs.Holds.{entriesOf, modelOf, withModel}
 use Rattle.entries.specs.Sound.{entrySound}
 use Rattle.dispatcher.specs.Sound.{isSound}
@@ -61,7 +61,7 @@ cond-not false a b = refl
 
 -- Refusal 15 put to the tasks from i on.
 unfoldable pub reportsFrom : State → List ℕ → ℕ → Option Refusal
-reportsFrom s reports i = reportRefusal (s .critical) i (map rowOf (drop i (entriesOf s))) (drop i reports)
+reportsFrom s reports i = reportRefusal (granted (modelOf s)) i (map rowOf (drop i (entriesOf s))) (drop i reports)
 
 -- The lowest late task from i on, after the tasks' parts of the tick.
 unfoldable pub lateFrom : State → List ℕ → ℕ → Option ℕ
@@ -71,11 +71,11 @@ lateFrom s reports i = lowestLate i (tickedRows (map rowOf (drop i (entriesOf s)
 module _ (s : State) (reports : List ℕ) (long : s .count ≤ length (s .entries)) (same : length reports ≡ s .count) where
   reports-open : (i : ℕ) → i < s .count
       → reportsFrom s reports i
-      ≡ cond (not (isSubset (getD reports i 0) (runningSet (s .critical) (rowOf (entryAt s i))))) (refusal notRunning i) (reportsFrom s reports (i + 1))
+      ≡ cond (not (isSubset (getD reports i 0) (runningSet (granted (modelOf s) i) (rowOf (entryAt s i))))) (refusal notRunning i) (reportsFrom s reports (i + 1))
   unfolding reportsFrom
   reports-open i h =
       rw (add-one i, left-next s long i h, drop-cons reports i 0 (omega arith))
-      (cond-not (isSubset (getD reports i 0) (runningSet (s .critical) (rowOf (entryAt s i)))) _ _)
+      (cond-not (isSubset (getD reports i 0) (runningSet (granted (modelOf s) i) (rowOf (entryAt s i)))) _ _)
 
   late-open : (i : ℕ) → i < s .count
       → lateFrom s reports i ≡ cond (isLate (tickedRow (rowOf (entryAt s i)) (getD reports i 0))) (some i) (lateFrom s reports (i + 1))
@@ -113,7 +113,7 @@ ticked-fixed (r ∷ rows) [] = refl
 ticked-fixed (r ∷ rows) (x ∷ reports) = ap (λ (fs : List Fixed). r .fixed ∷ fs) (ticked-fixed rows reports)
 
 -- An entry is late after its part of the tick as its row is.
-pub late-after : (e : TaskState) (report : ℕ) (after : TaskState) → after ≡ withJob e (tickedRow (rowOf e) report .job)
+pub late-after : (e : TaskState) (report : ℕ) (after : TaskState) → after ≡ withRow e (tickedRow (rowOf e) report)
     → isLate (rowOf after) ≡ isLate (tickedRow (rowOf e) report)
 unfolding tickedRow rowOf
 late-after e report after stored = ap (λ (x : TaskState). isLate (rowOf x)) stored ∙ ap isLate (row-with e (tickedRow (rowOf e) report) refl)
@@ -193,9 +193,9 @@ module _ (s : State) (reports : List ℕ) (long : s .count ≤ length (s .entrie
       → entrySound (entryAt s i) ≡ true → entryAt s i .share .typical < 256 → entryAt s i .share .critical < 256
       → typical′ ≡ typical + entryAt s i .share .typical → critical′ ≡ critical + entryAt s i .share .critical
       → wrong′ ≡ cond (eqb wrong noTask && missing) i wrong → late′ ≡ cond (eqb late noTask && reached) i late
-      → missing ≡ not (isSubset (getD reports i 0) (runningSet (s .critical) (rowOf (entryAt s i))))
+      → missing ≡ not (isSubset (getD reports i 0) (runningSet (granted (modelOf s) i) (rowOf (entryAt s i))))
       → reached ≡ isLate (tickedRow (rowOf (entryAt s i)) (getD reports i 0))
-      → after ≡ withJob (entryAt s i) (tickedRow (rowOf (entryAt s i)) (getD reports i 0) .job)
+      → after ≡ withRow (entryAt s i) (tickedRow (rowOf (entryAt s i)) (getD reports i 0))
       → Scanned s reports (i + 1) typical′ critical′ wrong′ late′
       (record { processors = next .processors; count = next .count; critical = next .critical; entries = set (next .entries) i after })
   scanned-more i typical critical wrong late next typical′ critical′ wrong′ late′ missing reached after p same h small sound a b ts cs ws ls m r stored =

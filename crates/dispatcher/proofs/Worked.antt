@@ -10,10 +10,10 @@ use Rattle.sheet.specs.declared.answer.Answer.the-variants.{Accepted, Refused}
 use Rattle.sheet.specs.Answers.{numberOf, taskOf}
 use Rattle.sheet.specs.Level.{levelLawful}
 use Rattle.sheet.specs.Rules.{maskLawful, masksLawful}
-use Rattle.model.specs.Row.{highLevel, isHigh, isSubset, allEnded, predecessorsOf, isReady, ready, running, runningSet, releasedRow, joined, tickedRow, isLate, switchedRow}
-use Rattle.model.specs.Step.{unknownTask, lowInCritical, tooEarly, wrongCount, notRunning, rowAt, releaseRefusal, tickRefusal, released, ticked, step}
+use Rattle.model.specs.Row.{highLevel, isHigh, isSubset, allEnded, predecessorsOf, isReady, ready, running, runningSet, releasedRow, joined, tickedRow, isLate, survives, switchedRow}
+use Rattle.model.specs.Step.{unknownTask, lowInCritical, tooEarly, wrongCount, notRunning, rowAt, granted, releaseRefusal, tickRefusal, released, ticked, step}
 use Rattle.entries.specs.declared.state.TaskState.{TaskState}
-use Rattle.entries.specs.Entry.{fixedOf, jobOf, rowOf, withJob}
+use Rattle.entries.specs.Entry.{fixedOf, jobOf, rowOf, withRow}
 use Rattle.entries.specs.Sound.{entrySound}
 use Rattle.dispatcher.specs.declared.state.State.{State}
 use Rattle.dispatcher.specs.declared.tick.TickAnswer.the-variants.{Ran, Switched, Refused as TickRefused}
@@ -31,11 +31,10 @@ entry level nodes typical critical age alive =
       nodes = nodes;
       predecessors = replicate nodes 0;
       deadline = 9;
-      threshold = 2;
+      «virtual_deadline» = 2;
       share = record { typical = typical; critical = critical };
       age = age;
-      ended = 0;
-      alive = alive;
+      job = record { ended = 0; alive = alive };
     }
 
 -- A high task that waits for its release, with these shares.
@@ -130,7 +129,7 @@ pub record Worked : Type 0 where
   pub board-calm : boardOf (calm false) (replicate 10 7) ≡ replicate 10 255
 
 worked : Worked
-unfolding has range levelLawful maskLawful allBelow masksLawful highLevel isHigh isSubset allEnded predecessorsOf isReady ready running runningSet releasedRow joined tickedRow isLate switchedRow unknownTask lowInCritical tooEarly wrongCount notRunning rowAt releaseRefusal tickRefusal released ticked step fixedOf jobOf rowOf withJob entrySound entriesOf modelOf withModel isSound releaseOf tickOf idle block boardBytes boardAnswer boardOf
+unfolding has range levelLawful maskLawful allBelow masksLawful highLevel isHigh isSubset allEnded predecessorsOf isReady ready running runningSet releasedRow joined tickedRow isLate survives switchedRow unknownTask lowInCritical tooEarly wrongCount notRunning rowAt granted releaseRefusal tickRefusal released ticked step fixedOf jobOf rowOf withRow entrySound entriesOf modelOf withModel isSound releaseOf tickOf idle block boardBytes boardAnswer boardOf
 worked =
     record {
       typical-most = refl;

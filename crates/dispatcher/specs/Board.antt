@@ -1,15 +1,15 @@
 -- S8.8: Board. Which node each processor runs, as M pairs of bytes.
 use Prim.Native.Nat.{ℕ, suc, _-_, _*_}
-use mathlib.Core.Bool.{Bool, not}
+use mathlib.Core.Bool.{not}
 use mathlib.Core.List.{List, [], _∷_, _++_}
 use lib.Dec.{eqb}
 use lib.ListN.{length, replicate}
 use Rattle.sheet.specs.declared.answer.Answer.{Answer}
 use Rattle.sheet.specs.declared.answer.Answer.the-variants.{Accepted, Refused}
 use Rattle.sheet.specs.Answers.{noTask, refusedIf, _orElse_}
-use Rattle.shares.specs.Totals.{shareIn, shareTotal}
+use Rattle.shares.specs.Totals.{shareTotal}
 use Rattle.model.specs.Row.{Row, running}
-use Rattle.model.specs.Step.{Model}
+use Rattle.model.specs.Step.{Model, granted}
 use Rattle.dispatcher.specs.declared.state.State.{State}
 use Rattle.dispatcher.specs.declared.board.Boarded.{Boarded}
 use Rattle.dispatcher.specs.Holds.{modelOf, sharesOf}
@@ -29,20 +29,19 @@ abbrev pub pairsOf : ℕ → List ℕ → List ℕ
 pairsOf task [] = []
 pairsOf task (v ∷ nodes) = task ∷ v ∷ pairsOf task nodes
 
--- S8.8: a task's block, as long as its share (S5.4): the running nodes, and behind them processors that run nothing.
-unfoldable pub block : Bool → ℕ → Row → List ℕ
-block critical task r =
-    pairsOf task (running critical r) ++ idle (shareIn critical (r .fixed .share) - length (running critical r))
+-- S8.8: a task's block, as long as what it is granted (S5.4): the running nodes, and behind them processors that run nothing.
+unfoldable pub block : ℕ → ℕ → Row → List ℕ
+block grant task r = pairsOf task (running grant r) ++ idle (grant - length (running grant r))
 
--- S5.4: the blocks of these tasks, one behind the other; the first is task i.
-abbrev pub blocks : Bool → ℕ → List Row → List ℕ
-blocks critical i [] = []
-blocks critical i (r ∷ rows) = block critical i r ++ blocks critical (suc i) rows
+-- S5.4: the blocks of these tasks, each with its grant by number, one behind the other; the first is task i.
+abbrev pub blocks : (ℕ → ℕ) → ℕ → List Row → List ℕ
+blocks grants i [] = []
+blocks grants i (r ∷ rows) = block (grants i) i r ++ blocks grants (suc i) rows
 
 -- S8.8: the board: the blocks, and the processors behind all of them.
 unfoldable pub boardBytes : ℕ → Model → List ℕ
 boardBytes processors m =
-    blocks (m .critical) 0 (m .rows) ++ idle (processors - shareTotal (m .critical) (sharesOf (m .rows)))
+    blocks (granted m) 0 (m .rows) ++ idle (processors - shareTotal (m .critical) (sharesOf (m .rows)))
 
 -- S9.10, S9.16: Board's answer, where the buffer has so many bytes.
 unfoldable pub boardAnswer : State → ℕ → Answer

@@ -5,7 +5,7 @@ use Rattle.shares.specs.declared.share.Share.{Share}
 use Rattle.model.specs.Row.{Row}
 use Rattle.model.specs.Step.{Model}
 use Rattle.entries.specs.declared.state.TaskState.{TaskState}
-use Rattle.entries.specs.Entry.{rowOf, withJob}
+use Rattle.entries.specs.Entry.{rowOf, withRow}
 use Rattle.dispatcher.specs.declared.state.State.{State}
 
 -- S7.3: the entries that are read, those of the n tasks.
@@ -20,13 +20,13 @@ modelOf s = record { critical = s .critical; rows = map rowOf (entriesOf s) }
 abbrev pub sharesOf : List Row → List Share
 sharesOf rows = map (λ r. r .fixed .share) rows
 
--- The entries with the jobs of the rows. S7.3: one that no row stands for comes back as it was.
+-- The entries with the ages and the jobs of the rows. S7.3: one that no row stands for comes back as it was.
 abbrev pub withRows : List TaskState → List Row → List TaskState
 withRows [] rows = []
 withRows (e ∷ entries) [] = e ∷ entries
-withRows (e ∷ entries) (r ∷ rows) = withJob e (r .job) ∷ withRows entries rows
+withRows (e ∷ entries) (r ∷ rows) = withRow e r ∷ withRows entries rows
 
--- S10.3: the state with a model's mode and jobs, and all else as it was.
+-- S10.3: the state with a model's mode, ages and jobs, and all else as it was.
 unfoldable pub withModel : State → Model → State
 withModel s m =
     record {

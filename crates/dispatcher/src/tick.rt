@@ -15,6 +15,7 @@ use crate::sound::ranges_kept;
 use crate::state::State;
 use entries::entry::is_late;
 use entries::entry::running;
+use entries::entry::share_in;
 use entries::entry::switched;
 use entries::entry::ticked;
 use entries::pass::no_pass;
@@ -100,7 +101,8 @@ pub fn tick(state: State, reports: &[u32]) -> Ticked
             return refused(state, NOT_SOUND, NO_TASK);
         }
         let report = reports[i as usize];
-        let wrong = !nodes::is_within(report, running(e, state.critical));
+        let grant = share_in(e, state.critical);
+        let wrong = !nodes::is_within(report, running(e, grant));
         let after = ticked(e, report);
         pass = passed(pass, i, e.share, wrong, is_late(after));
         next.entries[i as usize] = after;

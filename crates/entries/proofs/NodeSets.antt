@@ -16,7 +16,6 @@ use Rattle.basics.proofs.Lists.{keep-none}
 use Rattle.nodes.proofs.Members.{setOf-keep-lt, has-setOf-keep}
 use Rattle.nodes.proofs.Parts.{and-eq-isWithin}
 use Rattle.nodes.proofs.Rising.{Rising, rising-range, rising-keep, rising-take, members-setOf, setOf-lt}
-use Rattle.shares.specs.Totals.{shareIn}
 use Rattle.model.specs.Row.{Row, isSubset, allEnded, predecessorsOf, isReady, ready, running, runningSet}
 
 -- For a word, the test of every member is the subset test.
@@ -89,21 +88,21 @@ ready-less-ended r set alive e =
     (and-comm (isUnblocked r v) (not (has ended v))))
 
 -- The lowest of the ready nodes, as a set.
-pub lowest-ready : (critical : Bool) (r : Row) → r .fixed .nodes ≤ 32
-    → setOf (take (shareIn critical (r .fixed .share)) (members 32 (setOf (ready r)))) ≡ runningSet critical r
+pub lowest-ready : (grant : ℕ) (r : Row) → r .fixed .nodes ≤ 32
+    → setOf (take grant (members 32 (setOf (ready r)))) ≡ runningSet grant r
 unfolding runningSet running ready
-lowest-ready critical r h =
-    ap (λ (vs : List ℕ). setOf (take (shareIn critical (r .fixed .share)) vs))
+lowest-ready grant r h =
+    ap (λ (vs : List ℕ). setOf (take grant vs))
     (members-setOf 32 (keep (isReady r) (range 0 (r .fixed .nodes)))
     (rising-keep (isReady r) 0 32 (range 0 (r .fixed .nodes)) (rising-range 0 (r .fixed .nodes) 32 (omega arith))))
 
 -- The running nodes rise, so the set of them gives the list back.
-pub running-rises : (critical : Bool) (r : Row) (k : ℕ) → r .fixed .nodes ≤ k → Rising 0 k (running critical r)
+pub running-rises : (grant : ℕ) (r : Row) (k : ℕ) → r .fixed .nodes ≤ k → Rising 0 k (running grant r)
 unfolding running ready
-running-rises critical r k h =
-    rising-take (shareIn critical (r .fixed .share)) 0 k (keep (isReady r) (range 0 (r .fixed .nodes)))
+running-rises grant r k h =
+    rising-take grant 0 k (keep (isReady r) (range 0 (r .fixed .nodes)))
     (rising-keep (isReady r) 0 k (range 0 (r .fixed .nodes)) (rising-range 0 (r .fixed .nodes) k (omega arith)))
 
-pub running-members : (critical : Bool) (r : Row) → r .fixed .nodes ≤ 32 → members 32 (runningSet critical r) ≡ running critical r
+pub running-members : (grant : ℕ) (r : Row) → r .fixed .nodes ≤ 32 → members 32 (runningSet grant r) ≡ running grant r
 unfolding runningSet
-running-members critical r h = members-setOf 32 (running critical r) (running-rises critical r 32 h)
+running-members grant r h = members-setOf 32 (running grant r) (running-rises grant r 32 h)

@@ -55,26 +55,26 @@ pub record SoundEntry (e : TaskState) : Type 0 where
   pub nodes : within 1 32 (e .nodes) ≡ true
   pub masks : masksLawful (e .predecessors) (e .nodes) ≡ true
   pub deadline : within 1 figureLimit (e .deadline) ≡ true
-  pub threshold : e .threshold ≤ e .deadline
+  pub virtual : e .«virtual_deadline» ≤ e .deadline
   pub age : e .age ≤ e .deadline
-  pub ended : e .ended < 2 ^ e .nodes
-  pub alive : not (e .alive && allEnded (e .nodes) (e .ended)) ≡ true
+  pub ended : e .job .ended < 2 ^ e .nodes
+  pub alive : not (e .job .alive && allEnded (e .nodes) (e .job .ended)) ≡ true
 
 pub entry-facts : (e : TaskState) → entrySound e ≡ true → SoundEntry e
 unfolding entrySound
 entry-facts e t =
     let all =
     all-of (levelLawful (e .level)) (within 1 32 (e .nodes)) (masksLawful (e .predecessors) (e .nodes)) (within 1 figureLimit (e .deadline))
-    (leb (e .threshold) (e .deadline)) (leb (e .age) (e .deadline)) (ltb (e .ended) (2 ^ e .nodes))
-    (not (e .alive && allEnded (e .nodes) (e .ended))) t in
+    (leb (e .«virtual_deadline») (e .deadline)) (leb (e .age) (e .deadline)) (ltb (e .job .ended) (2 ^ e .nodes))
+    (not (e .job .alive && allEnded (e .nodes) (e .job .ended))) t in
     record {
       level = all .first;
       nodes = all .second;
       masks = all .third;
       deadline = all .fourth;
-      threshold = leb-true (e .threshold) (e .deadline) (all .fifth);
+      virtual = leb-true (e .«virtual_deadline») (e .deadline) (all .fifth);
       age = leb-true (e .age) (e .deadline) (all .sixth);
-      ended = ltb-true (e .ended) (2 ^ e .nodes) (all .seventh);
+      ended = ltb-true (e .job .ended) (2 ^ e .nodes) (all .seventh);
       alive = all .eighth;
     }
 
@@ -82,16 +82,16 @@ pub sound-entry : (e : TaskState) → SoundEntry e → entrySound e ≡ true
 unfolding entrySound
 sound-entry e s =
     of-all (levelLawful (e .level)) (within 1 32 (e .nodes)) (masksLawful (e .predecessors) (e .nodes)) (within 1 figureLimit (e .deadline))
-    (leb (e .threshold) (e .deadline)) (leb (e .age) (e .deadline)) (ltb (e .ended) (2 ^ e .nodes))
-    (not (e .alive && allEnded (e .nodes) (e .ended)))
+    (leb (e .«virtual_deadline») (e .deadline)) (leb (e .age) (e .deadline)) (ltb (e .job .ended) (2 ^ e .nodes))
+    (not (e .job .alive && allEnded (e .nodes) (e .job .ended)))
     (record {
       first = s .level;
       second = s .nodes;
       third = s .masks;
       fourth = s .deadline;
-      fifth = le-leb (e .threshold) (e .deadline) (s .threshold);
+      fifth = le-leb (e .«virtual_deadline») (e .deadline) (s .virtual);
       sixth = le-leb (e .age) (e .deadline) (s .age);
-      seventh = lt-ltb (e .ended) (2 ^ e .nodes) (s .ended);
+      seventh = lt-ltb (e .job .ended) (2 ^ e .nodes) (s .ended);
       eighth = s .alive;
     })
 
@@ -107,11 +107,11 @@ below-full k x h =
 
 pub entry-by-tests : (e : TaskState) (masks figures gone : Bool) (full : ℕ) → within 1 32 (e .nodes) ≡ true
     → masks ≡ masksLawful (e .predecessors) (e .nodes) → figures ≡ within 1 figureLimit (e .deadline)
-    → full ≡ setOf (range 0 (min (e .nodes) 32)) → gone ≡ allEnded (e .nodes) (e .ended)
-    → (leb (e .level) 1 && masks && figures && leb (e .threshold) (e .deadline) && leb (e .age) (e .deadline) && leb (e .ended) full && not (e .alive && gone)) ≡ entrySound e
+    → full ≡ setOf (range 0 (min (e .nodes) 32)) → gone ≡ allEnded (e .nodes) (e .job .ended)
+    → (leb (e .level) 1 && masks && figures && leb (e .«virtual_deadline») (e .deadline) && leb (e .age) (e .deadline) && leb (e .job .ended) full && not (e .job .alive && gone)) ≡ entrySound e
 unfolding entrySound levelLawful
 entry-by-tests e masks figures gone full k m f all g =
-    rw (m, f, all, g, k, and-true, below-full (e .nodes) (e .ended) (within-bounds 1 32 (e .nodes) k .1))
+    rw (m, f, all, g, k, and-true, below-full (e .nodes) (e .job .ended) (within-bounds 1 32 (e .nodes) k .1))
 
 pub few-nodes : (e : TaskState) → entrySound e ≡ true → e .nodes ≤ 32
 few-nodes e t = within-bounds 1 32 (e .nodes) (entry-facts e t .nodes) .1

@@ -18,17 +18,16 @@ use Rattle.entries.specs.Sound.{entrySound}
 
 -- An entry with the shares (1, 2): level, k, masks, D, V, age, ended set, alive.
 abbrev entry : ℕ → ℕ → List ℕ → ℕ → ℕ → ℕ → ℕ → Bool → TaskState
-entry level nodes masks deadline threshold age ended alive =
+entry level nodes masks deadline virtual age ended alive =
     record {
       level = level;
       nodes = nodes;
       predecessors = masks;
       deadline = deadline;
-      threshold = threshold;
+      «virtual_deadline» = virtual;
       share = record { typical = 1; critical = 2 };
       age = age;
-      ended = ended;
-      alive = alive;
+      job = record { ended = ended; alive = alive };
     }
 
 -- Node 1 waits for node 0.
@@ -78,9 +77,9 @@ pub record Worked : Type 0 where
   pub alive-none : entrySound (entry 1 2 chain 45 9 5 3 true) ≡ false
   -- S8.1: a fresh entry has the sheet's shape, V by its share, and the age D. S7.3: the entries behind the tasks are zero.
   pub fresh : freshEntry taskA (record { typical = 1; critical = 2 }) ≡ entry 1 2 chain 45 9 45 0 false
-  pub fresh-two : freshEntry taskA (record { typical = 2; critical = 2 }) .threshold ≡ 6
+  pub fresh-two : freshEntry taskA (record { typical = 2; critical = 2 }) .«virtual_deadline» ≡ 6
   pub zeros : zeroEntry
-      ≡ record { level = 0; nodes = 0; predecessors = replicate 32 0; deadline = 0; threshold = 0; share = record { typical = 0; critical = 0 }; age = 0; ended = 0; alive = false }
+      ≡ record { level = 0; nodes = 0; predecessors = replicate 32 0; deadline = 0; «virtual_deadline» = 0; share = record { typical = 0; critical = 0 }; age = 0; job = record { ended = 0; alive = false } }
 
 worked : Worked
 unfolding has range levelLawful maskLawful allBelow masksLawful isLow virtualDeadline virtualOf allEnded freshEntry zeroEntry entrySound isHigh

@@ -15,11 +15,10 @@ freshEntry t s =
       nodes = t .nodes;
       predecessors = t .predecessors;
       deadline = t .figures .deadline;
-      threshold = virtualOf t (s .typical);
+      «virtual_deadline» = virtualOf t (s .typical);
       share = s;
       age = t .figures .deadline;
-      ended = 0;
-      alive = false;
+      job = record { ended = 0; alive = false };
     }
 
 -- S7.3: what Start puts where no task stands.
@@ -30,9 +29,8 @@ zeroEntry =
       nodes = 0;
       predecessors = replicate 32 0;
       deadline = 0;
-      threshold = 0;
+      «virtual_deadline» = 0;
       share = noProcessors;
       age = 0;
-      ended = 0;
-      alive = false;
+      job = record { ended = 0; alive = false };
     }

@@ -5,11 +5,11 @@ ghost use Prim.Native.Nat.{suc, min, _≤_, _<_};
 ghost use Rattle.basics.specs.Lists.{keptIf};
 ghost use Rattle.nodes.specs.Sets.{setOf};
 ghost use Rattle.shares.specs.Totals.{shareIn};
-ghost use Rattle.model.specs.Row.{isSubset, allEnded, ready, runningSet, releasedRow, tickedRow, isLate, switchedRow};
-ghost use Rattle.entries.specs.Entry.{rowOf, withJob};
+ghost use Rattle.model.specs.Row.{isSubset, allEnded, ready, runningSet, releasedRow, tickedRow, isLate, survives, switchedRow};
+ghost use Rattle.entries.specs.Entry.{fixedOf, rowOf, withRow};
 use crate::state::TaskState;
 
-pub const HIGH: u8 = 1;
+const HIGH: u8 = 1;
 
 // S8.5: whether all nodes have ended.
 pub fn all_ended(nodes: u8, ended: u32) -> bool
@@ -39,7 +39,7 @@ fn ready(e: TaskState) -> u32
     requires { ⌜ e .nodes ≤ 32 ⌝ }
     ensures { λ r. ⌜ r ≡ setOf (ready (rowOf e)) ⌝ }
 {
-    if !e.alive {
+    if !e.job.alive {
         return 0;
     }
     let predecessors = e.predecessors;
@@ -47,11 +47,11 @@ fn ready(e: TaskState) -> u32
     let mut set: u32 = 0;
     let mut v: usize = 0;
     while v < k {
-        let kept = is_unblocked(predecessors[v], e.ended);
+        let kept = is_unblocked(predecessors[v], e.job.ended);
         set += node_if(kept, v as u32);
         v += 1;
     }
-    set - (set & e.ended)
+    set - (set & e.job.ended)
 }
 
 // S8.3: the share that the mode allows.
@@ -65,22 +65,22 @@ pub fn share_in(e: TaskState, critical: bool) -> u8
     }
 }
 
-// S8.3: the running nodes, as a set.
-pub fn running(e: TaskState, critical: bool) -> u32
+// S8.3: the running nodes, as a set, where the task is granted so many processors.
+pub fn running(e: TaskState, grant: u8) -> u32
     requires { ⌜ e .nodes ≤ 32 ⌝ }
-    ensures { λ r. ⌜ r ≡ runningSet critical (rowOf e) ⌝ }
+    ensures { λ r. ⌜ r ≡ runningSet grant (rowOf e) ⌝ }
 {
-    nodes::lowest(ready(e), share_in(e, critical) as u32)
+    nodes::lowest(ready(e), grant as u32)
 }
 
 // S8.4: the entry with a job that begins.
 pub fn released(e: TaskState) -> TaskState
-    ensures { λ r. ⌜ r ≡ withJob e (releasedRow (rowOf e) .job) ⌝ }
+    ensures { λ r. ⌜ r ≡ withRow e (releasedRow (rowOf e)) ⌝ }
 {
     let mut next = e;
     next.age = 0;
-    next.ended = 0;
-    next.alive = true;
+    next.job.ended = 0;
+    next.job.alive = true;
     next
 }
 
@@ -94,13 +94,14 @@ fn older(age: u32, deadline: u32) -> u32
 // S8.5: the entry after its part of a tick.
 pub fn ticked(e: TaskState, report: u32) -> TaskState
     requires { ⌜ e .nodes ≤ 32 ⌝ }
-    ensures { λ r. ⌜ r ≡ withJob e (tickedRow (rowOf e) report .job) ⌝ }
+    ensures { λ r. ⌜ r ≡ withRow e (tickedRow (rowOf e) report) ⌝ }
 {
-    let ended = e.ended | report;
+    let ended = e.job.ended | report;
+    let alive = e.job.alive & !all_ended(e.nodes, ended);
     let mut next = e;
     next.age = older(e.age, e.deadline);
-    next.ended = ended;
-    next.alive = e.alive & !all_ended(e.nodes, ended);
+    next.job.ended = ended;
+    next.job.alive = alive;
     next
 }
 
@@ -108,14 +109,22 @@ pub fn ticked(e: TaskState, report: u32) -> TaskState
 pub fn is_late(e: TaskState) -> bool
     ensures { λ r. ⌜ r ≡ isLate (rowOf e) ⌝ }
 {
-    (e.level == HIGH) & e.alive & (e.threshold <= e.age)
+    (e.level == HIGH) & e.job.alive & (e.virtual_deadline <= e.age)
 }
 
-// S8.6: the entry in the mode turned critical: a low task's job is dropped.
-pub fn switched(e: TaskState) -> TaskState
-    ensures { λ r. ⌜ r ≡ withJob e (switchedRow (rowOf e) .job) ⌝ }
+// S8.6: whether a switch leaves the task's job: that of a high task.
+pub fn survives(e: TaskState) -> bool
+    ensures { λ r. ⌜ r ≡ survives (fixedOf e) ⌝ }
 {
+    e.level == HIGH
+}
+
+// S8.6: the entry in the mode turned critical: a job that does not survive is dropped.
+pub fn switched(e: TaskState) -> TaskState
+    ensures { λ r. ⌜ r ≡ withRow e (switchedRow (rowOf e)) ⌝ }
+{
+    let alive = e.job.alive & survives(e);
     let mut next = e;
-    next.alive = e.alive & (e.level == HIGH);
+    next.job.alive = alive;
     next
 }

@@ -2,6 +2,7 @@
 ghost use mathlib.Core.Path.{_≡_};
 ghost use Prim.Native.Nat.{_≤_};
 ghost use Rattle.entries.specs.Fresh.{freshEntry, zeroEntry};
+use crate::state::Job;
 use crate::state::TaskState;
 use shares::deadline::virtual_of;
 use shares::share::Share;
@@ -16,14 +17,16 @@ pub fn zero_entry() -> TaskState
         nodes: 0,
         predecessors: [0u32; 32],
         deadline: 0,
-        threshold: 0,
+        virtual_deadline: 0,
         share: Share {
             typical: 0,
             critical: 0,
         },
         age: 0,
-        ended: 0,
-        alive: false,
+        job: Job {
+            ended: 0,
+            alive: false,
+        },
     }
 }
 
@@ -39,10 +42,12 @@ pub fn fresh_entry(t: Task, s: Share) -> TaskState
         nodes: t.nodes,
         predecessors,
         deadline: figures.deadline,
-        threshold: virtual_of(t, s.typical),
+        virtual_deadline: virtual_of(t, s.typical),
         share: s,
         age: figures.deadline,
-        ended: 0,
-        alive: false,
+        job: Job {
+            ended: 0,
+            alive: false,
+        },
     }
 }

@@ -19,8 +19,8 @@ pub fn entry_sound(e: TaskState) -> bool
     (e.level <= 1)
         & masks_lawful(predecessors, nodes)
         & is_within(1, FIGURE_LIMIT, e.deadline)
-        & (e.threshold <= e.deadline)
+        & (e.virtual_deadline <= e.deadline)
         & (e.age <= e.deadline)
-        & (e.ended <= nodes::full(nodes as u32))
-        & !(e.alive & all_ended(nodes, e.ended))
+        & (e.job.ended <= nodes::full(nodes as u32))
+        & !(e.job.alive & all_ended(nodes, e.job.ended))
 }

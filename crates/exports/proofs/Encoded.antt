@@ -73,8 +73,8 @@ module _ (e : TaskState) where
   times-length = refl
 
   pub times-laid : (at : ℕ) (old one two three four : List ℕ) → at + 16 ≤ length old →
-      one ≡ laid at (u32Bytes (e .deadline)) old → two ≡ laid (at + 4) (u32Bytes (e .threshold)) one →
-      three ≡ laid (at + 8) (u32Bytes (e .age)) two → four ≡ laid (at + 12) (u32Bytes (e .ended)) three →
+      one ≡ laid at (u32Bytes (e .deadline)) old → two ≡ laid (at + 4) (u32Bytes (e .«virtual_deadline»)) one →
+      three ≡ laid (at + 8) (u32Bytes (e .age)) two → four ≡ laid (at + 12) (u32Bytes (e .job .ended)) three →
       four ≡ laid at (timeBytes e) old
   unfolding timeBytes u32Bytes
   times-laid at old one two three four fit first second third fourth =

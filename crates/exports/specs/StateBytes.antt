@@ -37,11 +37,10 @@ entryFrom bytes at =
       nodes = byteAt bytes (at + 1);
       predecessors = masksFrom bytes at;
       deadline = u32At bytes (at + 5);
-      threshold = u32At bytes (at + 9);
+      «virtual_deadline» = u32At bytes (at + 9);
       share = record { typical = byteAt bytes (at + 2); critical = byteAt bytes (at + 3) };
       age = u32At bytes (at + 13);
-      ended = u32At bytes (at + 17);
-      alive = isSet (byteAt bytes (at + 4));
+      job = record { ended = u32At bytes (at + 17); alive = isSet (byteAt bytes (at + 4)) };
     }
 
 -- The state that a list of bytes gives: M, n, the mode, the entries; bytes past the end are 0.
@@ -65,11 +64,11 @@ u32Bytes x = x % 256 ∷ x / 256 % 256 ∷ x / 65536 % 256 ∷ x / 16777216 ∷ 
 
 -- An entry's first 5 bytes: level, k, the typical and the critical share, alive.
 unfoldable pub shapeBytes : TaskState → List ℕ
-shapeBytes e = e .level ∷ e .nodes ∷ e .share .typical ∷ e .share .critical ∷ flag (e .alive) ∷ []
+shapeBytes e = e .level ∷ e .nodes ∷ e .share .typical ∷ e .share .critical ∷ flag (e .job .alive) ∷ []
 
 -- The next 16: D, V, age and the ended set.
 unfoldable pub timeBytes : TaskState → List ℕ
-timeBytes e = u32Bytes (e .deadline) ++ u32Bytes (e .threshold) ++ u32Bytes (e .age) ++ u32Bytes (e .ended)
+timeBytes e = u32Bytes (e .deadline) ++ u32Bytes (e .«virtual_deadline») ++ u32Bytes (e .age) ++ u32Bytes (e .job .ended)
 
 -- The masks of the nodes below count; those of 32 nodes are the last 128.
 unfoldable pub maskBytes : List ℕ → ℕ → List ℕ
@@ -87,11 +86,10 @@ missingEntry =
       nodes = 0;
       predecessors = [];
       deadline = 0;
-      threshold = 0;
+      «virtual_deadline» = 0;
       share = record { typical = 0; critical = 0 };
       age = 0;
-      ended = 0;
-      alive = false;
+      job = record { ended = 0; alive = false };
     }
 
 -- A state's first 3 bytes: M, n and the mode.

@@ -5,6 +5,7 @@ ghost use Rattle.exports.specs.StateBytes.{masksFrom, entryFrom, stateFr
 use basics::numbers::byte_at;
 use basics::numbers::u32_at;
 use dispatcher::state::State;
+use entries::state::Job;
 use entries::state::TaskState;
 use shares::share::Share;
 
@@ -36,11 +37,13 @@ fn entry_from(bytes: &[u8], at: usize) -> TaskState
         nodes: byte_at(bytes, at + 1),
         predecessors: masks_from(bytes, at),
         deadline: u32_at(bytes, at + 5),
-        threshold: u32_at(bytes, at + 9),
+        virtual_deadline: u32_at(bytes, at + 9),
         share,
         age: u32_at(bytes, at + 13),
-        ended: u32_at(bytes, at + 17),
-        alive: byte_at(bytes, at + 4) != 0,
+        job: Job {
+            ended: u32_at(bytes, at + 17),
+            alive: byte_at(bytes, at + 4) != 0,
+        },
     }
 }
 

@@ -20,7 +20,7 @@ fn put_shape(out: &mut [u8], at: usize, e: TaskState)
     out[at + 1] = e.nodes;
     out[at + 2] = share.typical;
     out[at + 3] = share.critical;
-    out[at + 4] = flag(e.alive);
+    out[at + 4] = flag(e.job.alive);
 }
 
 fn put_times(out: &mut [u8], at: usize, e: TaskState)
@@ -28,9 +28,9 @@ fn put_times(out: &mut [u8], at: usize, e: TaskState)
     ensures { λ _. ⌜ now (out .exit) ≡ laid at (timeBytes e) (now (out .entry)) ⌝ }
 {
     put_u32(out, at, e.deadline);
-    put_u32(out, at + 4, e.threshold);
+    put_u32(out, at + 4, e.virtual_deadline);
     put_u32(out, at + 8, e.age);
-    put_u32(out, at + 12, e.ended);
+    put_u32(out, at + 12, e.job.ended);
 }
 
 fn put_masks(out: &mut [u8], at: usize, masks: [u32; 32])

@@ -108,7 +108,7 @@ module _ (tasks : TaskSet) (lawful : LawfulSet tasks) (shares : List Share) (cho
         nodes = rules .nodes;
         masks = rules .masks;
         deadline = rw (le-leb 1 (t .figures .deadline) (kept .deadline-from)) (le-leb (t .figures .deadline) figureLimit (kept .deadline-to));
-        threshold = chosen-virtual tasks lawful shares chosen-it i inside;
+        virtual = chosen-virtual tasks lawful shares chosen-it i inside;
         age = omega arith;
         ended = pow-pos (t .nodes);
         alive = refl;

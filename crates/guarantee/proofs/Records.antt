@@ -6,10 +6,10 @@ use native.Mathlib.Numerals.{add-one}
 use native.Mathlib.Omega.{arith}
 use lib.ListN.{length, drop, set, length-append, length-map}
 use lib.Seq.{sets, length-sets}
-use Rattle.model.specs.Row.{Job, Row}
+use Rattle.model.specs.Row.{Row}
 use Rattle.model.specs.Step.{Model, release, tick}
 use Rattle.dispatcher.specs.declared.state.State.{State}
-use Rattle.entries.specs.Entry.{jobOf, rowOf}
+use Rattle.entries.specs.Entry.{rowOf}
 use Rattle.dispatcher.specs.Holds.{entriesOf, modelOf}
 use Rattle.dispatcher.proofs.Entries.{entryAt, entries-length, left-next, left-none}
 use Rattle.sheet.specs.declared.answer.Answer.{Answer}
@@ -22,7 +22,7 @@ use Rattle.dispatcher.specs.Calls.{releaseOf, tickOf}
 use Rattle.guarantee.specs.declared.turn.Turn.{Turn}
 use Rattle.guarantee.specs.Runs.{Said, released, ticked}
 use Rattle.basics.specs.Numbers.{u32Bytes}
-use Rattle.guarantee.specs.Record.{outcomeOf, markByte, jobBytes, rowsBytes, modelBytes, recordOf, turnOf, turnBytes}
+use Rattle.guarantee.specs.Record.{outcomeOf, markByte, taskBytes, rowsBytes, modelBytes, recordOf, turnOf, turnBytes}
 
 -- Bytes stored behind others.
 pub sets-append : (out : List ℕ) (at : ℕ) (xs ys : List ℕ) → sets out at (xs ++ ys) ≡ sets (sets out at xs) (at + length xs) ys
@@ -35,27 +35,28 @@ pub u32-length : (x : ℕ) → length (u32Bytes x) ≡ 4
 unfolding u32Bytes
 u32-length x = refl
 
-pub job-length : (j : Job) → length (jobBytes j) ≡ 9
-unfolding jobBytes
-job-length j = omega (arith, length-append (u32Bytes (j .age)) (u32Bytes (j .ended)), u32-length (j .age), u32-length (j .ended))
+pub task-length : (r : Row) → length (taskBytes r) ≡ 9
+unfolding taskBytes
+task-length r =
+    omega (arith, length-append (u32Bytes (r .age)) (u32Bytes (r .job .ended)), u32-length (r .age), u32-length (r .job .ended))
 
 pub rows-length : (rows : List Row) → length (rowsBytes rows) ≡ 9 * length rows
 rows-length [] = refl
 rows-length (r ∷ rows) =
-    omega (arith, length-append (jobBytes (r .job)) (rowsBytes rows), job-length (r .job), rows-length rows)
+    omega (arith, length-append (taskBytes r) (rowsBytes rows), task-length r, rows-length rows)
 
 pub record-length : (said : Said) (m : Model) → length (recordOf said m) ≡ 4 + 9 * length (m .rows)
 unfolding recordOf modelBytes
 record-length said m = omega (arith, rows-length (m .rows))
 
 -- A task's 9 bytes.
-pub job-stored : (out : List ℕ) (at alive : ℕ) (j : Job) → alive ≡ markByte (j .alive) →
-    sets (sets (set out at alive) (at + 1) (u32Bytes (j .age))) (at + 5) (u32Bytes (j .ended)) ≡ sets out at (jobBytes j)
-unfolding jobBytes
-job-stored out at alive j e =
+pub task-stored : (out : List ℕ) (at alive : ℕ) (r : Row) → alive ≡ markByte (r .job .alive) →
+    sets (sets (set out at alive) (at + 1) (u32Bytes (r .age))) (at + 5) (u32Bytes (r .job .ended)) ≡ sets out at (taskBytes r)
+unfolding taskBytes
+task-stored out at alive r e =
     let one : at + 1 ≡ suc at = omega arith in
-    let five : at + 5 ≡ suc at + length (u32Bytes (j .age)) = omega (arith, u32-length (j .age)) in
-    rw (e, five, one) (sym (sets-append (set out at (markByte (j .alive))) (suc at) (u32Bytes (j .age)) (u32Bytes (j .ended))))
+    let five : at + 5 ≡ suc at + length (u32Bytes (r .age)) = omega (arith, u32-length (r .age)) in
+    rw (e, five, one) (sym (sets-append (set out at (markByte (r .job .alive))) (suc at) (u32Bytes (r .age)) (u32Bytes (r .job .ended))))
 
 -- The mode's byte, and the tasks behind it.
 pub state-stored : (out : List ℕ) (at mode : ℕ) (m : Model) → mode ≡ markByte (m .critical) →
@@ -91,18 +92,17 @@ module _ (s : State) (long : s .count ≤ length (s .entries)) where
   putting-none out place room = record { size = refl; upto = omega arith; room = omega arith; left = refl }
 
   pub putting-more : (whole : List ℕ) (bytes : ℕ) (out : List ℕ) (place i : ℕ) → i < s .count → Putting whole bytes s out place i →
-      Putting whole bytes s (sets out place (jobBytes (jobOf (entryAt s i)))) (place + 9) (i + 1)
-  unfolding rowOf
+      Putting whole bytes s (sets out place (taskBytes (rowOf (entryAt s i)))) (place + 9) (i + 1)
   putting-more whole bytes out place i h p =
-      let j = jobOf (entryAt s i) in
+      let r = rowOf (entryAt s i) in
       let rest = rowsBytes (map rowOf (drop (suc i) (entriesOf s))) in
-      let nine : place + 9 ≡ place + length (jobBytes j) = omega (arith, job-length j) in
-      let left : sets out place (jobBytes j ++ rest) ≡ whole = rw (left-next s long i h) at (p .left) in
+      let nine : place + 9 ≡ place + length (taskBytes r) = omega (arith, task-length r) in
+      let left : sets out place (taskBytes r ++ rest) ≡ whole = rw (left-next s long i h) at (p .left) in
       record {
-        size = length-sets out place (jobBytes j) ∙ p .size;
+        size = length-sets out place (taskBytes r) ∙ p .size;
         upto = omega arith;
         room = omega (arith, p .room);
-        left = rw (add-one i, nine) (sym (sets-append out place (jobBytes j) rest) ∙ left);
+        left = rw (add-one i, nine) (sym (sets-append out place (taskBytes r) rest) ∙ left);
       }
 
   pub putting-all : (whole : List ℕ) (bytes : ℕ) (out : List ℕ) (place i : ℕ) → s .count ≤ i → Putting whole bytes s out place i → out ≡ whole

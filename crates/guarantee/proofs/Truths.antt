@@ -12,7 +12,8 @@ use lib.ListN.{getD}
 use Rattle.basics.specs.Lists.{range, keep}
 use Rattle.nodes.specs.Sets.{has, setOf}
 use Rattle.nodes.proofs.Members.{has-setOf-keep}
-use Rattle.model.specs.Step.{Model, Call, release, tick, step, rowAt}
+use Rattle.model.specs.Row.{runningSet}
+use Rattle.model.specs.Step.{Model, Call, release, tick, step, rowAt, granted, runningAt}
 use Rattle.model.specs.Run.{after, isAccepted, isReleaseOf, releasesIn, isRunning, runsOn, runsIn, isDue, TrueReports}
 use Rattle.model.specs.Claim.{ReleaseIn, begun}
 use Rattle.model.proofs.Nodes.{runs-test}
@@ -47,10 +48,10 @@ runs-only true false r t e = absurd (true≢false e)
 runs-only false false r t e = refl
 
 reached-at : (i : ℕ) (len c : ℕ → ℕ) (m : Model) (v : ℕ) → has (reachedSet i len c m) v ≡ isReached i len c m v
-unfolding isRunning isDue
+unfolding isRunning runningAt runningSet isDue
 reached-at i len c m v =
     has-setOf-keep (isReached i len c m) (rowAt m i .fixed .nodes) v
-    ∙ runs-only (isRunning i v m) (ltb v (rowAt m i .fixed .nodes)) _ _ (runs-test (m .critical) (rowAt m i) v)
+    ∙ runs-only (isRunning i v m) (ltb v (rowAt m i .fixed .nodes)) _ _ (runs-test (granted m i) (rowAt m i) v)
 
 -- An accepted tick that passes the test.
 true-here : (i : ℕ) (len c : ℕ → ℕ) (m : Model) (reports : List ℕ) →

@@ -30,8 +30,8 @@ use Rattle.nodes.proofs.Bits.{has-zero, has-power}
 use Rattle.allocation.specs.Choice.{lowOptions, pairsWithin, highOptions, optionsOf, fits, leastOf, fitting, chosen}
 use Rattle.allocation.specs.Allocation.{chosenFor, shareAnswer, choiceAnswer, sharesOf}
 use Rattle.model.specs.Budget.{sumBelow, Chain, alone, link, along}
-use Rattle.model.specs.Row.{lowLevel, highLevel, isHigh, isSubset, allEnded, predecessorsOf, precedes, isReady, ready, running, runningSet, releasedRow, joined, tickedRow, isLate, switchedRow}
-use Rattle.model.specs.Step.{Model, Call, release, tick, step, rowAt, unknownTask, lowInCritical, tooEarly, wrongCount, notRunning, releaseRefusal, tickRefusal, released, ticked}
+use Rattle.model.specs.Row.{lowLevel, highLevel, isHigh, isSubset, allEnded, predecessorsOf, precedes, isReady, ready, running, runningSet, releasedRow, joined, tickedRow, isLate, survives, switchedRow}
+use Rattle.model.specs.Step.{Model, Call, release, tick, step, rowAt, granted, runningAt, unknownTask, lowInCritical, tooEarly, wrongCount, notRunning, releaseRefusal, tickRefusal, released, ticked}
 use Rattle.model.specs.Run.{after, isAccepted, ticksIn, releasesIn, isRunning, isDue}
 use Rattle.model.specs.Plan.{freshRow, fresh}
 use Rattle.model.specs.Claim.{begun, KeepsBudget, NominalJob, Ended, StaysTypical, Deadline, EndInTime, Nominal}
@@ -212,7 +212,7 @@ record Runs : Type 0 where
   pub low-again : isAccepted (after start lowAlone) (release 1) ≡ true
 
 runs : Runs
-unfolding fresh freshRow virtualOf isLow virtualDeadline has range highLevel isHigh isSubset allEnded predecessorsOf isReady ready running runningSet releasedRow joined tickedRow isLate switchedRow step rowAt unknownTask lowInCritical tooEarly wrongCount notRunning releaseRefusal tickRefusal released ticked isAccepted isRunning isDue
+unfolding fresh freshRow virtualOf isLow virtualDeadline has range highLevel isHigh isSubset allEnded predecessorsOf isReady ready running runningSet releasedRow joined tickedRow isLate survives switchedRow step rowAt granted runningAt unknownTask lowInCritical tooEarly wrongCount notRunning releaseRefusal tickRefusal released ticked isAccepted isRunning isDue
 runs =
     record {
       begins = refl;

@@ -6,7 +6,7 @@ use Rattle.sheet.specs.declared.answer.Answer.{Answer}
 use Rattle.sheet.specs.declared.answer.Answer.the-variants.{Accepted, Refused}
 use Rattle.basics.specs.Numbers.{u32Bytes}
 use Rattle.sheet.specs.Answers.{noTask, numberOf, taskOf}
-use Rattle.model.specs.Row.{Job, Row}
+use Rattle.model.specs.Row.{Row}
 use Rattle.model.specs.Step.{Model, Call}
 use Rattle.dispatcher.specs.declared.state.State.{State}
 use Rattle.dispatcher.specs.declared.tick.TickAnswer.the-variants.{Ran, Switched, Refused as TickRefused}
@@ -54,13 +54,13 @@ unfoldable pub markByte : Bool → ℕ
 markByte b = cond b 1 0
 
 -- S12.2: what is held of a task, in 9 bytes: its alive mark, age and ended set.
-unfoldable pub jobBytes : Job → List ℕ
-jobBytes j = markByte (j .alive) ∷ (u32Bytes (j .age) ++ u32Bytes (j .ended))
+unfoldable pub taskBytes : Row → List ℕ
+taskBytes r = markByte (r .job .alive) ∷ (u32Bytes (r .age) ++ u32Bytes (r .job .ended))
 
 -- S12.2: the same for each task.
 abbrev pub rowsBytes : List Row → List ℕ
 rowsBytes [] = []
-rowsBytes (r ∷ rows) = jobBytes (r .job) ++ rowsBytes rows
+rowsBytes (r ∷ rows) = taskBytes r ++ rowsBytes rows
 
 -- S12.2: what the model holds: whether the mode is critical, then each task.
 unfoldable pub modelBytes : Model → List ℕ

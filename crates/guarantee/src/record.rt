@@ -4,9 +4,10 @@ ghost use Prim.Native.Nat.{_+_, _*_, _≤_};
 ghost use lib.ListN.{length};
 ghost use lib.Seq.{sets};
 ghost use Rattle.basics.specs.Numbers.{u32Bytes};
-ghost use Rattle.entries.specs.Entry.{jobOf};
+ghost use Rattle.entries.specs.Entry.{rowOf};
 ghost use Rattle.dispatcher.specs.Holds.{modelOf};
-ghost use Rattle.guarantee.specs.Record.{answerBytes, markByte, jobBytes, modelBytes, turnBytes};
+ghost use Rattle.guarantee.specs.Record.{answerBytes, markByte, taskBytes, modelBytes, turnBytes};
+use basics::numbers::put_u32;
 use crate::turn::Turn;
 use dispatcher::state::State;
 use entries::state::TaskState;
@@ -19,23 +20,13 @@ fn mark_byte(mark: bool) -> u8
     if mark { 1 } else { 0 }
 }
 
-fn put_u32(out: &mut [u8], at: usize, x: u32)
-    requires { ⌜ at + 4 ≤ length (now out) ⌝ }
-    ensures { λ _. ⌜ now (out .exit) ≡ sets (now (out .entry)) at (u32Bytes x) ⌝ }
-{
-    out[at] = (x % 256) as u8;
-    out[at + 1] = (x / 256 % 256) as u8;
-    out[at + 2] = (x / 65536 % 256) as u8;
-    out[at + 3] = (x / 16777216 % 256) as u8;
-}
-
 fn put_task(out: &mut [u8], at: usize, e: TaskState)
     requires { ⌜ at + 9 ≤ length (now out) ⌝ }
-    ensures { λ _. ⌜ now (out .exit) ≡ sets (now (out .entry)) at (jobBytes (jobOf e)) ⌝ }
+    ensures { λ _. ⌜ now (out .exit) ≡ sets (now (out .entry)) at (taskBytes (rowOf e)) ⌝ }
 {
-    out[at] = mark_byte(e.alive);
+    out[at] = mark_byte(e.job.alive);
     put_u32(out, at + 1, e.age);
-    put_u32(out, at + 5, e.ended);
+    put_u32(out, at + 5, e.job.ended);
 }
 
 // What the state holds: the mode and its tasks.

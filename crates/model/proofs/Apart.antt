@@ -13,7 +13,7 @@ use Rattle.sheet.specs.declared.task.TaskSet.{TaskSet}
 use Rattle.shares.specs.declared.share.Share.{Share}
 use Rattle.sheet.specs.Answers.{noTask}
 use Rattle.sheet.specs.Format.{taskIn}
-use Rattle.model.specs.Row.{Fixed, Row, isHigh, releasedRow, tickedRow, switchedRow}
+use Rattle.model.specs.Row.{Fixed, Row, releasedRow, tickedRow, survives, switchedRow}
 use Rattle.model.specs.Step.{Model, Call, release, tick, refusal, unknownTask, lowInCritical, tooEarly, releaseRefusal, rowAt}
 use Rattle.basics.specs.Lists.{isNone}
 use Rattle.model.specs.Run.{after, isAccepted, isTick, isReleaseOf, countCalls, ticksIn, releasesIn}
@@ -26,10 +26,10 @@ use Rattle.model.proofs.Fresh.{rows-after}
 use Rattle.model.proofs.Released.{after-append, known-task, since-release, fixed-begun}
 
 -- A Release that refusal 13 lets pass finds the age at D.
-release-aged : (m : Model) (i : ℕ) → isAccepted m (release i) ≡ true → rowAt m i .fixed .deadline ≤ rowAt m i .job .age
+release-aged : (m : Model) (i : ℕ) → isAccepted m (release i) ≡ true → rowAt m i .fixed .deadline ≤ rowAt m i .age
 unfolding isAccepted releaseRefusal
 release-aged m i e =
-    let aged = go (leb (length (m .rows)) i) (m .critical && not (isHigh (rowAt m i .fixed))) (rowAt m i .job .alive) _ e in
+    let aged = go (leb (length (m .rows)) i) (m .critical && not (survives (rowAt m i .fixed))) (rowAt m i .job .alive) _ e in
     omega (arith, ltb-false)
   where
     go : (unknown low alive early : Bool) →
@@ -44,41 +44,41 @@ release-aged m i e =
 
 -- No call but an accepted tick makes a job older, and a tick by 1 at most.
 age-step : (m : Model) (x : Call) (i : ℕ) → i < length (m .rows) →
-    rowAt (next m x) i .job .age ≤ rowAt m i .job .age + cond (isTick m x) 1 0
+    rowAt (next m x) i .age ≤ rowAt m i .age + cond (isTick m x) 1 0
 unfolding releasedRow tickedRow switchedRow
 age-step m x i known = go (turn m i x known)
   where
     part : (reports : List ℕ) → Settled m (next m (tick reports)) i (tickedRow (rowAt m i) (getD reports i 0)) →
-        rowAt (next m (tick reports)) i .job .age ≡ tickedRow (rowAt m i) (getD reports i 0) .job .age
-    part reports (stays-critical b n e) = ap (λ (r : Row). r .job .age) e
-    part reports (stays-typical b n e l) = ap (λ (r : Row). r .job .age) e
-    part reports (turns b n e) = ap (λ (r : Row). r .job .age) e
+        rowAt (next m (tick reports)) i .age ≡ tickedRow (rowAt m i) (getD reports i 0) .age
+    part reports (stays-critical b n e) = ap (λ (r : Row). r .age) e
+    part reports (stays-typical b n e l) = ap (λ (r : Row). r .age) e
+    part reports (turns b n e) = ap (λ (r : Row). r .age) e
 
-    go : Turn m i x → rowAt (next m x) i .job .age ≤ rowAt m i .job .age + cond (isTick m x) 1 0
-    go (same t r mode e) = omega (arith, ap (λ (r : Row). r .job .age) e)
+    go : Turn m i x → rowAt (next m x) i .age ≤ rowAt m i .age + cond (isTick m x) 1 0
+    go (same t r mode e) = omega (arith, ap (λ (r : Row). r .age) e)
     go (begins e a at) =
-        omega (arith, ap (λ (y : Call). rowAt (next m y) i .job .age) e, ap (λ (r : Row). r .job .age) (at .row))
+        omega (arith, ap (λ (y : Call). rowAt (next m y) i .age) e, ap (λ (r : Row). r .age) (at .row))
     go (ticks reports e a at) =
         omega (
           arith,
-          ap (λ (y : Call). rowAt (next m y) i .job .age) e,
+          ap (λ (y : Call). rowAt (next m y) i .age) e,
           part reports (at .settled),
           ap {B = ℕ} (λ (b : Bool). cond b 1 0) (ap (isTick m) e ∙ ap (isAccepted m) (sym e) ∙ a),
         )
 
 age-after : (m : Model) (calls : List Call) (i : ℕ) → i < length (m .rows) →
-    rowAt (after m calls) i .job .age ≤ rowAt m i .job .age + ticksIn m calls
+    rowAt (after m calls) i .age ≤ rowAt m i .age + ticksIn m calls
 age-after m [] i known = omega arith
 age-after m (x ∷ calls) i known =
     omega (arith, age-after (next m x) calls i (rw (length-step m x) known), age-step m x i known)
 
 -- While the age and the ticks to come are fewer than D, no Release of the task is accepted.
 none-before : (m : Model) (calls : List Call) (i : ℕ) → i < length (m .rows) →
-    rowAt m i .job .age + ticksIn m calls < rowAt m i .fixed .deadline → releasesIn i m calls ≡ 0
+    rowAt m i .age + ticksIn m calls < rowAt m i .fixed .deadline → releasesIn i m calls ≡ 0
 none-before m [] i known young = refl
 none-before m (x ∷ calls) i known young = go (turn m i x known) (none-before (next m x) calls i (rw (length-step m x) known))
   where
-    rest : rowAt (next m x) i .job .age + ticksIn (next m x) calls < rowAt (next m x) i .fixed .deadline
+    rest : rowAt (next m x) i .age + ticksIn (next m x) calls < rowAt (next m x) i .fixed .deadline
     rest = rw (same-fixed (next m x) m (fixed-step m x) i) (omega (arith, age-step m x i known))
 
     zero-first : (b : Bool) → b ≡ false → releasesIn i (next m x) calls ≡ 0 → cond b 1 0 + releasesIn i (next m x) calls ≡ 0
@@ -86,7 +86,7 @@ none-before m (x ∷ calls) i known young = go (turn m i x known) (none-before (
     zero-first false e z = omega arith
 
     go : Turn m i x →
-        (rowAt (next m x) i .job .age + ticksIn (next m x) calls < rowAt (next m x) i .fixed .deadline →
+        (rowAt (next m x) i .age + ticksIn (next m x) calls < rowAt (next m x) i .fixed .deadline →
         releasesIn i (next m x) calls ≡ 0) →
         releasesIn i m (x ∷ calls) ≡ 0
     go (same t r mode e) then = zero-first (isReleaseOf i m x) r (then rest)
@@ -109,9 +109,9 @@ module _ (ts : TaskSet) (shares : List Share) (planned : Planned ts shares) {cal
   unfolding begun
   row-known = rw (length-step (after (fresh ts shares) (job .before)) (release i), rows-after ts shares planned (job .before)) known
 
-  age-begun : rowAt (begun job) i .job .age ≡ 0
+  age-begun : rowAt (begun job) i .age ≡ 0
   unfolding begun releasedRow
-  age-begun = ap (λ (r : Row). r .job .age) (release-at (after (fresh ts shares) (job .before)) i (job .accepted) .row)
+  age-begun = ap (λ (r : Row). r .age) (release-at (after (fresh ts shares) (job .before)) i (job .accepted) .row)
 
   deadline-begun : rowAt (begun job) i .fixed .deadline ≡ taskIn ts i .figures .deadline
   unfolding begun freshRow

@@ -11,13 +11,14 @@ use lib.ListN.{length, getD}
 use Rattle.basics.specs.Lists.{bit}
 use Rattle.nodes.specs.Sets.{has}
 use Rattle.nodes.proofs.Bits.{has-or}
-use Rattle.model.specs.Row.{Row, isHigh, runningSet, joined, tickedRow, isLate, switchedRow}
-use Rattle.model.specs.Step.{Model, Call, tick, rowAt}
+use Rattle.shares.specs.Totals.{shareIn}
+use Rattle.model.specs.Row.{Row, runningSet, joined, tickedRow, isLate, survives, switchedRow}
+use Rattle.model.specs.Step.{Model, Call, tick, rowAt, granted, runningAt}
 use Rattle.model.specs.Run.{after, isAccepted, isTick, isReleaseOf, releasesIn, isRunning, runsOn, runsIn, isDue, TrueReports}
 use Rattle.model.proofs.Nodes.{all-ended-at, all-ended-intro}
 use Rattle.model.proofs.Steps.{next, Turn, same, begins, ticks, TickAt, Settled, stays-critical, stays-typical, turns, turn, release-of}
 use Rattle.model.proofs.Lasting.{length-step, kept-by-call}
-use Rattle.model.proofs.Job.{Live, Over, AfterTick, goes-on, ends, live-tick}
+use Rattle.model.proofs.Job.{pace, Live, Over, AfterTick, goes-on, ends, live-tick}
 
 -- The reports of task i are true over the calls, where each node v ran on c v ticks before them.
 unfoldable pub TrueFrom : ℕ → (ℕ → ℕ) → (ℕ → ℕ) → Model → List Call → Type 0
@@ -51,40 +52,45 @@ true-from-next i len c m x calls none h before reports rest e z a v =
     grouped : (a b d : ℕ) → a + (b + d) ≡ a + b + d
     grouped a b d = omega arith
 
+-- S8.3: what task i is granted is its pace in the mode. Only here does the proof of a job learn what decides the grant.
+granted-paced : (m : Model) (i : ℕ) → granted m i ≡ shareIn (m .critical) (pace (rowAt m i .fixed))
+unfolding granted
+granted-paced m i = refl
+
 -- A count of calls that is 0 has none of its calls, neither the first nor among the rest.
 pub count-zero : (t : Bool) (n : ℕ) → cond t 1 0 + n ≡ 0 → (t ≡ false) × (n ≡ 0)
 count-zero true n e = absurd (omega arith)
 count-zero false n e = (refl, omega arith)
 
--- The switch leaves a high task's row.
-pub high-switched : (r : Row) → isHigh (r .fixed) ≡ true → switchedRow r ≡ r
+-- The switch leaves a row whose job survives it.
+survivor-switched : (r : Row) → survives (r .fixed) ≡ true → switchedRow r ≡ r
 unfolding switchedRow
-high-switched r h =
-    ap (λ (b : Bool). record { fixed = r .fixed; job = record { age = r .job .age; ended = r .job .ended; alive = b } })
+survivor-switched r h =
+    ap (λ (b : Bool). record { fixed = r .fixed; age = r .age; job = record { ended = r .job .ended; alive = b } })
     (ap (λ (t : Bool). r .job .alive && t) h ∙ and-true (r .job .alive))
 
--- A high task's row, and every row while the mode stays typical, is after an accepted tick what its part of the tick makes of it;
+-- The row of a job that survives a switch, and every row while the mode stays typical, is after an accepted tick what its part of the tick makes of it;
 -- and where the mode is typical after the tick, it was so before and no job is late.
 pub record PlainTick (m : Model) (i : ℕ) (reports : List ℕ) : Type 0 where
   pub row : rowAt (next m (tick reports)) i ≡ tickedRow (rowAt m i) (getD reports i 0)
   pub calm : next m (tick reports) .critical ≡ false →
       (m .critical ≡ false) × (isLate (rowAt (next m (tick reports)) i) ≡ false)
 
-high-ticked : (r : Row) (report : ℕ) → isHigh (r .fixed) ≡ true → isHigh (tickedRow r report .fixed) ≡ true
+survivor-ticked : (r : Row) (report : ℕ) → survives (r .fixed) ≡ true → survives (tickedRow r report .fixed) ≡ true
 unfolding tickedRow
-high-ticked r report h = h
+survivor-ticked r report h = h
 
 pub plain-tick : (m : Model) (i : ℕ) (reports : List ℕ) → TickAt m i reports →
-    (isHigh (rowAt m i .fixed) ≡ true) ⊎ (next m (tick reports) .critical ≡ false) → PlainTick m i reports
+    (survives (rowAt m i .fixed) ≡ true) ⊎ (next m (tick reports) .critical ≡ false) → PlainTick m i reports
 plain-tick m i reports at why = go why (at .settled)
   where
-    go : (isHigh (rowAt m i .fixed) ≡ true) ⊎ (next m (tick reports) .critical ≡ false) →
+    go : (survives (rowAt m i .fixed) ≡ true) ⊎ (next m (tick reports) .critical ≡ false) →
         Settled m (next m (tick reports)) i (tickedRow (rowAt m i) (getD reports i 0)) → PlainTick m i reports
     go w (stays-critical b n e) = record { row = e; calm = λ f. absurd (true≢false (sym n ∙ f)) }
     go w (stays-typical b n e l) = record { row = e; calm = λ f. (b, ap isLate e ∙ l) }
     go (inl h) (turns b n e) =
         record {
-          row = e ∙ high-switched (tickedRow (rowAt m i) (getD reports i 0)) (high-ticked (rowAt m i) (getD reports i 0) h);
+          row = e ∙ survivor-switched (tickedRow (rowAt m i) (getD reports i 0)) (survivor-ticked (rowAt m i) (getD reports i 0) h);
           calm = λ f. absurd (true≢false (sym n ∙ f));
         }
     go (inr h) (turns b n e) = absurd (true≢false (sym n ∙ h))
@@ -111,7 +117,7 @@ over-switched r o = record { nodes = o .nodes; gone = false-and (r .job .alive) 
 over-step : (m : Model) (x : Call) (i : ℕ) → i < length (m .rows) → isReleaseOf i m x ≡ false → Over (rowAt m i) →
     Over (rowAt (next m x) i)
 over-step m x i h none o =
-    kept-by-call Over (λ r critical report named. over-ticked r report) over-switched m x i h (λ e. absurd (true≢false (sym e ∙ none))) o
+    kept-by-call Over (λ r grant report named. over-ticked r report) over-switched m x i h (λ e. absurd (true≢false (sym e ∙ none))) o
 
 -- A job that is not alive stays so until the next Release of its task.
 abbrev Dead : Row → Type 0
@@ -128,7 +134,7 @@ dead-switched r e = false-and (r .job .alive) _ e
 pub dead-step : (m : Model) (x : Call) (i : ℕ) → i < length (m .rows) → isReleaseOf i m x ≡ false →
     rowAt m i .job .alive ≡ false → rowAt (next m x) i .job .alive ≡ false
 dead-step m x i h none e =
-    kept-by-call Dead (λ r critical report named. dead-ticked r report) dead-switched m x i h (λ t. absurd (true≢false (sym t ∙ none))) e
+    kept-by-call Dead (λ r grant report named. dead-ticked r report) dead-switched m x i h (λ t. absurd (true≢false (sym t ∙ none))) e
 
 pub over-after : (m : Model) (calls : List Call) (i : ℕ) → i < length (m .rows) → releasesIn i m calls ≡ 0 → Over (rowAt m i) →
     Over (rowAt (after m calls) i)
@@ -180,18 +186,18 @@ module _ {len : ℕ → ℕ} {work span : ℕ} (i : ℕ) (m : Model) {c : ℕ �
 
   pub true-head : (reports : List ℕ) (calls : List Call) → isAccepted m (tick reports) ≡ true →
       TrueFrom i len c m (tick reports ∷ calls) →
-      (v : ℕ) → has (getD reports i 0) v ≡ isDue (has (runningSet (m .critical) (rowAt m i)) v) (c v) (len v)
-  unfolding TrueFrom isRunning
+      (v : ℕ) → has (getD reports i 0) v ≡ isDue (has (runningSet (granted m i) (rowAt m i)) v) (c v) (len v)
+  unfolding TrueFrom isRunning runningAt runningSet
   true-head reports calls a h v =
       h [] reports calls refl refl a v
-      ∙ ap (λ (z : ℕ). isDue (has (runningSet (m .critical) (rowAt m i)) v) z (len v)) (add-zero (c v))
+      ∙ ap (λ (z : ℕ). isDue (has (runningSet (granted m i) (rowAt m i)) v) z (len v)) (add-zero (c v))
 
   pub ran-head : (reports : List ℕ) → isAccepted m (tick reports) ≡ true →
-      (v : ℕ) → ranAfter i m (tick reports) c v ≡ c v + bit (has (runningSet (m .critical) (rowAt m i)) v)
-  unfolding isRunning
+      (v : ℕ) → ranAfter i m (tick reports) c v ≡ c v + bit (has (runningSet (granted m i) (rowAt m i)) v)
+  unfolding isRunning runningAt runningSet
   ran-head reports a v =
-      ap (λ (b : Bool). c v + cond (b && has (runningSet (m .critical) (rowAt m i)) v) 1 0) a
-      ∙ ap (λ (z : ℕ). c v + z) (one (has (runningSet (m .critical) (rowAt m i)) v))
+      ap (λ (b : Bool). c v + cond (b && has (runningSet (granted m i) (rowAt m i)) v) 1 0) a
+      ∙ ap (λ (z : ℕ). c v + z) (one (has (runningSet (granted m i) (rowAt m i)) v))
     where
       one : (t : Bool) → cond t 1 0 ≡ bit t
       one true = refl
@@ -202,11 +208,11 @@ module _ {len : ℕ → ℕ} {work span : ℕ} (i : ℕ) (m : Model) {c : ℕ �
       TrueFrom i len c m (tick reports ∷ calls) →
       AfterTick live (tickedRow (rowAt m i) (getD reports i 0)) (ranAfter i m (tick reports) c)
   part-step reports calls a at h =
-      live-tick live (ranAfter i m (tick reports) c) (getD reports i 0) (at .named) (ran-head reports a)
+      live-tick live (granted m i) (granted-paced m i) (ranAfter i m (tick reports) c) (getD reports i 0) (at .named) (ran-head reports a)
       (true-head reports calls a h)
 
   tick-step : (reports : List ℕ) (calls : List Call) → isAccepted m (tick reports) ≡ true → TickAt m i reports →
-      (isHigh (rowAt m i .fixed) ≡ true) ⊎ (next m (tick reports) .critical ≡ false) →
+      (survives (rowAt m i .fixed) ≡ true) ⊎ (next m (tick reports) .critical ≡ false) →
       TrueFrom i len c m (tick reports ∷ calls) →
       Moved live (isTick m (tick reports)) (rowAt (next m (tick reports)) i) (next m (tick reports) .critical)
       (ranAfter i m (tick reports) c)
@@ -228,9 +234,9 @@ module _ {len : ℕ → ℕ} {work span : ℕ} (i : ℕ) (m : Model) {c : ℕ �
           (λ f. (plain .calm f .0, ap isLate (sym (plain .row)) ∙ plain .calm f .1))
       go (ends o) = ended o
 
-  -- One call of a high task's alive job, or of any while the mode stays typical.
+  -- One call of an alive job that survives a switch, or of any while the mode stays typical.
   pub live-step : (x : Call) (calls : List Call) → i < length (m .rows) →
-      (isHigh (rowAt m i .fixed) ≡ true) ⊎ (next m x .critical ≡ false) →
+      (survives (rowAt m i .fixed) ≡ true) ⊎ (next m x .critical ≡ false) →
       isReleaseOf i m x ≡ false → TrueFrom i len c m (x ∷ calls) →
       Moved live (isTick m x) (rowAt (next m x) i) (next m x .critical) (ranAfter i m x c)
   live-step x calls known why none h = go (turn m i x known)
@@ -241,5 +247,5 @@ module _ {len : ℕ → ℕ} {work span : ℕ} (i : ℕ) (m : Model) {c : ℕ �
       go (ticks reports e a at) =
           subst (λ (y : Call). Moved live (isTick m y) (rowAt (next m y) i) (next m y .critical) (ranAfter i m y c)) (sym e)
           (tick-step reports calls (ap (isAccepted m) (sym e) ∙ a) at
-          (subst (λ (y : Call). (isHigh (rowAt m i .fixed) ≡ true) ⊎ (next m y .critical ≡ false)) e why)
+          (subst (λ (y : Call). (survives (rowAt m i .fixed) ≡ true) ⊎ (next m y .critical ≡ false)) e why)
           (subst (λ (y : Call). TrueFrom i len c m (y ∷ calls)) e h))

@@ -12,7 +12,7 @@ use Rattle.sheet.specs.declared.task.Budget.{Budget}
 use Rattle.sheet.specs.declared.task.TaskSet.{TaskSet}
 use Rattle.shares.specs.declared.share.Share.{Share}
 use Rattle.shares.proofs.Ends.{overload-ends, virtual-positive}
-use Rattle.model.specs.Row.{Fixed, Row, highLevel, isHigh, isLate}
+use Rattle.model.specs.Row.{Fixed, Row, highLevel, isHigh, isLate, survives}
 use Rattle.model.specs.Step.{Model, Call, rowAt}
 use Rattle.sheet.specs.Format.{taskIn}
 use Rattle.shares.specs.Totals.{shareAt}
@@ -20,34 +20,39 @@ use Rattle.model.specs.Plan.{freshRow, Planned}
 use Rattle.model.specs.Claim.{begun, EndInTime, Deadline}
 use Rattle.model.proofs.Steps.{next}
 use Rattle.model.proofs.Lasting.{fixed-step, same-fixed}
-use Rattle.model.proofs.Job.{Live, live-bounds}
+use Rattle.model.proofs.Job.{pace, Live, live-bounds}
 use Rattle.model.proofs.Released.{plannedFixed, high-fixed}
 use Rattle.model.proofs.Ending.{Kept, ended-by-deadline}
 
 -- A job that keeps the budget and had at most V full ticks in typical mode is alive only below D.
 abbrev Closes : ℕ → ℕ → Fixed → Type 0
 Closes work span f =
-    (f₁ f₂ p : ℕ) → f₁ ≤ f .virtual → p + 1 ≤ span → f .share .typical * f₁ + f .share .critical * f₂ + p + 1 ≤ work →
+    (f₁ f₂ p : ℕ) → f₁ ≤ f .virtualDeadline → p + 1 ≤ span → pace f .typical * f₁ + pace f .critical * f₂ + p + 1 ≤ work →
     f₁ + f₂ + p + 1 ≤ f .deadline
 
 -- A high job in time: n ticks after its release, f₁ of them full in typical mode.
 record Timely (work span : ℕ) (f : Fixed) (critical : Bool) (n f₁ : ℕ) : Type 0 where
   pub high : isHigh f ≡ true
   pub closes : Closes work span f
-  pub early : f₁ ≤ f .virtual
-  pub calm : critical ≡ false → n < f .virtual
+  pub early : f₁ ≤ f .virtualDeadline
+  pub calm : critical ≡ false → n < f .virtualDeadline
 
 below : {len : ℕ → ℕ} {work span : ℕ} {r : Row} {critical : Bool} {c : ℕ → ℕ} {n : ℕ}
     (live : Live len work span r critical c n) →
-    live .full₁ ≤ r .fixed .virtual → Closes work span (r .fixed) → n < r .fixed .deadline
+    live .full₁ ≤ r .fixed .virtualDeadline → Closes work span (r .fixed) → n < r .fixed .deadline
 below live early closes =
     let b = live-bounds live in
     omega (arith, closes (live .full₁) (live .full₂) (live .partial) early (b .0) (b .1), live .ticks)
 
-not-late : (r : Row) → isHigh (r .fixed) ≡ true → r .job .alive ≡ true → isLate r ≡ false → r .job .age < r .fixed .virtual
+not-late : (r : Row) → isHigh (r .fixed) ≡ true → r .job .alive ≡ true → isLate r ≡ false → r .age < r .fixed .virtualDeadline
 unfolding isLate
 not-late r high alive e =
     let not-past = rw (high, alive) at e in omega (arith, leb-false)
+
+-- S8.6: the job of a high task survives a switch.
+high-survives : (f : Fixed) → isHigh f ≡ true → survives f ≡ true
+unfolding survives
+high-survives f high = high
 
 -- One more tick in time.
 timely-tick : {len : ℕ → ℕ} {work span : ℕ} {r r′ : Row} {critical critical′ : Bool} {c d : ℕ → ℕ} {n : ℕ} →
@@ -58,11 +63,11 @@ timely-tick : {len : ℕ → ℕ} {work span : ℕ} {r r′ : Row} {critical cri
 timely-tick {r′} {critical} {critical′} {n} live t l most more calm =
     record { high = t .high; closes = t .closes; early = early critical refl; calm = calmer }
   where
-    early : (b : Bool) → critical ≡ b → l .full₁ ≤ r′ .fixed .virtual
+    early : (b : Bool) → critical ≡ b → l .full₁ ≤ r′ .fixed .virtualDeadline
     early true e = omega (arith, more e, t .early)
     early false e = omega (arith, t .calm e, live .ticks)
 
-    calmer : critical′ ≡ false → n + 1 < r′ .fixed .virtual
+    calmer : critical′ ≡ false → n + 1 < r′ .fixed .virtualDeadline
     calmer e = omega (arith, not-late r′ (t .high) (l .alive) (calm e .1), l .age, below l (early critical refl) (t .closes))
 
 -- Being in time is kept.
@@ -74,7 +79,7 @@ unfolding AtModel
 kept-timely len work span i =
     record {
       in-time = λ m calls c n live t. below live (t .early) (t .closes);
-      plain = λ m x calls n f₁ t. inl (t .high);
+      plain = λ m x calls n f₁ t. inl (high-survives (rowAt m i .fixed) (t .high));
       on-rest = λ m x calls n f₁ t mode.
           subst₂ (λ (f : Fixed) (b : Bool). Timely work span f b n f₁) (sym (fixed m x)) (sym mode) t;
       on-tick = λ m x calls c d n live t l most more calm.

@@ -10,7 +10,7 @@ use lib.ListN.{length}
 use Rattle.sheet.specs.declared.task.Budget.{Budget}
 use Rattle.sheet.specs.declared.task.TaskSet.{TaskSet}
 use Rattle.shares.specs.declared.share.Share.{Share}
-use Rattle.model.specs.Row.{isHigh, isLate}
+use Rattle.model.specs.Row.{isLate, survives}
 use Rattle.model.specs.Step.{Model, Call, release, rowAt}
 use Rattle.model.specs.Run.{after, isTick, isReleaseOf, ticksIn, releasesIn, TrueReports}
 use Rattle.sheet.specs.Format.{taskIn}
@@ -29,7 +29,7 @@ pub record Kept (len : ℕ → ℕ) (work span i : ℕ) (Good : Model → List C
   pub in-time : (m : Model) (calls : List Call) (c : ℕ → ℕ) (n : ℕ) (live : Live len work span (rowAt m i) (m .critical) c n) →
       Good m calls n (live .full₁) → n < rowAt m i .fixed .deadline
   pub plain : (m : Model) (x : Call) (calls : List Call) (n f₁ : ℕ) → Good m (x ∷ calls) n f₁ →
-      (isHigh (rowAt m i .fixed) ≡ true) ⊎ (next m x .critical ≡ false)
+      (survives (rowAt m i .fixed) ≡ true) ⊎ (next m x .critical ≡ false)
   pub on-rest : (m : Model) (x : Call) (calls : List Call) (n f₁ : ℕ) → Good m (x ∷ calls) n f₁ →
       next m x .critical ≡ m .critical →
       Good (next m x) calls n f₁

@@ -9,7 +9,7 @@ use lib.ListN.{getD, replicate}
 use Rattle.sheet.specs.declared.task.TaskSet.{TaskSet}
 use Rattle.shares.specs.declared.share.Share.{Share}
 use Rattle.shares.specs.Test.{excess, demand, passes, virtualDeadline}
-use Rattle.sheet.specs.Level.{isLow, isHigh}
+use Rattle.sheet.specs.Level.{isLow, isHigh as levelHigh}
 use Rattle.shares.specs.Deadline.{virtualOf}
 use Rattle.nodes.proofs.Bits.{has-zero}
 use Rattle.model.specs.Budget.{sumBelow, Chain, alone as single, link, along}
@@ -19,8 +19,8 @@ use Rattle.model.specs.Plan.{freshRow, fresh, LawfulTask, PassingPair, L
 use Rattle.model.specs.Claim.{KeepsBudget, DeadlinePassed}
 use Rattle.basics.specs.Lists.{range}
 use Rattle.nodes.specs.Sets.{has}
-use Rattle.model.specs.Row.{lowLevel, highLevel, isHigh, isSubset, allEnded, precedes, predecessorsOf, isReady, ready, running, runningSet, releasedRow, joined, tickedRow, isLate, switchedRow}
-use Rattle.model.specs.Step.{release, tick, step, rowAt, releaseRefusal, tickRefusal, released, ticked}
+use Rattle.model.specs.Row.{lowLevel, highLevel, isHigh, isSubset, allEnded, precedes, predecessorsOf, isReady, ready, running, runningSet, releasedRow, joined, tickedRow, isLate, survives, switchedRow}
+use Rattle.model.specs.Step.{release, tick, step, rowAt, granted, releaseRefusal, tickRefusal, released, ticked}
 use Rattle.model.specs.Run.{after, isAccepted}
 use Rattle.model.proofs.Worked.{alone}
 
@@ -50,7 +50,7 @@ sharesA = record { typical = 1; critical = 2 } ∷ []
 
 -- S11.2: V is 9, and its fresh model is the one of the worked facts.
 fresh-alone : fresh sheetA sharesA ≡ alone
-unfolding fresh freshRow virtualOf isLow virtualDeadline isHigh
+unfolding fresh freshRow virtualOf isLow levelHigh virtualDeadline
 fresh-alone = refl
 
 -- The task set and the shares are planned.
@@ -125,7 +125,7 @@ nominal-alone = record { positive = positive; work = lit≤ tt; span = span }
 
 -- S10.7: the deadline of a job of it passes with the 45th tick after the release.
 passed-alone : DeadlinePassed (taskIn sheetA 0) 0 (after alone (release 0 ∷ [])) (replicate 45 (tick (0 ∷ [])))
-unfolding taskIn has range highLevel isHigh isSubset allEnded predecessorsOf isReady ready running runningSet releasedRow joined tickedRow isLate switchedRow step rowAt releaseRefusal tickRefusal released ticked isAccepted
+unfolding taskIn has range highLevel isHigh isSubset allEnded predecessorsOf isReady ready running runningSet releasedRow joined tickedRow isLate survives switchedRow step rowAt granted releaseRefusal tickRefusal released ticked isAccepted
 passed-alone =
     record {
       before = replicate 44 (tick (0 ∷ []));

@@ -2,7 +2,7 @@
 -- ended nodes are those that have run their lengths.
 use Prim.Native.Nat.{ℕ, _+_, _*_, _≤_, _<_, _^_, min}
 use mathlib.Core.Path.{_≡_, refl, sym, ap, ap₂, _∙_}
-use mathlib.Core.Bool.{Bool, true, false, cond, not, _&&_, _||_, true≢false, false≢true}
+use mathlib.Core.Bool.{Bool, true, false, not, _&&_, _||_, true≢false, false≢true}
 use native.Mathlib.Nat.{lt-of-lt-of-le, lt-of-le-of-lt}
 use native.Mathlib.Omega.{arith}
 use native.Mathlib.Decide.{decLt}
@@ -15,6 +15,7 @@ use Rattle.basics.specs.Lists.{bit, count, allBelow}
 use Rattle.nodes.specs.Sets.{has}
 use Rattle.nodes.proofs.Bits.{has-zero, has-above, has-and, has-or, has-ext}
 use Rattle.model.specs.Budget.{Keeps}
+use Rattle.shares.specs.declared.share.Share.{Share}
 use Rattle.shares.specs.Totals.{shareIn}
 use Rattle.model.specs.Row.{Fixed, Row, isSubset, allEnded, predecessorsOf, precedes, isReady, runningSet, releasedRow, joined, tickedRow}
 use Rattle.model.specs.Run.{isDue}
@@ -75,14 +76,13 @@ ready-test r d alive v l =
     (subset-test (r .fixed .nodes) mask (r .job .ended) (lt-of-lt-of-le (d v l) (pow-mono (omega arith))))
 
 -- So are the running ones.
-runs-is : (critical : Bool) (r : Row) → Downwards (r .fixed) → r .job .alive ≡ true → (v : ℕ) → v < r .fixed .nodes →
-    has (runningSet critical r) v
-    ≡ runs (shareIn critical (r .fixed .share)) (r .fixed .nodes) (precedes (r .fixed .predecessors)) (has (r .job .ended)) v
+runs-is : (grant : ℕ) (r : Row) → Downwards (r .fixed) → r .job .alive ≡ true → (v : ℕ) → v < r .fixed .nodes →
+    has (runningSet grant r) v ≡ runs grant (r .fixed .nodes) (precedes (r .fixed .predecessors)) (has (r .job .ended)) v
 unfolding lowest
-runs-is critical r d alive v l =
-    runs-test critical r v
-    ∙ ap (λ (x : Bool). x && (isReady r v && ltb (count (isReady r) v) (shareIn critical (r .fixed .share)))) (lt-ltb v (r .fixed .nodes) l)
-    ∙ lowest-same (shareIn critical (r .fixed .share)) v (isReady r)
+runs-is grant r d alive v l =
+    runs-test grant r v
+    ∙ ap (λ (x : Bool). x && (isReady r v && ltb (count (isReady r) v) grant)) (lt-ltb v (r .fixed .nodes) l)
+    ∙ lowest-same grant v (isReady r)
     (ready (r .fixed .nodes) (precedes (r .fixed .predecessors)) (has (r .job .ended)))
     (λ u b. ready-test r d alive u (omega arith))
 
@@ -92,6 +92,10 @@ all-ended-test k set =
     bool-ext (allEnded k set) (allBelow k (has set))
     (λ e. all-intro k (has set) (λ v l. all-ended-at k set v e l))
     (λ e. all-ended-intro k set (all-at k (has set) e))
+
+-- What a task is granted while a job of it is alive: so much in typical and so much in critical mode.
+abbrev pub pace : Fixed → Share
+pace f = f .share
 
 -- The job of a row is alive, n accepted ticks after its release: each node v ran on c v of them and has ended if that is its length.
 -- Of these ticks full₁ were full in typical and full₂ in critical mode, and partial ones were not full.
@@ -105,10 +109,10 @@ pub record Live (len : ℕ → ℕ) (work span : ℕ) (r : Row) (critical : Bool
   pub partial : ℕ
   pub ticks : full₁ + full₂ + partial ≡ n
   pub typical : critical ≡ false → full₂ ≡ 0
-  pub age : r .job .age ≡ min n (r .fixed .deadline)
+  pub age : r .age ≡ min n (r .fixed .deadline)
   pub done : (v : ℕ) → v < r .fixed .nodes → has (r .job .ended) v ≡ ended len c v
-  pub progress : Progress (r .fixed .nodes) (precedes (r .fixed .predecessors)) len (r .fixed .share .typical)
-      (r .fixed .share .critical) span c full₁ full₂ partial
+  pub progress : Progress (r .fixed .nodes) (precedes (r .fixed .predecessors)) len (pace (r .fixed) .typical)
+      (pace (r .fixed) .critical) span c full₁ full₂ partial
 
 -- A job that has ended.
 pub record Over (r : Row) : Type 0 where
@@ -133,13 +137,13 @@ begun-live r critical sound down keeps =
       typical = λ _. refl;
       age = omega arith;
       done = λ v l. has-zero v ∙ sym (begin-unended keeps v l);
-      progress = begin (r .fixed .share .typical) (r .fixed .share .critical) keeps;
+      progress = begin (pace (r .fixed) .typical) (pace (r .fixed) .critical) keeps;
     }
 
 -- A job that keeps the budget and had full ticks only in typical mode is alive only below the bound.
 abbrev pub TypicalBelow : ℕ → ℕ → Fixed → ℕ → Type 0
 TypicalBelow work span f bound =
-    (full p : ℕ) → p + 1 ≤ span → f .share .typical * full + p + 1 ≤ work → full + p + 1 ≤ bound
+    (full p : ℕ) → p + 1 ≤ span → pace f .typical * full + p + 1 ≤ work → full + p + 1 ≤ bound
 
 module _ {len : ℕ → ℕ} {work span : ℕ} {r : Row} {critical : Bool} {c : ℕ → ℕ} {n : ℕ}
     (live : Live len work span r critical c n) where
@@ -149,63 +153,59 @@ module _ {len : ℕ → ℕ} {work span : ℕ} {r : Row} {critical : Bool} {c : 
 
   -- While a job is alive, a tick is left of the span and of the work.
   pub live-bounds : (live .partial + 1 ≤ span)
-      × (r .fixed .share .typical * live .full₁ + r .fixed .share .critical * live .full₂ + live .partial + 1 ≤ work)
+      × (pace (r .fixed) .typical * live .full₁ + pace (r .fixed) .critical * live .full₂ + live .partial + 1 ≤ work)
   live-bounds = bounds (live .keeps) (live .progress) (alive-same (live .done) some-left)
 
   -- In typical mode all full ticks were typical ones: a bound on what such a job can have behind it holds for n.
   pub typical-below : {bound : ℕ} → critical ≡ false → TypicalBelow work span (r .fixed) bound → n < bound
   typical-below typical below =
       let none : live .full₂ ≡ 0 = live .typical typical in
-      let spent : r .fixed .share .critical * live .full₂ ≡ 0 = rw none (omega arith) in
+      let spent : pace (r .fixed) .critical * live .full₂ ≡ 0 = rw none (omega arith) in
       omega (arith, below (live .full₁) (live .partial) (live-bounds .0) (omega (arith, live-bounds .1)), live .ticks)
 
-  share-is : shareIn critical (r .fixed .share) ≡ cond critical (r .fixed .share .critical) (r .fixed .share .typical)
-  share-is = refl
+  runs-here : ℕ → ℕ → Bool
+  runs-here grant v = runs grant (r .fixed .nodes) (precedes (r .fixed .predecessors)) (ended len c) v
 
-  runs-here : ℕ → Bool
-  runs-here v = runs (shareIn critical (r .fixed .share)) (r .fixed .nodes) (precedes (r .fixed .predecessors)) (ended len c) v
-
-  ran-is : (v : ℕ) → v < r .fixed .nodes → has (runningSet critical r) v ≡ runs-here v
+  ran-is : (grant v : ℕ) → v < r .fixed .nodes → has (runningSet grant r) v ≡ runs-here grant v
   unfolding runs-here
-  ran-is v l =
-      runs-is critical r (live .downwards) (live .alive) v l
-      ∙ runs-same (r .fixed .nodes) (precedes (r .fixed .predecessors)) (shareIn critical (r .fixed .share)) (has (r .job .ended))
-      (ended len c) (live .done) v l
+  ran-is grant v l =
+      runs-is grant r (live .downwards) (live .alive) v l
+      ∙ runs-same (r .fixed .nodes) (precedes (r .fixed .predecessors)) grant (has (r .job .ended)) (ended len c) (live .done) v l
 
   -- With a true report the ended nodes are again those that have run their lengths.
-  done-next : (d : ℕ → ℕ) (report : ℕ) →
-      ((v : ℕ) → d v ≡ c v + bit (has (runningSet critical r) v)) →
-      ((v : ℕ) → has report v ≡ isDue (has (runningSet critical r) v) (c v) (len v)) →
+  done-next : (grant : ℕ) (d : ℕ → ℕ) (report : ℕ) →
+      ((v : ℕ) → d v ≡ c v + bit (has (runningSet grant r) v)) →
+      ((v : ℕ) → has report v ≡ isDue (has (runningSet grant r) v) (c v) (len v)) →
       (v : ℕ) → v < r .fixed .nodes → has (joined r report) v ≡ ended len d v
   unfolding joined runs-here
-  done-next d report counts true-report v l =
+  done-next grant d report counts true-report v l =
       has-or (r .job .ended) report v
       ∙ ap₂ (λ (x y : Bool). x || y) (live .done v l)
-      (true-report v ∙ ap (λ (t : Bool). isDue t (c v) (len v)) (ran-is v l) ∙ due-last (runs-here v) (c v) (len v))
-      ∙ sym (ended-next (shareIn critical (r .fixed .share)) (r .fixed .nodes) (precedes (r .fixed .predecessors)) len c v)
-      ∙ sym (ended-same len d (next (shareIn critical (r .fixed .share)) (r .fixed .nodes) (precedes (r .fixed .predecessors)) len c) v
-      (counts v ∙ ap (λ (t : Bool). c v + bit t) (ran-is v l)))
+      (true-report v ∙ ap (λ (t : Bool). isDue t (c v) (len v)) (ran-is grant v l) ∙ due-last (runs-here grant v) (c v) (len v))
+      ∙ sym (ended-next grant (r .fixed .nodes) (precedes (r .fixed .predecessors)) len c v)
+      ∙ sym (ended-same len d (next grant (r .fixed .nodes) (precedes (r .fixed .predecessors)) len c) v
+      (counts v ∙ ap (λ (t : Bool). c v + bit t) (ran-is grant v l)))
 
-  -- What an accepted tick with a true report makes of an alive job.
+  -- What an accepted tick with a true report makes of an alive job. The grant is the pace in the mode, whoever decided it.
   pub data AfterTick (r′ : Row) (d : ℕ → ℕ) : Type 0 where
     goes-on : (l : Live len work span r′ critical d (n + 1)) → l .full₁ ≤ live .full₁ + 1 →
         (critical ≡ true → l .full₁ ≡ live .full₁) → AfterTick r′ d
     ends : Over r′ → AfterTick r′ d
 
-  pub live-tick : (d : ℕ → ℕ) (report : ℕ) →
-      isSubset report (runningSet critical r) ≡ true →
-      ((v : ℕ) → d v ≡ c v + bit (has (runningSet critical r) v)) →
-      ((v : ℕ) → has report v ≡ isDue (has (runningSet critical r) v) (c v) (len v)) →
+  pub live-tick : (grant : ℕ) → grant ≡ shareIn critical (pace (r .fixed)) → (d : ℕ → ℕ) (report : ℕ) →
+      isSubset report (runningSet grant r) ≡ true →
+      ((v : ℕ) → d v ≡ c v + bit (has (runningSet grant r) v)) →
+      ((v : ℕ) → has report v ≡ isDue (has (runningSet grant r) v) (c v) (len v)) →
       AfterTick (tickedRow r report) d
   unfolding tickedRow
-  live-tick d report named counts true-report = go (allEnded (r .fixed .nodes) (joined r report)) refl
+  live-tick grant paced d report named counts true-report = go (allEnded (r .fixed .nodes) (joined r report)) refl
     where
-      ticked : Ticked (r .fixed .nodes) (precedes (r .fixed .predecessors)) len (r .fixed .share .typical)
-          (r .fixed .share .critical) span critical d (live .full₁) (live .full₂) (live .partial)
+      ticked : Ticked (r .fixed .nodes) (precedes (r .fixed .predecessors)) len (pace (r .fixed) .typical)
+          (pace (r .fixed) .critical) span critical d (live .full₁) (live .full₂) (live .partial)
       ticked =
-          tick-as (shareIn critical (r .fixed .share)) (live .progress) (has (r .job .ended)) d (live .done)
-          (λ v l. counts v ∙ ap (λ (t : Bool). c v + bit t) (runs-is critical r (live .downwards) (live .alive) v l))
-          (downwards-test (r .fixed) (live .downwards)) critical share-is some-left
+          tick-as grant (live .progress) (has (r .job .ended)) d (live .done)
+          (λ v l. counts v ∙ ap (λ (t : Bool). c v + bit t) (runs-is grant r (live .downwards) (live .alive) v l))
+          (downwards-test (r .fixed) (live .downwards)) critical paced some-left
 
       go : (t : Bool) → allEnded (r .fixed .nodes) (joined r report) ≡ t → AfterTick (tickedRow r report) d
       go true e = ends (record { nodes = e; gone = ap₂ (λ (x y : Bool). x && not y) (live .alive) e })
@@ -213,7 +213,7 @@ module _ {len : ℕ → ℕ} {work span : ℕ} {r : Row} {critical : Bool} {c : 
           goes-on
           (record {
             alive = ap₂ (λ (x y : Bool). x && not y) (live .alive) e;
-            sound = sound-ticked r critical report named (live .sound);
+            sound = sound-ticked r grant report named (live .sound);
             downwards = live .downwards;
             keeps = live .keeps;
             full₁ = ticked .full₁;
@@ -222,7 +222,7 @@ module _ {len : ℕ → ℕ} {work span : ℕ} {r : Row} {critical : Bool} {c : 
             ticks = omega (arith, ticked .one-more, live .ticks);
             typical = λ h. ticked .if-typical h ∙ live .typical h;
             age = omega (arith, live .age);
-            done = done-next d report counts true-report;
+            done = done-next grant d report counts true-report;
             progress = ticked .progress;
           })
           (ticked .full₁-most)

@@ -13,7 +13,7 @@ use lib.Pow.{pow-pos}
 use lib.Seq.{map-set-same}
 use Rattle.nodes.proofs.Bits.{has-zero}
 use Rattle.model.specs.Row.{Fixed, Row, fixedOf, isSubset, allEnded, runningSet, releasedRow, joined, tickedRow, switchedRow}
-use Rattle.model.specs.Step.{Model, Call, release, tick, Step, rowAt, noRow, released, tickedRows, lowestLate, switchedTo, switching, ticked}
+use Rattle.model.specs.Step.{Model, Call, release, tick, Step, rowAt, noRow, granted, released, tickedRows, lowestLate, switchedTo, switching, ticked}
 use Rattle.model.specs.Run.{after, isAccepted, isReleaseOf}
 use Rattle.model.specs.Beside.{SoundRow}
 use Rattle.model.proofs.Nodes.{running-below, subset-below, all-ended-at}
@@ -84,7 +84,7 @@ no-row m i h = List·getD-eq-default (m .rows) noRow h
 
 -- A property of a row that a tick's part and the switch keep is kept by every call, if a Release of the task brings it too.
 pub kept-by-call : (P : Row → Type 0) →
-    ((r : Row) (critical : Bool) (report : ℕ) → isSubset report (runningSet critical r) ≡ true → P r → P (tickedRow r report)) →
+    ((r : Row) (grant report : ℕ) → isSubset report (runningSet grant r) ≡ true → P r → P (tickedRow r report)) →
     ((r : Row) → P r → P (switchedRow r)) →
     (m : Model) (c : Call) (i : ℕ) → i < length (m .rows) → (isReleaseOf i m c ≡ true → P (releasedRow (rowAt m i))) →
     P (rowAt m i) → P (rowAt (next m c) i)
@@ -97,7 +97,7 @@ kept-by-call P on-tick on-switch m c i h on-release start = go (turn m i c h)
     go (ticks reports e a at) = subst (λ (x : Call). P (rowAt (next m x) i)) (sym e) (settled (at .settled))
       where
         part : P (tickedRow (rowAt m i) (getD reports i 0))
-        part = on-tick (rowAt m i) (m .critical) (getD reports i 0) (at .named) start
+        part = on-tick (rowAt m i) (granted m i) (getD reports i 0) (at .named) start
 
         settled : Settled m (next m (tick reports)) i (tickedRow (rowAt m i) (getD reports i 0)) →
             P (rowAt (next m (tick reports)) i)
@@ -129,10 +129,10 @@ sound-released r s =
       };
     }
 
-pub sound-ticked : (r : Row) (critical : Bool) (report : ℕ) → isSubset report (runningSet critical r) ≡ true → KeptSound r →
+pub sound-ticked : (r : Row) (grant report : ℕ) → isSubset report (runningSet grant r) ≡ true → KeptSound r →
     KeptSound (tickedRow r report)
 unfolding tickedRow joined
-sound-ticked r critical report named s =
+sound-ticked r grant report named s =
     record {
       some = s .some;
       sound =
@@ -140,7 +140,7 @@ sound-ticked r critical report named s =
             age = omega arith;
             ended =
                 or-lt (r .fixed .nodes) (r .job .ended) report (s .sound .ended)
-                (subset-below report (runningSet critical r) (2 ^ r .fixed .nodes) named (running-below critical r));
+                (subset-below report (runningSet grant r) (2 ^ r .fixed .nodes) named (running-below grant r));
             alive = λ e.
                 not-true (allEnded (r .fixed .nodes) (bitOr (r .job .ended) report))
                 (and-eq-true-iff (r .job .alive) (not (allEnded (r .fixed .nodes) (bitOr (r .job .ended) report))) .0 e .1);

@@ -13,22 +13,21 @@ use Rattle.basics.specs.Lists.{count}
 use Rattle.basics.proofs.Below.{range-all-at, range-all}
 use Rattle.nodes.specs.Sets.{has, setOf}
 use Rattle.nodes.proofs.Members.{setOf-keep-lt, has-setOf-keep}
-use Rattle.shares.specs.Totals.{shareIn}
 use Rattle.model.specs.Row.{Row, isSubset, allEnded, isReady, runningSet}
 use Rattle.model.proofs.Starts.{runs-first, running-is}
 
--- A node runs if it is below k, ready, and fewer than the share are ready below it.
-pub runs-test : (critical : Bool) (r : Row) (v : ℕ) →
-    has (runningSet critical r) v ≡
-    (ltb v (r .fixed .nodes) && (isReady r v && ltb (count (isReady r) v) (shareIn critical (r .fixed .share))))
+-- A node runs if it is below k, ready, and fewer than are granted are ready below it.
+pub runs-test : (grant : ℕ) (r : Row) (v : ℕ) →
+    has (runningSet grant r) v ≡
+    (ltb v (r .fixed .nodes) && (isReady r v && ltb (count (isReady r) v) grant))
 unfolding runningSet runs-first
-runs-test critical r v =
-    ap (λ (vs : List ℕ). has (setOf vs) v) (running-is critical r)
-    ∙ has-setOf-keep (runs-first critical r) (r .fixed .nodes) v
+runs-test grant r v =
+    ap (λ (vs : List ℕ). has (setOf vs) v) (running-is grant r)
+    ∙ has-setOf-keep (runs-first grant r) (r .fixed .nodes) v
 
-pub running-below : (critical : Bool) (r : Row) → runningSet critical r < 2 ^ r .fixed .nodes
+pub running-below : (grant : ℕ) (r : Row) → runningSet grant r < 2 ^ r .fixed .nodes
 unfolding runningSet
-running-below critical r = rw (running-is critical r) (setOf-keep-lt (runs-first critical r) (r .fixed .nodes))
+running-below grant r = rw (running-is grant r) (setOf-keep-lt (runs-first grant r) (r .fixed .nodes))
 
 -- A subset is no larger as a number.
 pub subset-below : (a b n : ℕ) → isSubset a b ≡ true → b < n → a < n

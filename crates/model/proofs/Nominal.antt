@@ -5,7 +5,7 @@ use mathlib.Core.Path.{_≡_, refl, sym, ap, subst, _∙_}
 use mathlib.Core.Bool.{Bool, true, false, cond, not, true≢false, and-eq-true-iff}
 use mathlib.Core.List.{List, [], _∷_}
 use mathlib.Core.Option.{Option, none, some}
-use mathlib.Core.Logic.{inl}
+use mathlib.Core.Logic.{inr}
 use native.Mathlib.Omega.{arith}
 use borrow.Author.Tests.{leb-true, eqb-true}
 use lib.Dec.{eqb}
@@ -31,7 +31,7 @@ use Rattle.model.proofs.Course.{TrueFrom, true-from-start, ranAfter, tr
 
 -- While a job that keeps the budget is alive in typical mode, fewer than V ticks have passed.
 abbrev Before : ℕ → ℕ → Fixed → Type 0
-Before work span f = TypicalBelow work span f (f .virtual)
+Before work span f = TypicalBelow work span f (f .virtualDeadline)
 
 -- An alive job of task i that keeps such a budget, with true reports over the calls to come.
 record Honest (i : ℕ) (m : Model) (calls : List Call) : Type 0 where
@@ -61,7 +61,7 @@ none-late-intro j (r ∷ rows) h =
     go t q o e n = ap (λ (b : Bool). cond b (some q) o) e ∙ n
 
 -- No job is late if it is below V, where it is an alive one of a high task.
-below-not-late : (r : Row) → (isHigh (r .fixed) ≡ true → r .job .alive ≡ true → r .job .age < r .fixed .virtual) → isLate r ≡ false
+below-not-late : (r : Row) → (isHigh (r .fixed) ≡ true → r .job .alive ≡ true → r .age < r .fixed .virtualDeadline) → isLate r ≡ false
 unfolding isLate
 below-not-late r below = go (isLate r) refl (isHigh (r .fixed)) refl (r .job .alive) refl
   where
@@ -85,7 +85,7 @@ part-not-late m reports calls calm a i known = below-not-late part early
     part : Row
     part = tickedRow r (getD reports i 0)
 
-    early : isHigh (r .fixed) ≡ true → part .job .alive ≡ true → part .job .age < r .fixed .virtual
+    early : isHigh (r .fixed) ≡ true → part .job .alive ≡ true → part .age < r .fixed .virtualDeadline
     early high alive =
         settled (part-step i m (honest .live) reports calls a (tick-at m i reports a known) (honest .reports))
       where
@@ -94,7 +94,7 @@ part-not-late m reports calls calm a i known = below-not-late part early
             (and-eq-true-iff (r .job .alive) (not (allEnded (r .fixed .nodes) (joined r (getD reports i 0)))) .0 alive .0)
 
         settled : AfterTick (honest .live) (tickedRow r (getD reports i 0)) (ranAfter i m (tick reports) (honest .counts)) →
-            part .job .age < r .fixed .virtual
+            part .age < r .fixed .virtualDeadline
         settled (goes-on l most fixed) = omega (arith, typical-below l (calm .typical) (honest .before), l .age)
         settled (ends o) = absurd (true≢false (sym alive ∙ o .gone))
 
@@ -160,10 +160,10 @@ later m x calls i job =
       accepted = job .accepted;
     }
 
-honest-next : (m : Model) (x : Call) (calls : List Call) (i : ℕ) → i < length (m .rows) → isHigh (rowAt m i .fixed) ≡ true →
+honest-next : (m : Model) (x : Call) (calls : List Call) (i : ℕ) → i < length (m .rows) → next m x .critical ≡ false →
     isReleaseOf i m x ≡ false → rowAt (next m x) i .job .alive ≡ true → Honest i m (x ∷ calls) → Honest i (next m x) calls
-honest-next m x calls i known high no-release alive h =
-    go (live-step i m (h .live) x calls known (inl high) no-release (h .reports))
+honest-next m x calls i known typical no-release alive h =
+    go (live-step i m (h .live) x calls known (inr typical) no-release (h .reports))
   where
     before : Before (h .work) (h .span) (rowAt (next m x) i .fixed)
     before = subst (Before (h .work) (h .span)) (sym (same-fixed (next m x) m (fixed-step m x) i)) (h .before)
@@ -208,7 +208,7 @@ calm-next m x calls calm =
         goes no-release = was (rowAt m i .job .alive) refl
           where
             was : (t : Bool) → rowAt m i .job .alive ≡ t → Honest i (next m x) calls
-            was true e = honest-next m x calls i known high no-release alive (calm .alive i known high e)
+            was true e = honest-next m x calls i known (quiet-step m x calls calm .typical) no-release alive (calm .alive i known high e)
             was false e = absurd (true≢false (sym alive ∙ dead-step m x i known no-release e))
 
         go : Turn m i x → Honest i (next m x) calls

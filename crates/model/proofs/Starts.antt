@@ -13,7 +13,6 @@ use Rattle.nodes.specs.Sets.{has}
 use Rattle.nodes.proofs.Bits.{has-and, within-and, within-antisymm}
 use Rattle.basics.proofs.Members.{range-has, range-within, keep-has, keep-from}
 use Rattle.basics.proofs.Counts.{count-mono, keep-lowest}
-use Rattle.shares.specs.Totals.{shareIn}
 use Rattle.model.specs.Row.{Row, isSubset, predecessorsOf, precedes, isReady, ready, running}
 use Rattle.model.specs.Beside.{MayStart, Startable}
 
@@ -57,62 +56,62 @@ ready-start r v s =
 start-ready : (r : Row) (v : ℕ) → MayStart r v → List·Memᴰ v (ready r)
 unfolding ready
 start-ready r v s =
-    keep-has (isReady r) _ v (ready-start r v s) (range-has _ (r .fixed .nodes) v (omega arith) (omega (arith, s .node)))
+    keep-has (isReady r) _ v (range-has _ (r .fixed .nodes) v (omega arith) (omega (arith, s .node))) (ready-start r v s)
 
-running-many : (critical : Bool) (r : Row) →
-    length (running critical r) ≡ min (shareIn critical (r .fixed .share)) (length (ready r))
+running-many : (grant : ℕ) (r : Row) →
+    length (running grant r) ≡ min grant (length (ready r))
 unfolding running
-running-many critical r = omega (arith, length-take (shareIn critical (r .fixed .share)) (ready r))
+running-many grant r = omega (arith, length-take grant (ready r))
 
--- A node among the first of the ready ones is ready, and fewer than the share are ready below it.
-unfoldable pub runs-first : Bool → Row → ℕ → Bool
-runs-first critical r v = isReady r v && ltb (count (isReady r) v) (shareIn critical (r .fixed .share))
+-- A node among the first of the ready ones is ready, and fewer than are granted are ready below it.
+unfoldable pub runs-first : ℕ → Row → ℕ → Bool
+runs-first grant r v = isReady r v && ltb (count (isReady r) v) grant
 
-pub running-is : (critical : Bool) (r : Row) → running critical r ≡ keep (runs-first critical r) (range 0 (r .fixed .nodes))
+pub running-is : (grant : ℕ) (r : Row) → running grant r ≡ keep (runs-first grant r) (range 0 (r .fixed .nodes))
 unfolding running ready runs-first
-running-is critical r = sym (keep-lowest (isReady r) (shareIn critical (r .fixed .share)) (r .fixed .nodes))
+running-is grant r = sym (keep-lowest (isReady r) grant (r .fixed .nodes))
 
-record First (critical : Bool) (r : Row) (v : ℕ) : Type 0 where
+record First (grant : ℕ) (r : Row) (v : ℕ) : Type 0 where
   pub node : v < r .fixed .nodes
   pub ready : isReady r v ≡ true
-  pub few : count (isReady r) v < shareIn critical (r .fixed .share)
+  pub few : count (isReady r) v < grant
 
-running-first : (critical : Bool) (r : Row) (v : ℕ) → List·Memᴰ v (running critical r) → First critical r v
+running-first : (grant : ℕ) (r : Row) (v : ℕ) → List·Memᴰ v (running grant r) → First grant r v
 unfolding runs-first
-running-first critical r v m =
+running-first grant r v m =
     record { node = omega (arith, below); ready = both .0; few = ltb-true _ _ (both .1) }
   where
-    kept : (runs-first critical r v ≡ true) × List·Memᴰ v (range 0 (r .fixed .nodes))
-    kept = keep-from (runs-first critical r) (range 0 (r .fixed .nodes)) v (subst (List·Memᴰ v) (running-is critical r) m)
+    kept : List·Memᴰ v (range 0 (r .fixed .nodes)) × (runs-first grant r v ≡ true)
+    kept = keep-from (runs-first grant r) (range 0 (r .fixed .nodes)) v (subst (List·Memᴰ v) (running-is grant r) m)
 
     below : (0 ≤ v) × (v < 0 + r .fixed .nodes)
-    below = range-within 0 (r .fixed .nodes) v (kept .1)
+    below = range-within 0 (r .fixed .nodes) v (kept .0)
 
-    both : (isReady r v ≡ true) × (ltb (count (isReady r) v) (shareIn critical (r .fixed .share)) ≡ true)
-    both = and-eq-true-iff (isReady r v) (ltb (count (isReady r) v) (shareIn critical (r .fixed .share))) .0 (kept .0)
+    both : (isReady r v ≡ true) × (ltb (count (isReady r) v) grant ≡ true)
+    both = and-eq-true-iff (isReady r v) (ltb (count (isReady r) v) grant) .0 (kept .1)
 
-first-running : (critical : Bool) (r : Row) (v : ℕ) → First critical r v → List·Memᴰ v (running critical r)
+first-running : (grant : ℕ) (r : Row) (v : ℕ) → First grant r v → List·Memᴰ v (running grant r)
 unfolding runs-first
-first-running critical r v f =
-    subst (List·Memᴰ v) (sym (running-is critical r))
-    (keep-has (runs-first critical r) (range 0 (r .fixed .nodes)) v
-    (ap₂ _&&_ (f .ready) (lt-ltb (count (isReady r) v) (shareIn critical (r .fixed .share)) (f .few)))
-    (range-has 0 (r .fixed .nodes) v (omega arith) (omega (arith, f .node))))
+first-running grant r v f =
+    subst (List·Memᴰ v) (sym (running-is grant r))
+    (keep-has (runs-first grant r) (range 0 (r .fixed .nodes)) v
+    (range-has 0 (r .fixed .nodes) v (omega arith) (omega (arith, f .node)))
+    (ap₂ _&&_ (f .ready) (lt-ltb (count (isReady r) v) grant (f .few))))
 
 -- S8.2 and S8.3, of every row.
 pub startable : (r : Row) → Startable r
 startable r =
     record {
-      runs = λ critical v m. let f = running-first critical r v m in may-start r v (f .ready) (f .node);
+      runs = λ grant v m. let f = running-first grant r v m in may-start r v (f .ready) (f .node);
       listed = start-ready r;
       lowest = lowest;
-      many = λ critical. running-many critical r;
+      many = λ grant. running-many grant r;
     }
   where
-    lowest : (critical : Bool) (u v : ℕ) → u < v → MayStart r u → List·Memᴰ v (running critical r) → List·Memᴰ u (running critical r)
-    lowest critical u v below s m =
-        let f = running-first critical r v m in
-        first-running critical r u
+    lowest : (grant u v : ℕ) → u < v → MayStart r u → List·Memᴰ v (running grant r) → List·Memᴰ u (running grant r)
+    lowest grant u v below s m =
+        let f = running-first grant r v m in
+        first-running grant r u
         (record {
           node = s .node;
           ready = ready-start r u s;

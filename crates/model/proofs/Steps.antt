@@ -1,5 +1,5 @@
 -- What one step does to one row: nothing, a release, or its part of a tick and perhaps the switch.
-use Prim.Native.Nat.{ℕ, zero, suc, _<_}
+use Prim.Native.Nat.{ℕ, zero, suc, _+_, _<_}
 use mathlib.Core.Path.{_≡_, refl, sym, ap, ap₂, subst₂, _∙_}
 use mathlib.Core.Bool.{Bool, true, false, cond, _&&_, true≢false, false≢true, and-false}
 use mathlib.Core.List.{List, [], _∷_, map}
@@ -12,7 +12,7 @@ use lib.ListN.{length, getD, List·getD-map}
 use lib.Seq.{getD-set-same, getD-set-other}
 use Rattle.model.specs.Row.{Row, isSubset, runningSet, releasedRow, tickedRow, isLate, switchedRow}
 use Rattle.sheet.specs.Answers.{noTask}
-use Rattle.model.specs.Step.{Model, Call, release, tick, Refusal, refusal, unknownTask, wrongCount, Step, step, stepBy, rowAt, noRow, releaseRefusal, reportRefusal, tickRefusal, refusalOf, released, tickedRows, lowestLate, switchedTo, switching, ticked}
+use Rattle.model.specs.Step.{Model, Call, release, tick, Refusal, refusal, unknownTask, wrongCount, Step, step, stepBy, rowAt, noRow, granted, releaseRefusal, reportRefusal, tickRefusal, refusalOf, released, tickedRows, lowestLate, switchedTo, switching, ticked}
 use Rattle.basics.specs.Lists.{isNone}
 use Rattle.model.specs.Run.{after, isAccepted, isTick, isReleaseOf}
 
@@ -36,20 +36,22 @@ get-ticked (r ∷ rows) [] i e h = absurd (omega arith)
 get-ticked (r ∷ rows) (x ∷ reports) zero e h = refl
 get-ticked (r ∷ rows) (x ∷ reports) (suc i) e h = get-ticked rows reports i (omega arith) (omega arith)
 
-get-subset : (critical : Bool) (j : ℕ) (rows : List Row) (reports : List ℕ) (i : ℕ) →
-    isNone (reportRefusal critical j rows reports) ≡ true → length reports ≡ length rows → i < length rows →
-    isSubset (getD reports i 0) (runningSet critical (getD rows i noRow)) ≡ true
-get-subset critical j [] reports i e l h = absurd (omega arith)
-get-subset critical j (r ∷ rows) [] i e l h = absurd (omega arith)
-get-subset critical j (r ∷ rows) (x ∷ reports) i e l h =
-    go i h (isSubset x (runningSet critical r)) refl _ _ e (λ u n b. get-subset critical _ rows reports u n (omega arith) b)
+-- No report of an accepted tick has a node that is not running.
+get-subset : (grants : ℕ → ℕ) (j : ℕ) (rows : List Row) (reports : List ℕ) (i : ℕ) →
+    isNone (reportRefusal grants j rows reports) ≡ true → length reports ≡ length rows → i < length rows →
+    isSubset (getD reports i 0) (runningSet (grants (j + i)) (getD rows i noRow)) ≡ true
+get-subset grants j [] reports i e l h = absurd (omega arith)
+get-subset grants j (r ∷ rows) [] i e l h = absurd (omega arith)
+get-subset grants j (r ∷ rows) (x ∷ reports) i e l h =
+    go i h (isSubset x (runningSet (grants j) r)) refl _ _ e (λ u n b. get-subset grants (suc j) rows reports u n (omega arith) b)
   where
-    go : (i : ℕ) → i < suc (length rows) → (t : Bool) → isSubset x (runningSet critical r) ≡ t → (o : Option Refusal) (q : Refusal) →
+    go : (i : ℕ) → i < suc (length rows) → (t : Bool) → isSubset x (runningSet (grants j) r) ≡ t → (o : Option Refusal) (q : Refusal) →
         isNone (cond t o (some q)) ≡ true →
-        ((u : ℕ) → isNone o ≡ true → u < length rows → isSubset (getD reports u 0) (runningSet critical (getD rows u noRow)) ≡ true) →
-        isSubset (getD (x ∷ reports) i 0) (runningSet critical (getD (r ∷ rows) i noRow)) ≡ true
-    go zero b true s o q n rest = s
-    go (suc u) b true s o q n rest = rest u n (omega arith)
+        ((u : ℕ) → isNone o ≡ true → u < length rows →
+        isSubset (getD reports u 0) (runningSet (grants (suc j + u)) (getD rows u noRow)) ≡ true) →
+        isSubset (getD (x ∷ reports) i 0) (runningSet (grants (j + i)) (getD (r ∷ rows) i noRow)) ≡ true
+    go zero b true s o q n rest = let here : j + 0 ≡ j = omega arith in rw here s
+    go (suc u) b true s o q n rest = let there : j + suc u ≡ suc j + u = omega arith in rw there (rest u n (omega arith))
     go u b false s o q n rest = absurd (false≢true n)
 
 none-late : (j : ℕ) (rows : List Row) (i : ℕ) → lowestLate j rows ≡ none → i < length rows → isLate (getD rows i noRow) ≡ false
@@ -93,7 +95,7 @@ settle m rows i h = go (m .critical) refl
 
 -- An accepted tick, as task i sees it.
 pub record TickAt (m : Model) (i : ℕ) (reports : List ℕ) : Type 0 where
-  pub named : isSubset (getD reports i 0) (runningSet (m .critical) (rowAt m i)) ≡ true
+  pub named : isSubset (getD reports i 0) (runningSet (granted m i) (rowAt m i)) ≡ true
   pub settled : Settled m (next m (tick reports)) i (tickedRow (rowAt m i) (getD reports i 0))
 
 -- An accepted Release of task i.
@@ -142,13 +144,13 @@ release-at m i e =
 
 -- What the refusals 14 and 15 leave of an accepted tick.
 pub tick-tests : (m : Model) (reports : List ℕ) → isAccepted m (tick reports) ≡ true →
-    (length reports ≡ length (m .rows)) × (isNone (reportRefusal (m .critical) 0 (m .rows) reports) ≡ true)
+    (length reports ≡ length (m .rows)) × (isNone (reportRefusal (granted m) 0 (m .rows) reports) ≡ true)
 unfolding isAccepted tickRefusal
 tick-tests m reports e = go (eqb (length reports) (length (m .rows))) refl e
   where
     go : (t : Bool) → eqb (length reports) (length (m .rows)) ≡ t →
-        isNone (cond t (reportRefusal (m .critical) 0 (m .rows) reports) (refusal wrongCount noTask)) ≡ true →
-        (length reports ≡ length (m .rows)) × (isNone (reportRefusal (m .critical) 0 (m .rows) reports) ≡ true)
+        isNone (cond t (reportRefusal (granted m) 0 (m .rows) reports) (refusal wrongCount noTask)) ≡ true →
+        (length reports ≡ length (m .rows)) × (isNone (reportRefusal (granted m) 0 (m .rows) reports) ≡ true)
     go true s n = (eqb-true (length reports) (length (m .rows)) s, n)
     go false s n = absurd (false≢true n)
 
@@ -158,7 +160,9 @@ unfolding rowAt ticked
 tick-at m i reports e h =
     let tests = tick-tests m reports e in
     record {
-      named = get-subset (m .critical) 0 (m .rows) reports i (tests .1) (tests .0) h;
+      named =
+          let here : 0 + i ≡ i = omega arith in
+          rw here at (get-subset (granted m) 0 (m .rows) reports i (tests .1) (tests .0) h);
       settled =
           subst₂ (λ (n : Model) (r : Row). Settled m n i r)
           (sym (ap (λ (s : Step). s .model) (accepted-step m (tick reports) e)))

@@ -30,6 +30,12 @@ unfolding sumBelow
 sum-same zero f g h = refl
 sum-same (suc k) f g h = omega (arith, sum-same k f g (λ v l. h v (omega arith)), h k (omega arith))
 
+-- The first term apart.
+pub sum-first : (k : ℕ) (f : ℕ → ℕ) → sumBelow (suc k) f ≡ f 0 + sumBelow k (λ v. f (suc v))
+unfolding sumBelow
+sum-first zero f = omega arith
+sum-first (suc k) f = omega (arith, sum-first k f)
+
 pub sum-add : (k : ℕ) (f g : ℕ → ℕ) → sumBelow k (λ v. f v + g v) ≡ sumBelow k f + sumBelow k g
 unfolding sumBelow
 sum-add zero f g = refl

@@ -1,18 +1,18 @@
 -- Worked facts by computation: the definitions on small models.
 use Prim.Native.Nat.{ℕ}
 use mathlib.Core.Path.{_≡_, refl}
-use mathlib.Core.Bool.{true, false}
+use mathlib.Core.Bool.{Bool, true, false}
 use mathlib.Core.List.{List, [], _∷_, _++_}
 use lib.ListN.{replicate, getD}
 use Rattle.basics.specs.Lists.{range, keep}
 use Rattle.nodes.specs.Sets.{has}
-use Rattle.model.specs.Row.{Row, highLevel, isHigh, isSubset, allEnded, predecessorsOf, isReady, ready, running, runningSet, releasedRow, joined, tickedRow, isLate, switchedRow}
-use Rattle.model.specs.Step.{Model, Call, release, tick, accepted, ran, switched, refused, step, rowAt, unknownTask, lowInCritical, tooEarly, wrongCount, notRunning, releaseRefusal, tickRefusal, released, ticked}
+use Rattle.model.specs.Row.{Row, highLevel, isHigh, isSubset, allEnded, predecessorsOf, isReady, ready, running, runningSet, releasedRow, joined, tickedRow, isLate, survives, switchedRow}
+use Rattle.model.specs.Step.{Model, Call, release, tick, accepted, ran, switched, refused, step, rowAt, granted, runningAt, unknownTask, lowInCritical, tooEarly, wrongCount, notRunning, releaseRefusal, tickRefusal, released, ticked}
 use Rattle.model.specs.Run.{after, answers, isAccepted, ticksIn, isRunning, runsIn, isDue}
 
 -- A row without a job: level, nodes, masks, D, V and both shares.
 abbrev pub idle : ℕ → ℕ → List ℕ → ℕ → ℕ → ℕ → ℕ → Row
-idle level nodes masks deadline virtual typical critical =
+idle level nodes masks deadline virtualDeadline typical critical =
     record {
       fixed =
           record {
@@ -20,10 +20,11 @@ idle level nodes masks deadline virtual typical critical =
             nodes = nodes;
             predecessors = masks;
             deadline = deadline;
-            virtual = virtual;
+            virtualDeadline = virtualDeadline;
             share = record { typical = typical; critical = critical };
           };
-      job = record { age = deadline; ended = 0; alive = false };
+      age = deadline;
+      job = record { ended = 0; alive = false };
     }
 
 -- S11.13: task A alone, at (1, 2): D 45, V 9, three nodes without predecessors.
@@ -77,15 +78,25 @@ ladder = record { critical = false; rows = idle 1 4 (0 ∷ 1 ∷ 2 ∷ 5 ∷ [])
 
 -- What runs of a model's task 0 after a list of calls.
 abbrev runs : Model → List Call → List ℕ
-runs m calls = running (after m calls .critical) (rowAt (after m calls) 0)
+runs m calls = runningAt (after m calls) 0
+
+-- What calls change of a task (S7.1).
+record Changed : Type 0 where
+  pub age : ℕ
+  pub ended : ℕ
+  pub alive : Bool
+
+-- That of a model's task i.
+abbrev changedAt : Model → ℕ → Changed
+changedAt m i = record { age = rowAt m i .age; ended = rowAt m i .job .ended; alive = rowAt m i .job .alive }
 
 pub record Worked : Type 0 where
   -- S11.13, lengths 4, 3, 2: a job that ends with tick V causes no switch.
   pub in-time : answers alone endsInTime ≡ accepted ∷ replicate 9 ran
-  pub in-time-gone : rowAt (after alone endsInTime) 0 .job ≡ record { age = 9; ended = 7; alive = false }
+  pub in-time-gone : changedAt (after alone endsInTime) 0 ≡ record { age = 9; ended = 7; alive = false }
   -- S11.13, lengths 4, 3, 3: the job is alive after tick 9, which switches.
   pub late : answers alone endsLate ≡ accepted ∷ replicate 8 ran ++ switched 0 ∷ []
-  pub late-alive : rowAt (after alone endsLate) 0 .job ≡ record { age = 9; ended = 3; alive = true }
+  pub late-alive : changedAt (after alone endsLate) 0 ≡ record { age = 9; ended = 3; alive = true }
   -- S10.5: a node is due with the tick that brings what it ran to its length, neither before nor after, and only if it runs.
   pub not-due : due (4 ∷ 3 ∷ 2 ∷ []) (quiet 2) ≡ []
   pub due-first : due (4 ∷ 3 ∷ 2 ∷ []) (quiet 3) ≡ 0 ∷ []
@@ -114,13 +125,13 @@ pub record Worked : Type 0 where
   -- then refused.
   pub lowest : answers mixed (three ++ tick (0 ∷ 0 ∷ 0 ∷ 1 ∷ []) ∷ silent ∷ release 3 ∷ [])
       ≡ accepted ∷ accepted ∷ accepted ∷ ran ∷ switched 1 ∷ refused (record { number = 12; task = 3 }) ∷ []
-  pub dropped : rowAt (after mixed (three ++ tick (0 ∷ 0 ∷ 0 ∷ 1 ∷ []) ∷ silent ∷ [])) 3 .job
+  pub dropped : changedAt (after mixed (three ++ tick (0 ∷ 0 ∷ 0 ∷ 1 ∷ []) ∷ silent ∷ [])) 3
       ≡ record { age = 2; ended = 1; alive = false }
-  pub kept : rowAt (after mixed (three ++ silent ∷ silent ∷ [])) 2 .job ≡ record { age = 2; ended = 0; alive = true }
+  pub kept : changedAt (after mixed (three ++ silent ∷ silent ∷ [])) 2 ≡ record { age = 2; ended = 0; alive = true }
   -- S8.3: the lowest ready nodes run, as many as the share in the mode; a node that ends lets a later one start.
-  pub first-nodes : running false (rowAt (after fork (release 0 ∷ [])) 0) ≡ 0 ∷ 1 ∷ []
-  pub next-nodes : running false (rowAt (after fork (release 0 ∷ tick (1 ∷ []) ∷ [])) 0) ≡ 1 ∷ 2 ∷ []
-  pub in-critical : running true (rowAt (after fork (release 0 ∷ tick (1 ∷ []) ∷ [])) 0) ≡ 1 ∷ 2 ∷ 3 ∷ []
+  pub first-nodes : runs fork (release 0 ∷ []) ≡ 0 ∷ 1 ∷ []
+  pub next-nodes : runs fork (release 0 ∷ tick (1 ∷ []) ∷ []) ≡ 1 ∷ 2 ∷ []
+  pub in-critical : runningAt (record { critical = true; rows = after fork (release 0 ∷ tick (1 ∷ []) ∷ []) .rows }) 0 ≡ 1 ∷ 2 ∷ 3 ∷ []
   pub counted : runsIn 0 2 fork (release 0 ∷ tick (1 ∷ []) ∷ tick (2 ∷ []) ∷ tick (0 ∷ []) ∷ []) ≡ 2
   -- S8.2: a node waits until each of its predecessors has ended, although there is a processor for it: node 3 too, of whose
   -- predecessors node 0 has.
@@ -129,7 +140,7 @@ pub record Worked : Type 0 where
   pub level-three : runs ladder (release 0 ∷ tick (1 ∷ []) ∷ tick (2 ∷ []) ∷ []) ≡ 2 ∷ []
   pub level-four : runs ladder (release 0 ∷ tick (1 ∷ []) ∷ tick (2 ∷ []) ∷ tick (4 ∷ []) ∷ []) ≡ 3 ∷ []
   -- S8.5: a node that was reported stays ended, and it is refused as a report from then on.
-  pub stays-ended : rowAt (after ladder (release 0 ∷ tick (1 ∷ []) ∷ tick (0 ∷ []) ∷ tick (2 ∷ []) ∷ [])) 0 .job
+  pub stays-ended : changedAt (after ladder (release 0 ∷ tick (1 ∷ []) ∷ tick (0 ∷ []) ∷ tick (2 ∷ []) ∷ [])) 0
       ≡ record { age = 3; ended = 3; alive = true }
   pub not-again : answers ladder (release 0 ∷ tick (1 ∷ []) ∷ tick (1 ∷ []) ∷ [])
       ≡ accepted ∷ ran ∷ refused (record { number = 15; task = 0 }) ∷ []
@@ -140,10 +151,10 @@ pub record Worked : Type 0 where
       ≡ refused (record { number = 13; task = 0 })
       ∷ replicate 35 ran ++ refused (record { number = 13; task = 0 }) ∷ ran ∷ accepted ∷ []
   -- S8.4: the next job begins afresh: what the last one left as its ended set goes with the Release.
-  pub afresh : rowAt (after (after alone endsInTime) (quiet 36 ++ release 0 ∷ [])) 0 .job ≡ record { age = 0; ended = 0; alive = true }
+  pub afresh : changedAt (after (after alone endsInTime) (quiet 36 ++ release 0 ∷ [])) 0 ≡ record { age = 0; ended = 0; alive = true }
 
 worked : Worked
-unfolding has range highLevel isHigh isSubset allEnded predecessorsOf isReady ready running runningSet releasedRow joined tickedRow isLate switchedRow step rowAt unknownTask lowInCritical tooEarly wrongCount notRunning releaseRefusal tickRefusal released ticked isAccepted isRunning isDue
+unfolding has range highLevel isHigh isSubset allEnded predecessorsOf isReady ready running runningSet releasedRow joined tickedRow isLate survives switchedRow step rowAt granted runningAt unknownTask lowInCritical tooEarly wrongCount notRunning releaseRefusal tickRefusal released ticked isAccepted isRunning isDue
 worked =
     record {
       in-time = refl;

@@ -1,12 +1,11 @@
 -- What is proved beside S10.7 to S10.9, of the same lists of calls: S10.10, and S8.2 and S8.3 said node by node.
 use Prim.Native.Nat.{ℕ, _≤_, _<_, _^_, min}
 use mathlib.Core.Path.{_≡_}
-use mathlib.Core.Bool.{Bool, true, false}
+use mathlib.Core.Bool.{true, false}
 use mathlib.Core.List.{List, map, List·Memᴰ}
 use lib.ListN.{length}
 use Rattle.sheet.specs.declared.task.TaskSet.{TaskSet}
 use Rattle.shares.specs.declared.share.Share.{Share}
-use Rattle.shares.specs.Totals.{shareIn}
 use Rattle.sheet.specs.Format.{taskIn}
 use Rattle.nodes.specs.Sets.{has}
 use Rattle.model.specs.Row.{Row, fixedOf, lowLevel, precedes, allEnded, ready, running}
@@ -30,7 +29,7 @@ ReleasesApart ts shares calls =
 
 -- S7.2, of one task's job: the age is at most D, no node from k on has ended, and an alive job has a node that has not.
 pub record SoundRow (r : Row) : Type 0 where
-  pub age : r .job .age ≤ r .fixed .deadline
+  pub age : r .age ≤ r .fixed .deadline
   pub ended : r .job .ended < 2 ^ r .fixed .nodes
   pub alive : r .job .alive ≡ true → allEnded (r .fixed .nodes) (r .job .ended) ≡ false
 
@@ -46,13 +45,13 @@ pub record MayStart (r : Row) (v : ℕ) : Type 0 where
   pub left : has (r .job .ended) v ≡ false
   pub predecessors : (j : ℕ) → precedes (r .fixed .predecessors) j v ≡ true → has (r .job .ended) j ≡ true
 
--- S8.2 and S8.3, in either mode: only such nodes run and each of them is ready; where one runs, so do those with lower numbers;
--- and as many run as the share allows, or all that are ready.
+-- S8.2 and S8.3, whatever the task is granted: only such nodes run and each of them is ready; where one runs, so do those with
+-- lower numbers; and as many run as are granted, or all that are ready.
 pub record Startable (r : Row) : Type 0 where
-  pub runs : (critical : Bool) (v : ℕ) → List·Memᴰ v (running critical r) → MayStart r v
+  pub runs : (grant v : ℕ) → List·Memᴰ v (running grant r) → MayStart r v
   pub listed : (v : ℕ) → MayStart r v → List·Memᴰ v (ready r)
-  pub lowest : (critical : Bool) (u v : ℕ) → u < v → MayStart r u → List·Memᴰ v (running critical r) → List·Memᴰ u (running critical r)
-  pub many : (critical : Bool) → length (running critical r) ≡ min (shareIn critical (r .fixed .share)) (length (ready r))
+  pub lowest : (grant u v : ℕ) → u < v → MayStart r u → List·Memᴰ v (running grant r) → List·Memᴰ u (running grant r)
+  pub many : (grant : ℕ) → length (running grant r) ≡ min grant (length (ready r))
 
 -- All of it over one list of calls. Every prefix of the list is a list, so this speaks of every moment.
 pub record Beside (ts : TaskSet) (shares : List Share) (calls : List Call) : Type 0 where

@@ -9,10 +9,10 @@ use Rattle.sheet.specs.declared.task.Task.{Task}
 use Rattle.sheet.specs.declared.task.TaskSet.{TaskSet}
 use Rattle.shares.specs.declared.share.Share.{Share}
 use Rattle.shares.specs.Totals.{shareIn, shareAt}
-use Rattle.model.specs.Row.{Row, highLevel, precedes, allEnded, running}
-use Rattle.model.specs.Step.{Model, Call, release, tick, Answer, accepted, ran, switched, refused, step, rowAt}
+use Rattle.model.specs.Row.{Row, highLevel, precedes, allEnded}
+use Rattle.model.specs.Step.{Model, Call, release, tick, Answer, accepted, ran, switched, refused, step, rowAt, runningAt}
 use Rattle.model.specs.Run.{after, answers, isAccepted, ticksIn, releasesIn, TrueReports}
-use Rattle.model.specs.Budget.{Keeps}
+use Rattle.model.specs.Budget.{sumBelow, Keeps}
 use Rattle.sheet.specs.Format.{taskIn}
 use Rattle.model.specs.Plan.{fresh}
 
@@ -62,19 +62,10 @@ EndInTime level budget ts shares calls =
 unfoldable pub Deadline : TaskSet → List Share → List Call → Type 0
 Deadline ts shares calls = EndInTime highLevel (λ t. t .figures .overload) ts shares calls
 
--- The sum of a number over the rows.
-abbrev pub totalOf : (Row → ℕ) → List Row → ℕ
-totalOf f [] = 0
-totalOf f (r ∷ rows) = f r + totalOf f rows
-
--- How many nodes of a task run.
-unfoldable pub runningCount : Bool → Row → ℕ
-runningCount critical r = length (running critical r)
-
 -- S10.8, capacity: no task has more running nodes than its share in the mode, nor have all together more than M.
 pub record Capacity (ts : TaskSet) (shares : List Share) (m : Model) : Type 0 where
-  pub each : (i : ℕ) → runningCount (m .critical) (rowAt m i) ≤ shareIn (m .critical) (shareAt shares i)
-  pub together : totalOf (runningCount (m .critical)) (m .rows) ≤ ts .processors
+  pub each : (i : ℕ) → length (runningAt m i) ≤ shareIn (m .critical) (shareAt shares i)
+  pub together : sumBelow (length (m .rows)) (λ i. length (runningAt m i)) ≤ ts .processors
 
 -- S10.9: a job whose lengths keep the nominal budget of its task, with true reports.
 pub record NominalJob (t : Task) (i : ℕ) (m : Model) (since : List Call) : Type 0 where

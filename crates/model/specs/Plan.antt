@@ -26,10 +26,11 @@ freshRow t s =
             nodes = t .nodes;
             predecessors = t .predecessors;
             deadline = t .figures .deadline;
-            virtual = virtualOf t (s .typical);
+            virtualDeadline = virtualOf t (s .typical);
             share = s;
           };
-      job = record { age = t .figures .deadline; ended = 0; alive = false };
+      age = t .figures .deadline;
+      job = record { ended = 0; alive = false };
     }
 
 -- A fresh row for each task and its share.

@@ -6,7 +6,6 @@ use lib.Bits.{bitAnd, bitOr}
 use lib.Dec.{eqb, leb}
 use lib.ListN.{getD, take}
 use Rattle.shares.specs.declared.share.Share.{Share}
-use Rattle.shares.specs.Totals.{shareIn}
 use Rattle.basics.specs.Lists.{range, keep, all}
 use Rattle.nodes.specs.Sets.{has, setOf}
 
@@ -16,18 +15,18 @@ pub record Fixed : Type 0 where
   pub nodes : ℕ
   pub predecessors : List ℕ
   pub deadline : ℕ
-  pub virtual : ℕ
+  pub virtualDeadline : ℕ
   pub share : Share
 
--- S7.1: what calls change of a task: its job's age, the set of its ended nodes, and whether it is alive.
+-- S7.1: what one release begins: the set of the job's ended nodes, and whether it is alive.
 pub record Job : Type 0 where
-  pub age : ℕ
   pub ended : ℕ
   pub alive : Bool
 
--- S10.2: one task in the model: what is fixed of it, and its job.
+-- S10.2: one task in the model: what is fixed of it, its age, and its job. The age is the task's: it grows on when the job has ended.
 pub record Row : Type 0 where
   pub fixed : Fixed
+  pub age : ℕ
   pub job : Job
 
 -- What is fixed of a row.
@@ -73,17 +72,17 @@ isReady r v =
 unfoldable pub ready : Row → List ℕ
 ready r = keep (isReady r) (range 0 (r .fixed .nodes))
 
--- S8.3: of the ready nodes the first ones run, as many as the share in the mode allows.
-unfoldable pub running : Bool → Row → List ℕ
-running critical r = take (shareIn critical (r .fixed .share)) (ready r)
+-- S8.3: of the ready nodes the first ones run, as many as the task is granted processors at this moment.
+unfoldable pub running : ℕ → Row → List ℕ
+running grant r = take grant (ready r)
 
 -- The running nodes as a set.
-unfoldable pub runningSet : Bool → Row → ℕ
-runningSet critical r = setOf (running critical r)
+unfoldable pub runningSet : ℕ → Row → ℕ
+runningSet grant r = setOf (running grant r)
 
 -- S8.4: a job begins: it is alive, no node has ended, the age is 0.
 unfoldable pub releasedRow : Row → Row
-releasedRow r = record { fixed = r .fixed; job = record { age = 0; ended = 0; alive = true } }
+releasedRow r = record { fixed = r .fixed; age = 0; job = record { ended = 0; alive = true } }
 
 -- S8.5: the ended set after a report: its nodes join the set.
 unfoldable pub joined : Row → ℕ → ℕ
@@ -95,9 +94,9 @@ unfoldable pub tickedRow : Row → ℕ → Row
 tickedRow r report =
     record {
       fixed = r .fixed;
+      age = min (suc (r .age)) (r .fixed .deadline);
       job =
           record {
-            age = min (suc (r .job .age)) (r .fixed .deadline);
             ended = joined r report;
             alive = r .job .alive && not (allEnded (r .fixed .nodes) (joined r report));
           };
@@ -105,12 +104,17 @@ tickedRow r report =
 
 -- S8.6: whether this is a high task with an alive job whose age is V or more.
 unfoldable pub isLate : Row → Bool
-isLate r = isHigh (r .fixed) && r .job .alive && leb (r .fixed .virtual) (r .job .age)
+isLate r = isHigh (r .fixed) && r .job .alive && leb (r .fixed .virtualDeadline) (r .age)
 
--- S8.6: what a switch does to one task: a low job is no longer alive, and its ended set stands.
+-- S8.6: whether a switch leaves the task's job: that of a high task.
+unfoldable pub survives : Fixed → Bool
+survives f = isHigh f
+
+-- S8.6: what a switch does to one task: a job that does not survive it is no longer alive, and its ended set stands.
 unfoldable pub switchedRow : Row → Row
 switchedRow r =
     record {
       fixed = r .fixed;
-      job = record { age = r .job .age; ended = r .job .ended; alive = r .job .alive && isHigh (r .fixed) };
+      age = r .age;
+      job = record { ended = r .job .ended; alive = r .job .alive && survives (r .fixed) };
     }

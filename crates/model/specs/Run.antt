@@ -6,9 +6,8 @@ use mathlib.Core.List.{List, [], _∷_, _++_}
 use lib.Dec.{eqb}
 use lib.ListN.{getD}
 use Rattle.basics.specs.Lists.{isNone}
-use Rattle.nodes.specs.Sets.{has}
-use Rattle.model.specs.Row.{runningSet}
-use Rattle.model.specs.Step.{Model, Call, release, tick, Answer, Refusal, step, refusalOf, rowAt}
+use Rattle.nodes.specs.Sets.{has, setOf}
+use Rattle.model.specs.Step.{Model, Call, release, tick, Answer, step, refusalOf, runningAt}
 
 -- S10.1: the model after a list of calls: each call starts from what the one before it left, accepted or refused.
 abbrev pub after : Model → List Call → Model
@@ -49,7 +48,7 @@ releasesIn i m calls = countCalls (isReleaseOf i) m calls
 
 -- Whether node v of task i is running.
 unfoldable pub isRunning : ℕ → ℕ → Model → Bool
-isRunning i v m = has (runningSet (m .critical) (rowAt m i)) v
+isRunning i v m = has (setOf (runningAt m i)) v
 
 -- S10.5: node v of task i runs on a call: the call is an accepted tick, and in the model just before it the node is running.
 abbrev pub runsOn : ℕ → ℕ → Model → Call → Bool

@@ -6,7 +6,8 @@ use mathlib.Core.Option.{Option, none, some}
 use lib.Dec.{eqb, leb, ltb}
 use lib.ListN.{length, getD, set}
 use Rattle.sheet.specs.Answers.{noTask}
-use Rattle.model.specs.Row.{Row, isHigh, isSubset, runningSet, releasedRow, tickedRow, isLate, switchedRow}
+use Rattle.shares.specs.Totals.{shareIn}
+use Rattle.model.specs.Row.{Row, isSubset, running, runningSet, releasedRow, tickedRow, isLate, survives, switchedRow}
 
 -- S10.2: the model holds the mode, critical or not, and a row for each task.
 pub record Model : Type 0 where
@@ -39,7 +40,7 @@ pub record Step : Type 0 where
 unfoldable pub unknownTask : ℕ
 unknownTask = 11
 
--- S9.12: a low task in critical mode.
+-- S9.12: a low task in critical mode: its job would not survive the switch.
 unfoldable pub lowInCritical : ℕ
 lowInCritical = 12
 
@@ -69,35 +70,44 @@ noRow =
             nodes = 0;
             predecessors = [];
             deadline = 0;
-            virtual = 0;
+            virtualDeadline = 0;
             share = record { typical = 0; critical = 0 };
           };
-      job = record { age = 0; ended = 0; alive = false };
+      age = 0;
+      job = record { ended = 0; alive = false };
     }
 
 -- The row of task i.
 unfoldable pub rowAt : Model → ℕ → Row
 rowAt m i = getD (m .rows) i noRow
 
+-- S8.3: how many processors task i has at this moment: its share in the mode. No other definition decides it.
+unfoldable pub granted : Model → ℕ → ℕ
+granted m i = shareIn (m .critical) (rowAt m i .fixed .share)
+
+-- S8.3: the nodes of task i that run, lowest first.
+unfoldable pub runningAt : Model → ℕ → List ℕ
+runningAt m i = running (granted m i) (rowAt m i)
+
 -- S3.2: the first of Release's refusals 11, 12 and 13 that holds.
 unfoldable pub releaseRefusal : Model → ℕ → Option Refusal
 releaseRefusal m i =
     cond (leb (length (m .rows)) i) (refusal unknownTask noTask)
-    (cond (m .critical && not (isHigh (rowAt m i .fixed))) (refusal lowInCritical i)
-    (cond (rowAt m i .job .alive || ltb (rowAt m i .job .age) (rowAt m i .fixed .deadline)) (refusal tooEarly i)
+    (cond (m .critical && not (survives (rowAt m i .fixed))) (refusal lowInCritical i)
+    (cond (rowAt m i .job .alive || ltb (rowAt m i .age) (rowAt m i .fixed .deadline)) (refusal tooEarly i)
     none))
 
--- S9.15, over the tasks from i on: the first task whose report has a node that is not running.
-abbrev pub reportRefusal : Bool → ℕ → List Row → List ℕ → Option Refusal
-reportRefusal critical i [] reports = none
-reportRefusal critical i (r ∷ rows) [] = none
-reportRefusal critical i (r ∷ rows) (report ∷ reports) =
-    cond (isSubset report (runningSet critical r)) (reportRefusal critical (suc i) rows reports) (refusal notRunning i)
+-- S9.15, over the tasks from i on, each with its grant by number: the first task whose report has a node that is not running.
+abbrev pub reportRefusal : (ℕ → ℕ) → ℕ → List Row → List ℕ → Option Refusal
+reportRefusal grants i [] reports = none
+reportRefusal grants i (r ∷ rows) [] = none
+reportRefusal grants i (r ∷ rows) (report ∷ reports) =
+    cond (isSubset report (runningSet (grants i) r)) (reportRefusal grants (suc i) rows reports) (refusal notRunning i)
 
--- S3.2: the first of Tick's refusals 14 and 15 that holds. What runs is by the mode before the tick.
+-- S3.2: the first of Tick's refusals 14 and 15 that holds. What runs is by the grants before the tick.
 unfoldable pub tickRefusal : Model → List ℕ → Option Refusal
 tickRefusal m reports =
-    cond (eqb (length reports) (length (m .rows))) (reportRefusal (m .critical) 0 (m .rows) reports)
+    cond (eqb (length reports) (length (m .rows))) (reportRefusal (granted m) 0 (m .rows) reports)
     (refusal wrongCount noTask)
 
 -- The refusal that a call meets, if any.

@@ -42,25 +42,25 @@ mul-e c = omega (arith, few (c .before .before .before))
 element-copy-out-e : tie.Need-element-copy-out-e Inv-loop μ-loop
 element-copy-out-e c = omega (arith, few (c .before .before .before))
 
-running-requires : tie.Need-running-requires Inv-loop μ-loop
-running-requires c κs =
-    let start = c .before .before .before .before .before in
-    few-nodes _ (sound-at (start .args .t2) (long start) (start .pre .0) (c .before .before .before .loop .i) (omega arith))
-
-put-nodes-requires : tie.Need-put-nodes-requires Inv-loop μ-loop
-put-nodes-requires c κs =
-    let start = c .before .before .before .before .before .before in
-    let loop = c .before .before .before .before .loop in
-    rw (c .running .ensures) (boarding-fits (start .args .t2) (long start) (start .pre .0) (loop .buffer) (loop .at) (loop .i) (omega arith) (loop .inv .2))
-
 share-in-requires : tie.Need-share-in-requires Inv-loop μ-loop
 share-in-requires c κs = search needs
 
+running-requires : tie.Need-running-requires Inv-loop μ-loop
+running-requires c κs =
+    let start = c .before .before .before .before .before .before in
+    few-nodes _ (sound-at (start .args .t2) (long start) (start .pre .0) (c .before .before .before .before .loop .i) (omega arith))
+
+put-nodes-requires : tie.Need-put-nodes-requires Inv-loop μ-loop
+put-nodes-requires c κs =
+    let start = c .before .before .before .before .before .before .before in
+    let loop = c .before .before .before .before .before .loop in
+    rw (c .running .ensures, c .before .before .share-in .ensures) (boarding-fits (start .args .t2) (long start) (start .pre .0) (loop .buffer) (loop .at) (loop .i) (omega arith) (loop .inv .2))
+
 -- The block of the turn ends within the board.
-room : (c : tie.After-share-in Inv-loop μ-loop) → c .before .before .before .before .before .before .before .before .loop .at + 2 * c .share-in .result ≤ 128
+room : (c : tie.After-share-in Inv-loop μ-loop) → c .before .before .before .loop .at + 2 * c .share-in .result ≤ 128
 room c =
-    let start = c .before .before .before .before .before .before .before .before .before .before in
-    let loop = c .before .before .before .before .before .before .before .before .loop in
+    let start = c .before .before .before .before .before in
+    let loop = c .before .before .before .loop in
     omega (
       arith,
       small start,
@@ -69,13 +69,13 @@ room c =
     )
 
 cast-at : tie.Need-cast-at Inv-loop μ-loop
-cast-at c = omega (arith, room c)
+cast-at c = omega (arith, room (c .before .before .before .before .before))
 
 mul-at : tie.Need-mul-at Inv-loop μ-loop
-mul-at c = omega (arith, room c)
+mul-at c = omega (arith, room (c .before .before .before .before .before))
 
 add-at : tie.Need-add-at Inv-loop μ-loop
-add-at c = omega (arith, room c)
+add-at c = omega (arith, room (c .before .before .before .before .before))
 
 add-i : tie.Need-add-i Inv-loop μ-loop
 add-i c = omega (arith, few (c .before .before .before .before .before .before .before .before .before .before))
@@ -88,11 +88,12 @@ loop-again c =
     let start = c .before .before .before .before .before .before .before .before .before .before in
     let loop = c .before .before .before .before .before .before .before .before .loop in
     let s = start .args .t2 in
-    let put = c .before .before .before .put-nodes in
-    let nodes = c .before .before .before .before .running .ensures in (
+    let put = c .before .before .put-nodes in
+    let nodes = c .before .before .before .running .ensures in
+    let grant = c .before .before .before .before .before .share-in .ensures in (
       omega arith,
       put .kept .0 ∙ loop .inv .1,
-      rw (put .ensures, c .share-in .ensures, nodes)
+      rw (put .ensures, nodes, grant)
           (boarding-more s (long start) (start .pre .0) (loop .buffer) (loop .at) (loop .i) (omega arith) (loop .inv .2)),
     )
 
@@ -115,9 +116,9 @@ put-tasks-spec =
     cast-e
     mul-e
     element-copy-out-e
+    share-in-requires
     running-requires
     put-nodes-requires
-    share-in-requires
     cast-at
     mul-at
     add-at

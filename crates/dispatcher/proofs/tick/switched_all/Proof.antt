@@ -9,7 +9,7 @@ use lib.ListN.{length, length-map}
 use Rattle.model.specs.Row.{switchedRow}
 use Rattle.entries.specs.declared.state.TaskState.{TaskState}
 use Rattle.dispatcher.specs.declared.state.State.{State}
-use Rattle.entries.specs.Entry.{rowOf, withJob}
+use Rattle.entries.specs.Entry.{rowOf, withRow}
 use Rattle.dispatcher.specs.Holds.{entriesOf, modelOf, withModel}
 use Rattle.dispatcher.proofs.Entries.{entryAt}
 use Rattle.dispatcher.proofs.Rows.{writtenTo, written-at, written-more}
@@ -72,9 +72,9 @@ loop-again c =
     let loop = c .before .before .before .loop in
     let s = turned start in
     let count : length (switchedBelow s (loop .i)) ≡ loop .i = switched-below s (long start) (loop .i) (loop .inv .0) in
-    let entry : c .switched .result ≡ withJob (entryAt s (loop .i)) (switchedRow (rowOf (entryAt s (loop .i))) .job) =
+    let entry : c .switched .result ≡ withRow (entryAt s (loop .i)) (switchedRow (rowOf (entryAt s (loop .i)))) =
     c .switched .ensures
-    ∙ ap (λ (e : TaskState). withJob e (switchedRow (rowOf e) .job)) (written-at s true (switchedBelow s (loop .i)) (loop .next) (loop .i) (loop .inv .1) count) in (
+    ∙ ap (λ (e : TaskState). withRow e (switchedRow (rowOf e))) (written-at s true (switchedBelow s (loop .i)) (loop .next) (loop .i) (loop .inv .1) count) in (
       omega arith,
       written-more s true (switchedBelow s (loop .i)) (loop .next) (loop .i) (switchedRow (rowOf (entryAt s (loop .i)))) _ (loop .inv .1) count (omega (arith, long start)) entry
           ∙ ap (writtenTo s true) (switched-next s (long start) (loop .i) (omega arith)),

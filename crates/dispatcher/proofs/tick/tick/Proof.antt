@@ -2,7 +2,7 @@
 -- left, is the whole. The measure is the tasks left. Assumes nothing.
 use Prim.Native.Nat.{ℕ, _+_, _-_, _≤_}
 use mathlib.Core.Bool.{true, not, _&&_}
-use mathlib.Core.Path.{_≡_, refl, sym, ap, _∙_}
+use mathlib.Core.Path.{_≡_, refl, sym, ap, ap₂, _∙_}
 use native.Mathlib.Omega.{arith}
 use borrow.Author.Needs.{needs}
 use borrow.Author.Tests.{not-true, not-false}
@@ -11,16 +11,19 @@ use lib.Dec.{leb}
 use lib.ListN.{length, length-map, getD}
 use Rattle.nodes.specs.Sets.{isWithin}
 use Rattle.basics.specs.Numbers.{within}
+use Rattle.shares.specs.Totals.{shareIn}
 use Rattle.model.specs.Row.{isSubset, runningSet, tickedRow, isLate}
+use Rattle.model.specs.Step.{granted}
 use Rattle.entries.specs.declared.state.TaskState.{TaskState}
 use Rattle.dispatcher.specs.declared.tick.TickAnswer.the-variants.{Refused}
-use Rattle.entries.specs.Entry.{rowOf, withJob}
+use Rattle.entries.specs.Entry.{rowOf, withRow}
+use Rattle.dispatcher.specs.Holds.{modelOf}
 use Rattle.entries.specs.Sound.{entrySound}
 use Rattle.entries.proofs.NodeSets.{within-subset}
 use Rattle.entries.proofs.Soundness.{few-nodes}
 use Rattle.dispatcher.proofs.Soundness.{ranges-broken, count-within}
 use Rattle.dispatcher.proofs.Entries.{noEntry, entryAt, Passed}
-use Rattle.dispatcher.proofs.Rows.{written-at}
+use Rattle.dispatcher.proofs.Rows.{granted-entry, written-at}
 use Rattle.dispatcher.proofs.Ticks.{tickedBelow, ticked-below, late-after, Scanned, scanned-none, scanned-count, scanned-broken, scanned-more, tick-unsound, tick-miscounted, handed-back, scanned-unfit, scanned-wrong, scanned-ran, scanned-switched, tick-said}
 use Rattle.dispatcher.proofs.tick.tick.Statement.{statement}
 use Rattle.dispatcher.proofs.tick.tick.Tie as tie
@@ -142,44 +145,47 @@ mul-report c = omega (arith, few (c .before .before .before .before .before .bef
 shared-slice-read-report : tie.Need-shared-slice-read-report Inv-loop μ-loop
 shared-slice-read-report c = omega (arith, same (c .before .before .before .before .before .before .before))
 
+share-in-requires : tie.Need-share-in-requires Inv-loop μ-loop
+share-in-requires c κs = search needs
+
 running-requires : tie.Need-running-requires Inv-loop μ-loop
-running-requires c κs = rw (untouched (c .before .before .before)) (few-nodes _ (sound (c .before)))
+running-requires c κs = rw (untouched (c .before .before .before .before)) (few-nodes _ (sound (c .before .before)))
 
 is-within-requires : tie.Need-is-within-requires Inv-loop μ-loop
 is-within-requires c κs = search needs
 
 ticked-requires : tie.Need-ticked-requires Inv-loop μ-loop
-ticked-requires c κs = rw (untouched (c .before .before .before .before .before)) (few-nodes _ (sound (c .before .before .before)))
+ticked-requires c κs = rw (untouched (c .before .before .before .before .before .before)) (few-nodes _ (sound (c .before .before .before .before)))
 
 is-late-requires : tie.Need-is-late-requires Inv-loop μ-loop
 is-late-requires c κs = search needs
 
 passed-requires : tie.Need-passed-requires Inv-loop μ-loop
 passed-requires c κs =
-    let loop = c .before .before .before .before .before .before .before .before .before .loop in
-    let at = c .before .before .before .before .before .before .before .before .before .before .before in
+    let loop = c .before .before .before .before .before .before .before .before .before .before .loop in
+    let at = c .before .before .before .before .before .before .before .before .before .before .before .before in
     let scanned : Scanned _ _ _ _ _ _ _ _ = loop .inv .1 in
     let p : Passed _ _ _ _ = scanned .shares in
     (omega (arith, p .typical-small, few at), omega (arith, p .critical-small, few at))
 
 cast-after : tie.Need-cast-after Inv-loop μ-loop
-cast-after c = omega (arith, few (c .before .before .before .before .before .before .before .before .before .before .before .before))
+cast-after c = omega (arith, few (c .before .before .before .before .before .before .before .before .before .before .before .before .before))
 
 mul-after : tie.Need-mul-after Inv-loop μ-loop
-mul-after c = omega (arith, few (c .before .before .before .before .before .before .before .before .before .before .before .before))
+mul-after c = omega (arith, few (c .before .before .before .before .before .before .before .before .before .before .before .before .before))
 
 element-set-from-after : tie.Need-element-set-from-after Inv-loop μ-loop
-element-set-from-after c = omega (arith, few (c .before .before .before .before .before .before .before .before .before .before .before .before))
+element-set-from-after c = omega (arith, few (c .before .before .before .before .before .before .before .before .before .before .before .before .before))
 
 add-i : tie.Need-add-i Inv-loop μ-loop
-add-i c = omega (arith, few (c .before .before .before .before .before .before .before .before .before .before .before .before))
+add-i c = omega (arith, few (c .before .before .before .before .before .before .before .before .before .before .before .before .before))
 
 loop-less : tie.Need-loop-less Inv-loop μ-loop
 loop-less c = omega arith
 
 loop-again : tie.Need-loop-again Inv-loop μ-loop
 loop-again c =
-    let turn = c .before .before .before .before .before .before .before .before in
+    let turn = c .before .before .before .before .before .before .before .before .before in
     let loop = turn .before .before .loop in
     let at = turn .before .before .before .before in
     let args = at .before .before .before .before .args in
@@ -187,8 +193,8 @@ loop-again c =
     let reports = now (args .reports) in
     let report = getD reports (loop .i) 0 in
     let e = entryAt s (loop .i) in
-    let stored : c .before .before .ticked .result ≡ withJob e (tickedRow (rowOf e) report .job) =
-    c .before .before .ticked .ensures ∙ ap (λ (x : TaskState). withJob x (tickedRow (rowOf x) report .job)) (untouched turn) in
+    let stored : c .before .before .ticked .result ≡ withRow e (tickedRow (rowOf e) report) =
+    c .before .before .ticked .ensures ∙ ap (λ (x : TaskState). withRow x (tickedRow (rowOf x) report)) (untouched turn) in
     let late : c .before .is-late .result ≡ isLate (rowOf (c .before .before .ticked .result)) = c .before .is-late .ensures in
     let read = getD (loop .next .entries) (loop .i) noEntry in
     let typicals : c .passed .result .typical ≡ loop .pass .typical + read .share .typical = c .passed .ensures .0 in
@@ -197,10 +203,14 @@ loop-again c =
     typicals ∙ ap (λ (x : TaskState). loop .pass .typical + x .share .typical) (untouched turn) in
     let critical : c .passed .result .critical ≡ loop .pass .critical + e .share .critical =
     criticals ∙ ap (λ (x : TaskState). loop .pass .critical + x .share .critical) (untouched turn) in
-    let inside : c .before .before .before .is-within .result ≡ isSubset report (runningSet (s .critical) (rowOf e)) =
+    let grant : c .before .before .before .before .before .share-in .result ≡ granted (modelOf s) (loop .i) =
+    c .before .before .before .before .before .share-in .ensures
+    ∙ ap (λ (x : TaskState). shareIn (s .critical) (x .share)) (untouched turn)
+    ∙ sym (granted-entry s (long at) (loop .i) (omega arith)) in
+    let inside : c .before .before .before .is-within .result ≡ isSubset report (runningSet (granted (modelOf s) (loop .i)) (rowOf e)) =
     c .before .before .before .is-within .ensures
-    ∙ ap (isWithin 32 report) (c .before .before .before .before .running .ensures ∙ ap (λ (x : TaskState). runningSet (s .critical) (rowOf x)) (untouched turn))
-    ∙ within-subset report _ (omega (arith, c .before .before .before .before .before .shared-slice-known2 .given (loop .i))) in (
+    ∙ ap (isWithin 32 report) (c .before .before .before .before .running .ensures ∙ ap₂ (λ (n : ℕ) (x : TaskState). runningSet n (rowOf x)) grant (untouched turn))
+    ∙ within-subset report _ (omega (arith, c .before .before .before .before .before .before .shared-slice-known2 .given (loop .i))) in (
       omega arith,
       scanned-more s reports (long at) (loop .i) _ _ _ _ (loop .next) _ _ _ _ (not (c .before .before .before .is-within .result)) (c .before .is-late .result)
           (c .before .before .ticked .result)
@@ -208,7 +218,7 @@ loop-again c =
           (same at)
           (omega arith)
           (omega (arith, few at))
-          (sound (c .before .before .before .before .before .before))
+          (sound (c .before .before .before .before .before .before .before))
           (omega (arith, typical, c .passed .ensures .1 .1 .1 .1 .0))
           (omega (arith, critical, c .passed .ensures .1 .1 .1 .1 .1))
           typical
@@ -312,6 +322,7 @@ tick-spec =
     cast-report
     mul-report
     shared-slice-read-report
+    share-in-requires
     running-requires
     is-within-requires
     ticked-requires

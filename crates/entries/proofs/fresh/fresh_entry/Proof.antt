@@ -1,4 +1,4 @@
--- `entries::fresh::fresh_entry` meets its contract: the threshold is what `virtual_of` ensures. Assumes nothing.
+-- `entries::fresh::fresh_entry` meets its contract: the virtual deadline is what `virtual_of` ensures. Assumes nothing.
 use Rattle.entries.specs.Fresh.{freshEntry}
 use borrow.Author.Needs.{needs}
 use Rattle.entries.proofs.fresh.fresh_entry.Statement.{statement}

@@ -1,13 +1,18 @@
 -- `entries::release::entry_answer` meets its contract: each refusal is what its callee ensures. Assumes nothing.
-use mathlib.Core.Bool.{not, _&&_, _||_}
+use mathlib.Core.Bool.{Bool, not, _&&_, _||_}
+use mathlib.Core.Path.{ap, _∙_}
 use lib.Dec.{ltb}
-use Rattle.model.specs.Row.{isHigh, highLevel}
+use Rattle.sheet.specs.Answers.{refusedIf}
+use Rattle.model.specs.Row.{survives}
 use Rattle.model.specs.Step.{lowInCritical, tooEarly}
 use Rattle.entries.specs.Entry.{fixedOf}
 use Rattle.entries.proofs.Refusals.{two-causes}
 use borrow.Author.Needs.{needs}
 use Rattle.entries.proofs.release.entry_answer.Statement.{statement}
 use Rattle.entries.proofs.release.entry_answer.Tie as tie
+
+survives-requires : tie.Need-survives-requires
+survives-requires c κs = search needs
 
 refused-unless-requires : tie.Need-refused-unless-requires
 refused-unless-requires c κs = search needs
@@ -19,15 +24,16 @@ or-else-requires : tie.Need-or-else-requires
 or-else-requires c κs = search needs
 
 returns : tie.Need-returns
-unfolding isHigh highLevel fixedOf lowInCritical tooEarly
+unfolding lowInCritical tooEarly
 returns c =
     let args = c .before .before .before .before .before .before .args in
     let e = args .e in
-    two-causes (args .critical && not (isHigh (fixedOf e))) (e .alive || ltb (e .age) (e .deadline)) 12 13 (args .task) _ _ _
-    (c .before .before .before .before .refused-unless .ensures)
+    two-causes (args .critical && not (survives (fixedOf e))) (e .job .alive || ltb (e .age) (e .deadline)) 12 13 (args .task) _ _ _
+    (c .before .before .before .before .refused-unless .ensures
+    ∙ ap (λ (t : Bool). refusedIf (not (not (args .critical && not t))) 12 (args .task)) (c .before .before .before .before .before .survives .ensures))
     (c .before .refused-unless2 .ensures)
     (c .or-else .ensures)
 
 pub entry-answer-spec : {M : Type 1} → statement M
 entry-answer-spec =
-    tie.close (tie.spec refused-unless-requires refused-unless-requires-2 or-else-requires returns)
+    tie.close (tie.spec survives-requires refused-unless-requires refused-unless-requires-2 or-else-requires returns)

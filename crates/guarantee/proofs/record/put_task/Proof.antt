@@ -7,9 +7,9 @@ use borrow.Author.Needs.{needs}
 use denote.Ref.{now}
 use lib.ListN.{length, length-set}
 use lib.Seq.{sets}
-use Rattle.entries.specs.Entry.{jobOf}
+use Rattle.entries.specs.Entry.{jobOf, rowOf}
 use Rattle.basics.specs.Numbers.{u32Bytes}
-use Rattle.guarantee.proofs.Records.{job-stored}
+use Rattle.guarantee.proofs.Records.{task-stored}
 use Rattle.guarantee.proofs.record.put_task.Statement.{statement}
 use Rattle.guarantee.proofs.record.put_task.Tie as tie
 
@@ -39,12 +39,12 @@ same-length : tie.Need-same-length
 same-length c = c .before .before .put-u322 .kept .0 ∙ long (c .before .before .before .before .before .before)
 
 returns : tie.Need-returns
-unfolding jobOf
+unfolding rowOf jobOf
 returns c =
     let args = c .before .before .before .before .before .before .before .before .before .before .args in
     c .before .before .put-u322 .ensures
-    ∙ ap (λ (l : List ℕ). sets l (args .at + 5) (u32Bytes (args .e .ended))) (c .before .before .before .before .before .before .put-u32 .ensures)
-    ∙ job-stored (now (args .out)) (args .at) (c .before .before .before .before .before .before .before .before .mark-byte .result) (jobOf (args .e)) (c .before .before .before .before .before .before .before .before .mark-byte .ensures)
+    ∙ ap (λ (l : List ℕ). sets l (args .at + 5) (u32Bytes (args .e .job .ended))) (c .before .before .before .before .before .before .put-u32 .ensures)
+    ∙ task-stored (now (args .out)) (args .at) (c .before .before .before .before .before .before .before .before .mark-byte .result) (rowOf (args .e)) (c .before .before .before .before .before .before .before .before .mark-byte .ensures)
 
 pub put-task-spec : {M : Type 1} → statement M
 put-task-spec =
