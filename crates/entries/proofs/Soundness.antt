@@ -54,7 +54,7 @@ pub record SoundEntry (e : TaskState) : Type 0 where
   pub level : levelLawful (e .level) ≡ true
   pub nodes : within 1 32 (e .nodes) ≡ true
   pub masks : masksLawful (e .predecessors) (e .nodes) ≡ true
-  pub deadline : within 1 figureLimit (e .deadline) ≡ true
+  pub deadline : within 1 (figureLimit (e .level)) (e .deadline) ≡ true
   pub virtual : e .«virtual_deadline» ≤ e .deadline
   pub age : e .age ≤ e .deadline
   pub ended : e .job .ended < 2 ^ e .nodes
@@ -64,7 +64,7 @@ pub entry-facts : (e : TaskState) → entrySound e ≡ true → SoundEntry e
 unfolding entrySound
 entry-facts e t =
     let all =
-    all-of (levelLawful (e .level)) (within 1 32 (e .nodes)) (masksLawful (e .predecessors) (e .nodes)) (within 1 figureLimit (e .deadline))
+    all-of (levelLawful (e .level)) (within 1 32 (e .nodes)) (masksLawful (e .predecessors) (e .nodes)) (within 1 (figureLimit (e .level)) (e .deadline))
     (leb (e .«virtual_deadline») (e .deadline)) (leb (e .age) (e .deadline)) (ltb (e .job .ended) (2 ^ e .nodes))
     (not (e .job .alive && allEnded (e .nodes) (e .job .ended))) t in
     record {
@@ -81,7 +81,7 @@ entry-facts e t =
 pub sound-entry : (e : TaskState) → SoundEntry e → entrySound e ≡ true
 unfolding entrySound
 sound-entry e s =
-    of-all (levelLawful (e .level)) (within 1 32 (e .nodes)) (masksLawful (e .predecessors) (e .nodes)) (within 1 figureLimit (e .deadline))
+    of-all (levelLawful (e .level)) (within 1 32 (e .nodes)) (masksLawful (e .predecessors) (e .nodes)) (within 1 (figureLimit (e .level)) (e .deadline))
     (leb (e .«virtual_deadline») (e .deadline)) (leb (e .age) (e .deadline)) (ltb (e .job .ended) (2 ^ e .nodes))
     (not (e .job .alive && allEnded (e .nodes) (e .job .ended)))
     (record {
@@ -105,13 +105,13 @@ below-full k x h =
     let full : setOf (range 0 (min k 32)) ≡ 2 ^ k - 1 = rw (min-eq-left {n = k} {m = 32} h) (setOf-range k) in
     rw full (leb-same x (2 ^ k - 1) (suc x) (2 ^ k) (λ t. omega (arith, pow-pos k)) (λ t. omega (arith, pow-pos k)))
 
-pub entry-by-tests : (e : TaskState) (masks figures gone : Bool) (full : ℕ) → within 1 32 (e .nodes) ≡ true
-    → masks ≡ masksLawful (e .predecessors) (e .nodes) → figures ≡ within 1 figureLimit (e .deadline)
+pub entry-by-tests : (e : TaskState) (level masks figures gone : Bool) (full : ℕ) → within 1 32 (e .nodes) ≡ true
+    → level ≡ levelLawful (e .level) → masks ≡ masksLawful (e .predecessors) (e .nodes) → figures ≡ within 1 (figureLimit (e .level)) (e .deadline)
     → full ≡ setOf (range 0 (min (e .nodes) 32)) → gone ≡ allEnded (e .nodes) (e .job .ended)
-    → (leb (e .level) 1 && masks && figures && leb (e .«virtual_deadline») (e .deadline) && leb (e .age) (e .deadline) && leb (e .job .ended) full && not (e .job .alive && gone)) ≡ entrySound e
-unfolding entrySound levelLawful
-entry-by-tests e masks figures gone full k m f all g =
-    rw (m, f, all, g, k, and-true, below-full (e .nodes) (e .job .ended) (within-bounds 1 32 (e .nodes) k .1))
+    → (level && masks && figures && leb (e .«virtual_deadline») (e .deadline) && leb (e .age) (e .deadline) && leb (e .job .ended) full && not (e .job .alive && gone)) ≡ entrySound e
+unfolding entrySound
+entry-by-tests e level masks figures gone full k l m f all g =
+    rw (l, m, f, all, g, k, and-true, below-full (e .nodes) (e .job .ended) (within-bounds 1 32 (e .nodes) k .1))
 
 pub few-nodes : (e : TaskState) → entrySound e ≡ true → e .nodes ≤ 32
 few-nodes e t = within-bounds 1 32 (e .nodes) (entry-facts e t .nodes) .1

@@ -7,7 +7,7 @@ use lib.ListN.{replicate}
 use Rattle.basics.specs.Lists.{range, allBelow}
 use Rattle.nodes.specs.Sets.{has}
 use Rattle.sheet.specs.declared.task.Task.{Task}
-use Rattle.sheet.specs.Level.{levelLawful, isLow, isHigh}
+use Rattle.sheet.specs.Level.{levelLawful, isLow, isHigh, figureLimit}
 use Rattle.sheet.specs.Rules.{maskLawful, masksLawful}
 use Rattle.shares.specs.Test.{virtualDeadline}
 use Rattle.shares.specs.Deadline.{virtualOf}
@@ -82,7 +82,7 @@ pub record Worked : Type 0 where
       ≡ record { level = 0; nodes = 0; predecessors = replicate 32 0; deadline = 0; «virtual_deadline» = 0; share = record { typical = 0; critical = 0 }; age = 0; job = record { ended = 0; alive = false } }
 
 worked : Worked
-unfolding has range levelLawful maskLawful allBelow masksLawful isLow virtualDeadline virtualOf allEnded freshEntry zeroEntry entrySound isHigh
+unfolding has range levelLawful figureLimit maskLawful allBelow masksLawful isLow virtualDeadline virtualOf allEnded freshEntry zeroEntry entrySound isHigh
 worked =
     record {
       virtual-below = refl;

@@ -15,7 +15,7 @@ entrySound e =
     levelLawful (e .level)
     && within 1 32 (e .nodes)
     && masksLawful (e .predecessors) (e .nodes)
-    && within 1 figureLimit (e .deadline)
+    && within 1 (figureLimit (e .level)) (e .deadline)
     && leb (e .«virtual_deadline») (e .deadline)
     && leb (e .age) (e .deadline)
     && ltb (e .job .ended) (2 ^ e .nodes)

@@ -8,8 +8,7 @@ ghost use Rattle.shares.specs.Totals.{shareIn};
 ghost use Rattle.model.specs.Row.{isSubset, allEnded, ready, runningSet, releasedRow, tickedRow, isLate, survives, switchedRow};
 ghost use Rattle.entries.specs.Entry.{fixedOf, rowOf, withRow};
 use crate::state::TaskState;
-
-const HIGH: u8 = 1;
+use sheet::level::is_high;
 
 // S8.5: whether all nodes have ended.
 pub fn all_ended(nodes: u8, ended: u32) -> bool
@@ -109,14 +108,14 @@ pub fn ticked(e: TaskState, report: u32) -> TaskState
 pub fn is_late(e: TaskState) -> bool
     ensures { λ r. ⌜ r ≡ isLate (rowOf e) ⌝ }
 {
-    (e.level == HIGH) & e.job.alive & (e.virtual_deadline <= e.age)
+    is_high(e.level) & e.job.alive & (e.virtual_deadline <= e.age)
 }
 
 // S8.6: whether a switch leaves the task's job: that of a high task.
 pub fn survives(e: TaskState) -> bool
     ensures { λ r. ⌜ r ≡ survives (fixedOf e) ⌝ }
 {
-    e.level == HIGH
+    is_high(e.level)
 }
 
 // S8.6: the entry in the mode turned critical: a job that does not survive is dropped.

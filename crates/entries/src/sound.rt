@@ -4,7 +4,8 @@ ghost use Rattle.entries.specs.Sound.{entrySound};
 use crate::entry::all_ended;
 use crate::state::TaskState;
 use basics::numbers::is_within;
-use sheet::rules::FIGURE_LIMIT;
+use sheet::level::figure_limit;
+use sheet::level::is_lawful;
 use sheet::rules::masks_lawful;
 
 // S7.2, of one entry. k is tested before the masks and the ended set are read by it.
@@ -16,9 +17,9 @@ pub fn entry_sound(e: TaskState) -> bool
         return false;
     }
     let predecessors = e.predecessors;
-    (e.level <= 1)
+    is_lawful(e.level)
         & masks_lawful(predecessors, nodes)
-        & is_within(1, FIGURE_LIMIT, e.deadline)
+        & is_within(1, figure_limit(e.level), e.deadline)
         & (e.virtual_deadline <= e.deadline)
         & (e.age <= e.deadline)
         & (e.job.ended <= nodes::full(nodes as u32))

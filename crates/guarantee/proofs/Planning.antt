@@ -19,13 +19,13 @@ use Rattle.allocation.specs.Lawful.{LawfulSet, LawfulTask}
 use Rattle.allocation.specs.Allocation.{chosenFor}
 use Rattle.allocation.proofs.Lawfulness.{within-from, figures-kept, low-equal, heavy-work}
 use Rattle.allocation.proofs.Laws.{chosen-length, chosen-typical, chosen-critical, chosen-high, chosen-low}
-use Rattle.model.specs.Row.{lowLevel, highLevel, predecessorsOf}
+use Rattle.model.specs.Row.{predecessorsOf}
 use Rattle.model.specs.Plan.{LawfulTask as ModelTask, PassingPair, LowPair, Planned}
 use Rattle.basics.proofs.Below.{all-at}
 
 -- One task.
 task-lawful : (t : Task) → LawfulTask t → ModelTask t
-unfolding masksLawful maskLawful predecessorsOf lowLevel
+unfolding masksLawful maskLawful predecessorsOf
 task-lawful t lawful =
     let kept = figures-kept (t .level) (t .figures) (lawful .figures) in
     record {
@@ -38,15 +38,15 @@ task-lawful t lawful =
 
 -- The sheet's task set with the shares that are chosen for it.
 module _ (tasks : TaskSet) (lawful : LawfulSet tasks) (shares : List Share) (chosen-it : chosenFor tasks ≡ some shares) where
-  high-pair : (i : ℕ) → i < tasks .count → taskIn tasks i .level ≡ highLevel → PassingPair (taskIn tasks i .figures) (shareAt shares i)
-  unfolding shareAt highLevel isLow isHigh
+  high-pair : (i : ℕ) → i < tasks .count → isHigh (taskIn tasks i .level) ≡ true → PassingPair (taskIn tasks i .figures) (shareAt shares i)
+  unfolding shareAt isLow isHigh
   high-pair i inside high =
       let not-low : eqb (taskIn tasks i .level) 0 ≡ false = rw high in
       let pair = chosen-high tasks lawful shares chosen-it i inside not-low in
       record { positive = pair .positive; ordered = pair .ordered; passing = pair .passing }
 
-  low-pair : (i : ℕ) → i < tasks .count → taskIn tasks i .level ≡ lowLevel → LowPair (taskIn tasks i .figures) (shareAt shares i)
-  unfolding shareAt lowLevel isLow isHigh
+  low-pair : (i : ℕ) → i < tasks .count → isLow (taskIn tasks i .level) ≡ true → LowPair (taskIn tasks i .figures) (shareAt shares i)
+  unfolding shareAt isLow isHigh
   low-pair i inside low =
       let is-low : eqb (taskIn tasks i .level) 0 ≡ true = rw low in
       let pair = chosen-low tasks lawful shares chosen-it i inside is-low in

@@ -30,7 +30,7 @@ use Rattle.nodes.proofs.Bits.{has-zero, has-power}
 use Rattle.allocation.specs.Choice.{lowOptions, pairsWithin, highOptions, optionsOf, fits, leastOf, fitting, chosen}
 use Rattle.allocation.specs.Allocation.{chosenFor, shareAnswer, choiceAnswer, sharesOf}
 use Rattle.model.specs.Budget.{sumBelow, Chain, alone, link, along}
-use Rattle.model.specs.Row.{lowLevel, highLevel, isHigh, isSubset, allEnded, predecessorsOf, precedes, isReady, ready, running, runningSet, releasedRow, joined, tickedRow, isLate, survives, switchedRow}
+use Rattle.model.specs.Row.{isSubset, allEnded, predecessorsOf, precedes, isReady, ready, running, runningSet, releasedRow, joined, tickedRow, isLate, survives, switchedRow}
 use Rattle.model.specs.Step.{Model, Call, release, tick, step, rowAt, granted, runningAt, unknownTask, lowInCritical, tooEarly, wrongCount, notRunning, releaseRefusal, tickRefusal, released, ticked}
 use Rattle.model.specs.Run.{after, isAccepted, ticksIn, releasesIn, isRunning, isDue}
 use Rattle.model.specs.Plan.{freshRow, fresh}
@@ -212,7 +212,7 @@ record Runs : Type 0 where
   pub low-again : isAccepted (after start lowAlone) (release 1) ≡ true
 
 runs : Runs
-unfolding fresh freshRow virtualOf isLow virtualDeadline has range highLevel isHigh isSubset allEnded predecessorsOf isReady ready running runningSet releasedRow joined tickedRow isLate survives switchedRow step rowAt granted runningAt unknownTask lowInCritical tooEarly wrongCount notRunning releaseRefusal tickRefusal released ticked isAccepted isRunning isDue
+unfolding fresh freshRow virtualOf isLow virtualDeadline has range isHigh isSubset allEnded predecessorsOf isReady ready running runningSet releasedRow joined tickedRow isLate survives switchedRow step rowAt granted runningAt unknownTask lowInCritical tooEarly wrongCount notRunning releaseRefusal tickRefusal released ticked isAccepted isRunning isDue
 runs =
     record {
       begins = refl;
@@ -261,23 +261,21 @@ asked-of level budget t i before later len begins level-is keeps truth due ticks
           };
     }
 
-overrun-asked : InTimeAsked highLevel (high .figures .overload) start high 0 overrun longLengths
-unfolding highLevel
+overrun-asked : InTimeAsked isHigh (high .figures .overload) start high 0 overrun longLengths
 overrun-asked =
-    asked-of highLevel (high .figures .overload) high 0 beforeDue (drop 12 overrun) longLengths
+    asked-of isHigh (high .figures .overload) high 0 beforeDue (drop 12 overrun) longLengths
     (runs .begins) refl long-keeps (runs .long-true) (runs .due) (runs .ticks) (runs .unreleased)
 
-low-asked : InTimeAsked lowLevel (low .figures .nominal) start low 1 lowAlone shortLengths
-unfolding lowLevel
+low-asked : InTimeAsked isLow (low .figures .nominal) start low 1 lowAlone shortLengths
 low-asked =
-    asked-of lowLevel (low .figures .nominal) low 1 (take 2 (drop 1 lowAlone)) [] shortLengths
+    asked-of isLow (low .figures .nominal) low 1 (take 2 (drop 1 lowAlone)) [] shortLengths
     (runs .low-begins) refl low-keeps (runs .low-true) (runs .low-due) (runs .low-ticks) refl
 
 -- Of the three releases of the other run that of the low task asks nothing.
 usual-asked : NominalAsked both start usual
-unfolding NominalAsked taskIn highLevel
+unfolding NominalAsked taskIn
 usual-asked =
-    at-releases (λ i m since. taskIn both i .level ≡ highLevel → NominalJob (taskIn both i) i m since) start usual (
+    at-releases (λ i m since. isHigh (taskIn both i .level) ≡ true → NominalJob (taskIn both i) i m since) start usual (
       λ _ level. nominal first (drop 1 usual) (runs .short-true),
       (λ _ level. absurd (omega arith), (λ _ level. nominal (after start (take 11 usual)) (drop 11 usual) (runs .short-again), tt)),
     )
@@ -297,11 +295,10 @@ deadline-met =
           ∙ runs .said;
       beyond = rw task-is long-beyond;
       asked =
-          subst₂ (λ (m : Model) (t : Task). InTimeAsked highLevel (t .figures .overload) m t 0 overrun longLengths) (sym model-is) (sym task-is) overrun-asked;
+          subst₂ (λ (m : Model) (t : Task). InTimeAsked isHigh (t .figures .overload) m t 0 overrun longLengths) (sym model-is) (sym task-is) overrun-asked;
     }
 
 pub nominal-met : NominalMet
-unfolding highLevel
 nominal-met =
     record {
       started = started;
@@ -316,7 +313,7 @@ low-met =
       started = started;
       typical = ap (λ (m : Model). after m lowAlone .critical) model-is ∙ runs .low-typical;
       asked =
-          subst₂ (λ (m : Model) (t : Task). InTimeAsked lowLevel (t .figures .nominal) m t 1 lowAlone shortLengths) (sym model-is) (sym low-is) low-asked;
+          subst₂ (λ (m : Model) (t : Task). InTimeAsked isLow (t .figures .nominal) m t 1 lowAlone shortLengths) (sym model-is) (sym low-is) low-asked;
       again = ap (λ (m : Model). isAccepted (after m lowAlone) (release 1)) model-is ∙ runs .low-again;
     }
 

@@ -10,7 +10,7 @@ use Rattle.sheet.specs.declared.task.Budget.{Budget}
 use Rattle.sheet.specs.declared.task.Task.{Task}
 use Rattle.sheet.specs.declared.task.TaskSet.{TaskSet}
 use Rattle.sheet.specs.Format.{taskIn}
-use Rattle.model.specs.Row.{lowLevel, highLevel}
+use Rattle.sheet.specs.Level.{isHigh, isLow}
 use Rattle.model.specs.Step.{Model, Call, release, tick}
 use Rattle.model.specs.Run.{after, isAccepted, releasesIn, TrueReports}
 use Rattle.model.specs.Claim.{ReleaseIn, begun, KeepsBudget, DeadlinePassed, NominalJob}
@@ -111,9 +111,9 @@ abbrev pub lowAlone : List Call
 lowAlone = release 1 ∷ tick (0 ∷ 3 ∷ []) ∷ tick (0 ∷ 0 ∷ []) ∷ tick (0 ∷ 0 ∷ []) ∷ []
 
 -- S10.7, S10.10: what is asked of a job of task i in a run for it to end in time, at a level and under a budget.
-pub record InTimeAsked (level : ℕ) (budget : Budget) (start : Model) (t : Task) (i : ℕ) (calls : List Call) (lengths : ℕ → ℕ) : Type 0 where
+pub record InTimeAsked (isSuch : ℕ → Bool) (budget : Budget) (start : Model) (t : Task) (i : ℕ) (calls : List Call) (lengths : ℕ → ℕ) : Type 0 where
   pub job : ReleaseIn start i calls
-  pub level-is : t .level ≡ level
+  pub level-is : isSuch (t .level) ≡ true
   pub keeps : KeepsBudget t budget lengths
   pub reports : TrueReports i lengths (begun job) (job .since)
   pub passed : DeadlinePassed t i (begun job) (job .since)
@@ -122,7 +122,7 @@ pub record InTimeAsked (level : ℕ) (budget : Budget) (start : Model) (t : Task
 unfoldable pub NominalAsked : TaskSet → Model → List Call → Type 0
 NominalAsked ts start calls =
     (i : ℕ) (job : ReleaseIn start i calls) →
-    taskIn ts i .level ≡ highLevel → NominalJob (taskIn ts i) i (begun job) (job .since)
+    isHigh (taskIn ts i .level) ≡ true → NominalJob (taskIn ts i) i (begun job) (job .since)
 
 -- S10.7 is met by a job that overruns its nominal budget.
 pub record DeadlineMet : Type 0 where
@@ -133,14 +133,14 @@ pub record DeadlineMet : Type 0 where
   -- The job's lengths do not keep the nominal budget.
   pub beyond : KeepsBudget highTask (highTask .figures .nominal) longLengths → ⊥
   -- All that the deadline asks holds of it.
-  pub asked : InTimeAsked highLevel (highTask .figures .overload) (modelFor twoTasks) highTask 0 overrun longLengths
+  pub asked : InTimeAsked isHigh (highTask .figures .overload) (modelFor twoTasks) highTask 0 overrun longLengths
 
 -- S10.9 is met by a run with two accepted releases of the high task.
 pub record NominalMet : Type 0 where
   -- Start accepts the sheet.
   pub started : startOf twoTasks .answer ≡ Accepted
   -- The run has jobs of a high task.
-  pub high : highTask .level ≡ highLevel
+  pub high : isHigh (highTask .level) ≡ true
   pub jobs : releasesIn 0 (modelFor twoTasks) usual ≡ 2
   -- All that the nominal clause asks holds of it.
   pub asked : NominalAsked (tasksOf twoTasks) (modelFor twoTasks) usual
@@ -152,6 +152,6 @@ pub record LowMet : Type 0 where
   -- The mode is typical after the run.
   pub typical : after (modelFor twoTasks) lowAlone .critical ≡ false
   -- All else that is asked of a low job holds of it.
-  pub asked : InTimeAsked lowLevel (lowTask .figures .nominal) (modelFor twoTasks) lowTask 1 lowAlone shortLengths
+  pub asked : InTimeAsked isLow (lowTask .figures .nominal) (modelFor twoTasks) lowTask 1 lowAlone shortLengths
   -- The task can be released again.
   pub again : isAccepted (after (modelFor twoTasks) lowAlone) (release 1) ≡ true

@@ -12,10 +12,11 @@ use Rattle.sheet.specs.declared.task.Budget.{Budget}
 use Rattle.sheet.specs.declared.task.TaskSet.{TaskSet}
 use Rattle.shares.specs.declared.share.Share.{Share}
 use Rattle.shares.proofs.Ends.{overload-ends, virtual-positive}
-use Rattle.model.specs.Row.{Fixed, Row, highLevel, isHigh, isLate, survives}
+use Rattle.model.specs.Row.{Fixed, Row, isLate, survives}
 use Rattle.model.specs.Step.{Model, Call, rowAt}
 use Rattle.sheet.specs.Format.{taskIn}
 use Rattle.shares.specs.Totals.{shareAt}
+use Rattle.sheet.specs.Level.{isHigh}
 use Rattle.model.specs.Plan.{freshRow, Planned}
 use Rattle.model.specs.Claim.{begun, EndInTime, Deadline}
 use Rattle.model.proofs.Steps.{next}
@@ -32,7 +33,7 @@ Closes work span f =
 
 -- A high job in time: n ticks after its release, f₁ of them full in typical mode.
 record Timely (work span : ℕ) (f : Fixed) (critical : Bool) (n f₁ : ℕ) : Type 0 where
-  pub high : isHigh f ≡ true
+  pub high : isHigh (f .level) ≡ true
   pub closes : Closes work span f
   pub early : f₁ ≤ f .virtualDeadline
   pub calm : critical ≡ false → n < f .virtualDeadline
@@ -44,13 +45,13 @@ below live early closes =
     let b = live-bounds live in
     omega (arith, closes (live .full₁) (live .full₂) (live .partial) early (b .0) (b .1), live .ticks)
 
-not-late : (r : Row) → isHigh (r .fixed) ≡ true → r .job .alive ≡ true → isLate r ≡ false → r .age < r .fixed .virtualDeadline
+not-late : (r : Row) → isHigh (r .fixed .level) ≡ true → r .job .alive ≡ true → isLate r ≡ false → r .age < r .fixed .virtualDeadline
 unfolding isLate
 not-late r high alive e =
     let not-past = rw (high, alive) at e in omega (arith, leb-false)
 
 -- S8.6: the job of a high task survives a switch.
-high-survives : (f : Fixed) → isHigh f ≡ true → survives f ≡ true
+high-survives : (f : Fixed) → isHigh (f .level) ≡ true → survives f ≡ true
 unfolding survives
 high-survives f high = high
 
@@ -95,7 +96,7 @@ T-true true e = tt
 T-true false e = false≢true e
 
 module _ (ts : TaskSet) (shares : List Share) (planned : Planned ts shares) where
-  closes-high : (i : ℕ) → i < ts .count → taskIn ts i .level ≡ highLevel →
+  closes-high : (i : ℕ) → i < ts .count → isHigh (taskIn ts i .level) ≡ true →
       Closes (taskIn ts i .figures .overload .work) (taskIn ts i .figures .overload .span) (plannedFixed ts shares i)
   unfolding freshRow
   closes-high i h level f₁ f₂ p early span work =
@@ -104,7 +105,7 @@ module _ (ts : TaskSet) (shares : List Share) (planned : Planned ts shares) wher
       (pair .positive) (pair .ordered) (planned .lawful i h .figures .spans) (T-true _ (pair .passing))
       (rw (high-fixed ts shares i level .1) at early) span work
 
-  timely-start : (i : ℕ) → i < ts .count → taskIn ts i .level ≡ highLevel → (critical : Bool) (f₁ : ℕ) → f₁ ≡ 0 →
+  timely-start : (i : ℕ) → i < ts .count → isHigh (taskIn ts i .level) ≡ true → (critical : Bool) (f₁ : ℕ) → f₁ ≡ 0 →
       Timely (taskIn ts i .figures .overload .work) (taskIn ts i .figures .overload .span)
       (plannedFixed ts shares i) critical 0 f₁
   timely-start i h level critical f₁ e =

@@ -1,7 +1,7 @@
 -- What the theorems assume can be met: by task A alone, at (1, 2), with the lengths 4, 3, 2 of S11.13.
 use Prim.Native.Nat.{ℕ, zero, suc, _≤_, _<_, _^_}
 use mathlib.Core.Path.{_≡_, refl, sym, ap, _∙_}
-use mathlib.Core.Bool.{Bool, true, false, true≢false}
+use mathlib.Core.Bool.{Bool, true, false, true≢false, false≢true}
 use mathlib.Core.List.{List, [], _∷_}
 use native.Mathlib.Omega.{arith}
 use lib.Dec.{lit<, lit≤}
@@ -9,7 +9,7 @@ use lib.ListN.{getD, replicate}
 use Rattle.sheet.specs.declared.task.TaskSet.{TaskSet}
 use Rattle.shares.specs.declared.share.Share.{Share}
 use Rattle.shares.specs.Test.{excess, demand, passes, virtualDeadline}
-use Rattle.sheet.specs.Level.{isLow, isHigh as levelHigh}
+use Rattle.sheet.specs.Level.{isLow, isHigh}
 use Rattle.shares.specs.Deadline.{virtualOf}
 use Rattle.nodes.proofs.Bits.{has-zero}
 use Rattle.model.specs.Budget.{sumBelow, Chain, alone as single, link, along}
@@ -19,7 +19,7 @@ use Rattle.model.specs.Plan.{freshRow, fresh, LawfulTask, PassingPair, L
 use Rattle.model.specs.Claim.{KeepsBudget, DeadlinePassed}
 use Rattle.basics.specs.Lists.{range}
 use Rattle.nodes.specs.Sets.{has}
-use Rattle.model.specs.Row.{lowLevel, highLevel, isHigh, isSubset, allEnded, precedes, predecessorsOf, isReady, ready, running, runningSet, releasedRow, joined, tickedRow, isLate, survives, switchedRow}
+use Rattle.model.specs.Row.{isSubset, allEnded, precedes, predecessorsOf, isReady, ready, running, runningSet, releasedRow, joined, tickedRow, isLate, survives, switchedRow}
 use Rattle.model.specs.Step.{release, tick, step, rowAt, granted, releaseRefusal, tickRefusal, released, ticked}
 use Rattle.model.specs.Run.{after, isAccepted}
 use Rattle.model.proofs.Worked.{alone}
@@ -50,12 +50,12 @@ sharesA = record { typical = 1; critical = 2 } ∷ []
 
 -- S11.2: V is 9, and its fresh model is the one of the worked facts.
 fresh-alone : fresh sheetA sharesA ≡ alone
-unfolding fresh freshRow virtualOf isLow levelHigh virtualDeadline
+unfolding fresh freshRow virtualOf isLow isHigh virtualDeadline
 fresh-alone = refl
 
 -- The task set and the shares are planned.
 planned-alone : Planned sheetA sharesA
-unfolding taskIn shareAt highLevel lowLevel predecessorsOf passes demand excess
+unfolding taskIn shareAt isHigh isLow predecessorsOf passes demand excess
 planned-alone =
     record {
       tasks = lit≤ tt;
@@ -77,18 +77,18 @@ planned-alone =
         record {
           nodes = lit≤ tt;
           figures = record { span = lit≤ tt; spans = lit≤ tt };
-          low = λ e. absurd (omega arith);
+          low = λ e. absurd (false≢true e);
           heavy = lit< tt;
           masks = masks;
         }
     lawful (suc i) h = absurd (omega arith)
 
-    high : (i : ℕ) → i < 1 → taskIn sheetA i .level ≡ highLevel → PassingPair (taskIn sheetA i .figures) (shareAt sharesA i)
+    high : (i : ℕ) → i < 1 → isHigh (taskIn sheetA i .level) ≡ true → PassingPair (taskIn sheetA i .figures) (shareAt sharesA i)
     high zero h e = record { positive = lit≤ tt; ordered = lit≤ tt; passing = refl }
     high (suc i) h e = absurd (omega arith)
 
-    low : (i : ℕ) → i < 1 → taskIn sheetA i .level ≡ lowLevel → LowPair (taskIn sheetA i .figures) (shareAt sharesA i)
-    low zero h e = absurd (omega arith)
+    low : (i : ℕ) → i < 1 → isLow (taskIn sheetA i .level) ≡ true → LowPair (taskIn sheetA i .figures) (shareAt sharesA i)
+    low zero h e = absurd (false≢true e)
     low (suc i) h e = absurd (omega arith)
 
     fits : (critical : Bool) → shareTotal critical sharesA ≤ 2
@@ -125,7 +125,7 @@ nominal-alone = record { positive = positive; work = lit≤ tt; span = span }
 
 -- S10.7: the deadline of a job of it passes with the 45th tick after the release.
 passed-alone : DeadlinePassed (taskIn sheetA 0) 0 (after alone (release 0 ∷ [])) (replicate 45 (tick (0 ∷ [])))
-unfolding taskIn has range highLevel isHigh isSubset allEnded predecessorsOf isReady ready running runningSet releasedRow joined tickedRow isLate survives switchedRow step rowAt granted releaseRefusal tickRefusal released ticked isAccepted
+unfolding taskIn has range isHigh isSubset allEnded predecessorsOf isReady ready running runningSet releasedRow joined tickedRow isLate survives switchedRow step rowAt granted releaseRefusal tickRefusal released ticked isAccepted
 passed-alone =
     record {
       before = replicate 44 (tick (0 ∷ []));

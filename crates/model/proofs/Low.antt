@@ -2,7 +2,7 @@
 -- passed.
 use Prim.Native.Nat.{ℕ, _<_}
 use mathlib.Core.Path.{_≡_, sym, ap, subst, _∙_}
-use mathlib.Core.Bool.{false}
+use mathlib.Core.Bool.{true, false}
 use mathlib.Core.List.{List}
 use mathlib.Core.Logic.{inr}
 use native.Mathlib.Omega.{arith}
@@ -11,11 +11,12 @@ use Rattle.sheet.specs.declared.task.TaskSet.{TaskSet}
 use Rattle.shares.specs.declared.share.Share.{Share}
 use Rattle.shares.specs.Low.{lowShare}
 use Rattle.shares.proofs.Ends.{low-ends, low-positive}
-use Rattle.model.specs.Row.{Fixed, lowLevel}
+use Rattle.model.specs.Row.{Fixed}
 use Rattle.model.specs.Step.{Model, Call, rowAt}
 use Rattle.model.specs.Run.{after}
 use Rattle.sheet.specs.Format.{taskIn}
 use Rattle.shares.specs.Totals.{shareAt}
+use Rattle.sheet.specs.Level.{isLow}
 use Rattle.model.specs.Plan.{freshRow, Planned}
 use Rattle.model.specs.Claim.{EndInTime}
 use Rattle.model.specs.Beside.{LowDeadline}
@@ -47,7 +48,7 @@ kept-typical len work span i =
     bound m x = subst (Ends work span) (sym (same-fixed (next m x) m (fixed-step m x) i))
 
 module _ (ts : TaskSet) (shares : List Share) (planned : Planned ts shares) where
-  ends-low : (i : ℕ) → i < ts .count → taskIn ts i .level ≡ lowLevel →
+  ends-low : (i : ℕ) → i < ts .count → isLow (taskIn ts i .level) ≡ true →
       Ends (taskIn ts i .figures .nominal .work) (taskIn ts i .figures .nominal .span) (plannedFixed ts shares i)
   unfolding freshRow
   ends-low i h level full p span work =

@@ -14,12 +14,13 @@ use Rattle.sheet.specs.declared.task.Budget.{Budget}
 use Rattle.sheet.specs.declared.task.TaskSet.{TaskSet}
 use Rattle.shares.specs.declared.share.Share.{Share}
 use Rattle.shares.proofs.Ends.{nominal-ends}
-use Rattle.model.specs.Row.{Fixed, Row, highLevel, isHigh, allEnded, joined, tickedRow, isLate}
+use Rattle.model.specs.Row.{Fixed, Row, allEnded, joined, tickedRow, isLate}
 use Rattle.model.specs.Step.{Model, Call, release, tick, Refusal, Step, step, stepBy, refusalOf, rowAt, noRow, released, tickedRows, lowestLate, switchedTo, switching, ticked}
 use Rattle.basics.specs.Lists.{isNone}
 use Rattle.model.specs.Run.{answers, isAccepted, isTick, isReleaseOf}
 use Rattle.sheet.specs.Format.{taskIn}
 use Rattle.shares.specs.Totals.{shareAt}
+use Rattle.sheet.specs.Level.{isHigh}
 use Rattle.model.specs.Plan.{freshRow, fresh, Planned}
 use Rattle.model.specs.Claim.{ReleaseIn, begun, KeepsBudget, NominalJob, isSwitched, noneSwitched, StaysTypical, Nominal}
 use Rattle.model.proofs.Steps.{next, accepted-step, refused-step, length-ticked, get-ticked, tick-tests, tick-at, Turn, same, begins, ticks, turn}
@@ -47,9 +48,9 @@ record Honest (i : ℕ) (m : Model) (calls : List Call) : Type 0 where
 -- The mode is typical; every alive high job is honest, and so is every one to come.
 record Calm (m : Model) (calls : List Call) : Type 0 where
   pub typical : m .critical ≡ false
-  pub alive : (i : ℕ) → i < length (m .rows) → isHigh (rowAt m i .fixed) ≡ true → rowAt m i .job .alive ≡ true →
+  pub alive : (i : ℕ) → i < length (m .rows) → isHigh (rowAt m i .fixed .level) ≡ true → rowAt m i .job .alive ≡ true →
       Honest i m calls
-  pub coming : (i : ℕ) (job : ReleaseIn m i calls) → isHigh (rowAt m i .fixed) ≡ true → Honest i (begun job) (job .since)
+  pub coming : (i : ℕ) (job : ReleaseIn m i calls) → isHigh (rowAt m i .fixed .level) ≡ true → Honest i (begun job) (job .since)
 
 none-late-intro : (j : ℕ) (rows : List Row) → ((i : ℕ) → i < length rows → isLate (getD rows i noRow) ≡ false) →
     lowestLate j rows ≡ none
@@ -61,11 +62,11 @@ none-late-intro j (r ∷ rows) h =
     go t q o e n = ap (λ (b : Bool). cond b (some q) o) e ∙ n
 
 -- No job is late if it is below V, where it is an alive one of a high task.
-below-not-late : (r : Row) → (isHigh (r .fixed) ≡ true → r .job .alive ≡ true → r .age < r .fixed .virtualDeadline) → isLate r ≡ false
+below-not-late : (r : Row) → (isHigh (r .fixed .level) ≡ true → r .job .alive ≡ true → r .age < r .fixed .virtualDeadline) → isLate r ≡ false
 unfolding isLate
-below-not-late r below = go (isLate r) refl (isHigh (r .fixed)) refl (r .job .alive) refl
+below-not-late r below = go (isLate r) refl (isHigh (r .fixed .level)) refl (r .job .alive) refl
   where
-    go : (t : Bool) → isLate r ≡ t → (x : Bool) → isHigh (r .fixed) ≡ x → (y : Bool) → r .job .alive ≡ y → t ≡ false
+    go : (t : Bool) → isLate r ≡ t → (x : Bool) → isHigh (r .fixed .level) ≡ x → (y : Bool) → r .job .alive ≡ y → t ≡ false
     go false late x high y alive = refl
     go true late true high true alive =
         let past = rw (high, alive) at late in absurd (omega (arith, leb-true, below high alive))
@@ -85,7 +86,7 @@ part-not-late m reports calls calm a i known = below-not-late part early
     part : Row
     part = tickedRow r (getD reports i 0)
 
-    early : isHigh (r .fixed) ≡ true → part .job .alive ≡ true → part .age < r .fixed .virtualDeadline
+    early : isHigh (r .fixed .level) ≡ true → part .job .alive ≡ true → part .age < r .fixed .virtualDeadline
     early high alive =
         settled (part-step i m (honest .live) reports calls a (tick-at m i reports a known) (honest .reports))
       where
@@ -200,7 +201,7 @@ calm-next m x calls calm =
     fixed : (i : ℕ) → rowAt (next m x) i .fixed ≡ rowAt m i .fixed
     fixed i = same-fixed (next m x) m (fixed-step m x) i
 
-    at : (i : ℕ) → i < length (m .rows) → isHigh (rowAt m i .fixed) ≡ true → rowAt (next m x) i .job .alive ≡ true →
+    at : (i : ℕ) → i < length (m .rows) → isHigh (rowAt m i .fixed .level) ≡ true → rowAt (next m x) i .job .alive ≡ true →
         Honest i (next m x) calls
     at i known high alive = go (turn m i x known)
       where
@@ -236,7 +237,7 @@ calm-stays m (x ∷ calls) calm =
     }
 
 module _ (ts : TaskSet) (shares : List Share) (planned : Planned ts shares) where
-  before-high : (i : ℕ) → i < ts .count → taskIn ts i .level ≡ highLevel → (b : Budget) →
+  before-high : (i : ℕ) → i < ts .count → isHigh (taskIn ts i .level) ≡ true → (b : Budget) →
       b .span ≤ taskIn ts i .figures .nominal .span → b .work ≤ taskIn ts i .figures .nominal .work →
       Before (b .work) (b .span) (plannedFixed ts shares i)
   unfolding freshRow
@@ -245,11 +246,9 @@ module _ (ts : TaskSet) (shares : List Share) (planned : Planned ts shares) wher
       (nominal-ends (taskIn ts i .figures) (shareAt shares i .typical) full p (planned .high i h level .positive)
       (omega arith) (omega arith))
 
-  level-high : (i : ℕ) → i < ts .count → isHigh (rowAt (fresh ts shares) i .fixed) ≡ true → taskIn ts i .level ≡ highLevel
-  unfolding isHigh freshRow
-  level-high i h high =
-      eqb-true (taskIn ts i .level) highLevel
-      (sym (ap (λ (r : Row). eqb (r .fixed .level) highLevel) (fresh-row ts shares planned i h)) ∙ high)
+  level-high : (i : ℕ) → i < ts .count → isHigh (rowAt (fresh ts shares) i .fixed .level) ≡ true → isHigh (taskIn ts i .level) ≡ true
+  unfolding freshRow
+  level-high i h high = sym (ap (λ (r : Row). isHigh (r .fixed .level)) (fresh-row ts shares planned i h)) ∙ high
 
   none-alive : (i : ℕ) → i < ts .count → rowAt (fresh ts shares) i .job .alive ≡ false
   unfolding freshRow
@@ -267,14 +266,14 @@ module _ (ts : TaskSet) (shares : List Share) (planned : Planned ts shares) wher
         coming = coming;
       })
     where
-      coming : (i : ℕ) (job : ReleaseIn (fresh ts shares) i calls) → isHigh (rowAt (fresh ts shares) i .fixed) ≡ true →
+      coming : (i : ℕ) (job : ReleaseIn (fresh ts shares) i calls) → isHigh (rowAt (fresh ts shares) i .fixed .level) ≡ true →
           Honest i (begun job) (job .since)
       coming i job high = within _ (own .keeps) (omega arith) (omega arith)
         where
           known : i < ts .count
           known = known-task ts shares planned (job .before) i (job .accepted)
 
-          level : taskIn ts i .level ≡ highLevel
+          level : isHigh (taskIn ts i .level) ≡ true
           level = level-high i known high
 
           own : NominalJob (taskIn ts i) i (begun job) (job .since)

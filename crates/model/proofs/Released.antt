@@ -1,7 +1,7 @@
 -- A job at its release in a list of calls from the fresh model: its task is known, its row is that of the plan, and it is live.
 use Prim.Native.Nat.{ℕ, _<_}
 use mathlib.Core.Path.{_≡_, refl, sym, ap, subst, _∙_}
-use mathlib.Core.Bool.{true, cond, not}
+use mathlib.Core.Bool.{Bool, true, cond, not}
 use mathlib.Core.List.{List, [], _∷_, _++_}
 use native.Mathlib.Omega.{arith}
 use borrow.Author.Tests.{eq-eqb}
@@ -10,10 +10,10 @@ use Rattle.sheet.specs.declared.task.Budget.{Budget}
 use Rattle.sheet.specs.declared.task.TaskSet.{TaskSet}
 use Rattle.shares.specs.declared.share.Share.{Share}
 use Rattle.shares.specs.Test.{virtualDeadline}
-use Rattle.sheet.specs.Level.{isLow, isHigh as levelHigh}
+use Rattle.sheet.specs.Level.{isLow, isHigh}
 use Rattle.shares.specs.Deadline.{virtualOf}
 use Rattle.model.specs.Budget.{Keeps}
-use Rattle.model.specs.Row.{Fixed, Row, highLevel, isHigh, precedes, allEnded}
+use Rattle.model.specs.Row.{Fixed, Row, precedes, allEnded}
 use Rattle.model.specs.Step.{Model, Call, release, rowAt}
 use Rattle.model.specs.Run.{after, isAccepted}
 use Rattle.sheet.specs.Format.{taskIn}
@@ -33,14 +33,11 @@ abbrev pub plannedFixed : TaskSet → List Share → ℕ → Fixed
 plannedFixed ts shares i = freshRow (taskIn ts i) (shareAt shares i) .fixed
 
 -- A high task's row says so, and has the virtual deadline of its typical share.
-pub high-fixed : (ts : TaskSet) (shares : List Share) (i : ℕ) → taskIn ts i .level ≡ highLevel →
-    (isHigh (plannedFixed ts shares i) ≡ true)
+pub high-fixed : (ts : TaskSet) (shares : List Share) (i : ℕ) → isHigh (taskIn ts i .level) ≡ true →
+    (isHigh (plannedFixed ts shares i .level) ≡ true)
     × (plannedFixed ts shares i .virtualDeadline ≡ virtualDeadline (taskIn ts i .figures) (shareAt shares i .typical))
-unfolding freshRow isHigh virtualOf isLow levelHigh highLevel
-high-fixed ts shares i e = (
-  eq-eqb (taskIn ts i .level) 1 e,
-  omega (arith, ap (λ (n : ℕ). cond (not (eqb n 1)) 0 (virtualDeadline (taskIn ts i .figures) (shareAt shares i .typical))) e),
-)
+unfolding freshRow virtualOf isLow
+high-fixed ts shares i e = (e, ap (λ (high : Bool). cond (not high) 0 (virtualDeadline (taskIn ts i .figures) (shareAt shares i .typical))) e)
 
 module _ (ts : TaskSet) (shares : List Share) (planned : Planned ts shares) where
   downwards-at : (i : ℕ) → i < ts .count → Downwards (plannedFixed ts shares i)

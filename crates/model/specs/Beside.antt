@@ -8,7 +8,8 @@ use Rattle.sheet.specs.declared.task.TaskSet.{TaskSet}
 use Rattle.shares.specs.declared.share.Share.{Share}
 use Rattle.sheet.specs.Format.{taskIn}
 use Rattle.nodes.specs.Sets.{has}
-use Rattle.model.specs.Row.{Row, fixedOf, lowLevel, precedes, allEnded, ready, running}
+use Rattle.sheet.specs.Level.{isLow}
+use Rattle.model.specs.Row.{Row, fixedOf, precedes, allEnded, ready, running}
 use Rattle.model.specs.Step.{Model, Call, release, rowAt}
 use Rattle.model.specs.Run.{after, isAccepted, ticksIn}
 use Rattle.model.specs.Plan.{fresh}
@@ -18,7 +19,7 @@ use Rattle.model.specs.Claim.{ReleaseIn, begun, EndInTime}
 -- typical after the list (and so was all along: the critical mode lasts).
 unfoldable pub LowDeadline : TaskSet → List Share → List Call → Type 0
 LowDeadline ts shares calls =
-    after (fresh ts shares) calls .critical ≡ false → EndInTime lowLevel (λ t. t .figures .nominal) ts shares calls
+    after (fresh ts shares) calls .critical ≡ false → EndInTime isLow (λ t. t .figures .nominal) ts shares calls
 
 -- S10.10: a task that was released in the list can be released after it only if there were D accepted ticks in between.
 unfoldable pub ReleasesApart : TaskSet → List Share → List Call → Type 0

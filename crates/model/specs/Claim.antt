@@ -9,11 +9,12 @@ use Rattle.sheet.specs.declared.task.Task.{Task}
 use Rattle.sheet.specs.declared.task.TaskSet.{TaskSet}
 use Rattle.shares.specs.declared.share.Share.{Share}
 use Rattle.shares.specs.Totals.{shareIn, shareAt}
-use Rattle.model.specs.Row.{Row, highLevel, precedes, allEnded}
+use Rattle.model.specs.Row.{Row, precedes, allEnded}
 use Rattle.model.specs.Step.{Model, Call, release, tick, Answer, accepted, ran, switched, refused, step, rowAt, runningAt}
 use Rattle.model.specs.Run.{after, answers, isAccepted, ticksIn, releasesIn, TrueReports}
 use Rattle.model.specs.Budget.{sumBelow, Keeps}
 use Rattle.sheet.specs.Format.{taskIn}
+use Rattle.sheet.specs.Level.{isHigh}
 use Rattle.model.specs.Plan.{fresh}
 
 -- S10.4: a job begins with an accepted Release: one of task i in a list of calls, with the calls before it and those since.
@@ -47,12 +48,12 @@ pub record DeadlinePassed (t : Task) (i : ℕ) (m : Model) (since : List Call) :
   pub ticks : ticksIn m before + 1 ≡ t .figures .deadline
   pub unreleased : releasesIn i (after m (before ++ tick reports ∷ [])) later ≡ 0
 
--- Each job of a task of this level whose lengths keep this budget, with true reports, has ended once its deadline has passed.
+-- Each job of a task of such a level whose lengths keep this budget, with true reports, has ended once its deadline has passed.
 -- Nothing is asked of other tasks and their reports.
-unfoldable pub EndInTime : ℕ → (Task → Budget) → TaskSet → List Share → List Call → Type 0
-EndInTime level budget ts shares calls =
+unfoldable pub EndInTime : (ℕ → Bool) → (Task → Budget) → TaskSet → List Share → List Call → Type 0
+EndInTime isSuch budget ts shares calls =
     (i : ℕ) (job : ReleaseIn (fresh ts shares) i calls) (lengths : ℕ → ℕ) →
-    taskIn ts i .level ≡ level →
+    isSuch (taskIn ts i .level) ≡ true →
     KeepsBudget (taskIn ts i) (budget (taskIn ts i)) lengths →
     TrueReports i lengths (begun job) (job .since) →
     DeadlinePassed (taskIn ts i) i (begun job) (job .since) →
@@ -60,7 +61,7 @@ EndInTime level budget ts shares calls =
 
 -- S10.7, deadline: this holds of the high tasks and their overload budgets.
 unfoldable pub Deadline : TaskSet → List Share → List Call → Type 0
-Deadline ts shares calls = EndInTime highLevel (λ t. t .figures .overload) ts shares calls
+Deadline ts shares calls = EndInTime isHigh (λ t. t .figures .overload) ts shares calls
 
 -- S10.8, capacity: no task has more running nodes than its share in the mode, nor have all together more than M.
 pub record Capacity (ts : TaskSet) (shares : List Share) (m : Model) : Type 0 where
@@ -95,7 +96,7 @@ pub record StaysTypical (start : Model) (calls : List Call) : Type 0 where
 unfoldable pub Nominal : TaskSet → List Share → List Call → Type 0
 Nominal ts shares calls =
     ((i : ℕ) (job : ReleaseIn (fresh ts shares) i calls) →
-    taskIn ts i .level ≡ highLevel → NominalJob (taskIn ts i) i (begun job) (job .since)) →
+    isHigh (taskIn ts i .level) ≡ true → NominalJob (taskIn ts i) i (begun job) (job .since)) →
     StaysTypical (fresh ts shares) calls
 
 -- S10.7 to S10.9 over one list of calls. Every prefix of a list is a list, so this speaks of every moment.

@@ -13,7 +13,8 @@ use Rattle.shares.specs.Totals.{shareAt, shareTotal}
 use Rattle.shares.specs.Test.{passes}
 use Rattle.shares.specs.Low.{lowShare}
 use Rattle.shares.specs.Deadline.{virtualOf}
-use Rattle.model.specs.Row.{Row, lowLevel, highLevel, predecessorsOf}
+use Rattle.sheet.specs.Level.{isHigh, isLow}
+use Rattle.model.specs.Row.{Row, predecessorsOf}
 use Rattle.model.specs.Step.{Model}
 
 -- S8.1: a task at the start: what the sheet and the plan fix, no job alive, no node ended, the age at D.
@@ -53,7 +54,7 @@ pub record LawfulFigures (f : Figures) : Type 0 where
 pub record LawfulTask (t : Task) : Type 0 where
   pub nodes : 1 ≤ t .nodes
   pub figures : LawfulFigures (t .figures)
-  pub low : t .level ≡ lowLevel → t .figures .nominal .work ≡ t .figures .overload .work
+  pub low : isLow (t .level) ≡ true → t .figures .nominal .work ≡ t .figures .overload .work
   pub heavy : t .figures .deadline < t .figures .overload .work
   pub masks : (v : ℕ) → v < t .nodes → predecessorsOf (t .predecessors) v < 2 ^ v
 
@@ -74,6 +75,6 @@ pub record Planned (ts : TaskSet) (shares : List Share) : Type 0 where
   pub tasks : ts .count ≤ length (ts .tasks)
   pub each : length shares ≡ ts .count
   pub lawful : (i : ℕ) → i < ts .count → LawfulTask (taskIn ts i)
-  pub high : (i : ℕ) → i < ts .count → taskIn ts i .level ≡ highLevel → PassingPair (taskIn ts i .figures) (shareAt shares i)
-  pub low : (i : ℕ) → i < ts .count → taskIn ts i .level ≡ lowLevel → LowPair (taskIn ts i .figures) (shareAt shares i)
+  pub high : (i : ℕ) → i < ts .count → isHigh (taskIn ts i .level) ≡ true → PassingPair (taskIn ts i .figures) (shareAt shares i)
+  pub low : (i : ℕ) → i < ts .count → isLow (taskIn ts i .level) ≡ true → LowPair (taskIn ts i .figures) (shareAt shares i)
   pub fits : (critical : Bool) → shareTotal critical shares ≤ ts .processors

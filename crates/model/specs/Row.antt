@@ -8,6 +8,7 @@ use lib.ListN.{getD, take}
 use Rattle.shares.specs.declared.share.Share.{Share}
 use Rattle.basics.specs.Lists.{range, keep, all}
 use Rattle.nodes.specs.Sets.{has, setOf}
+use Rattle.sheet.specs.Level.{isHigh}
 
 -- S7.1: a task's level, k, masks, D, V and shares. The sheet and the plan fix them; no call changes them.
 pub record Fixed : Type 0 where
@@ -32,18 +33,6 @@ pub record Row : Type 0 where
 -- What is fixed of a row.
 abbrev pub fixedOf : Row → Fixed
 fixedOf r = r .fixed
-
--- S2.6: the level of a low task.
-unfoldable pub lowLevel : ℕ
-lowLevel = 0
-
--- S2.6: the level of a high task.
-unfoldable pub highLevel : ℕ
-highLevel = 1
-
--- Whether the task is a high one.
-unfoldable pub isHigh : Fixed → Bool
-isHigh f = eqb (f .level) highLevel
 
 -- S1.2: whether each node of one set is in the other: what both have is all of the one.
 unfoldable pub isSubset : ℕ → ℕ → Bool
@@ -104,11 +93,11 @@ tickedRow r report =
 
 -- S8.6: whether this is a high task with an alive job whose age is V or more.
 unfoldable pub isLate : Row → Bool
-isLate r = isHigh (r .fixed) && r .job .alive && leb (r .fixed .virtualDeadline) (r .age)
+isLate r = isHigh (r .fixed .level) && r .job .alive && leb (r .fixed .virtualDeadline) (r .age)
 
 -- S8.6: whether a switch leaves the task's job: that of a high task.
 unfoldable pub survives : Fixed → Bool
-survives f = isHigh f
+survives f = isHigh (f .level)
 
 -- S8.6: what a switch does to one task: a job that does not survive it is no longer alive, and its ended set stands.
 unfoldable pub switchedRow : Row → Row
