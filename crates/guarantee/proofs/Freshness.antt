@@ -107,7 +107,7 @@ module _ (tasks : TaskSet) (lawful : LawfulSet tasks) (shares : List Share) (cho
         level = rules .level;
         nodes = rules .nodes;
         masks = rules .masks;
-        deadline = rw (le-leb 1 (t .figures .deadline) (kept .deadline-from)) (le-leb (t .figures .deadline) figureLimit (kept .deadline-to));
+        deadline = rw (le-leb 1 (t .figures .deadline) (kept .deadline-from)) (le-leb (t .figures .deadline) (figureLimit (t .level)) (kept .deadline-to));
         virtual = chosen-virtual tasks lawful shares chosen-it i inside;
         age = omega arith;
         ended = pow-pos (t .nodes);

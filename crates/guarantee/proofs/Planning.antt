@@ -1,12 +1,11 @@
 -- What the reader (S2) and the planner (S5) say of an accepted sheet is what the model's theorem assumes.
 use Prim.Native.Nat.{ℕ, _≤_, _<_}
-use mathlib.Core.Bool.{Bool, true, false}
+use mathlib.Core.Bool.{Bool, true, false, not}
 use mathlib.Core.List.{List}
 use mathlib.Core.Option.{some}
-use mathlib.Core.Path.{_≡_}
+use mathlib.Core.Path.{_≡_, ap}
 use native.Mathlib.Omega.{arith}
-use lib.Dec.{eqb}
-use borrow.Author.Tests.{eq-eqb, ltb-true}
+use borrow.Author.Tests.{ltb-true}
 use Rattle.sheet.specs.declared.task.Task.{Task}
 use Rattle.sheet.specs.declared.task.TaskSet.{TaskSet}
 use Rattle.sheet.specs.Format.{taskIn}
@@ -31,7 +30,7 @@ task-lawful t lawful =
     record {
       nodes = within-from 1 32 (t .nodes) (lawful .nodes);
       figures = record { span = kept .span-from; spans = kept .spans };
-      low = λ low. low-equal (t .level) (t .figures) (lawful .figures) (eq-eqb (t .level) 0 low) .0;
+      low = λ low. low-equal (t .level) (t .figures) (lawful .figures) low .0;
       heavy = heavy-work (t .figures) (lawful .heavy);
       masks = λ v below. ltb-true _ _ (all-at (t .nodes) (maskLawful (t .predecessors)) (lawful .masks) v below);
     }
@@ -39,17 +38,15 @@ task-lawful t lawful =
 -- The sheet's task set with the shares that are chosen for it.
 module _ (tasks : TaskSet) (lawful : LawfulSet tasks) (shares : List Share) (chosen-it : chosenFor tasks ≡ some shares) where
   high-pair : (i : ℕ) → i < tasks .count → isHigh (taskIn tasks i .level) ≡ true → PassingPair (taskIn tasks i .figures) (shareAt shares i)
-  unfolding shareAt isLow isHigh
+  unfolding shareAt isLow
   high-pair i inside high =
-      let not-low : eqb (taskIn tasks i .level) 0 ≡ false = rw high in
-      let pair = chosen-high tasks lawful shares chosen-it i inside not-low in
+      let pair = chosen-high tasks lawful shares chosen-it i inside (ap not high) in
       record { positive = pair .positive; ordered = pair .ordered; passing = pair .passing }
 
   low-pair : (i : ℕ) → i < tasks .count → isLow (taskIn tasks i .level) ≡ true → LowPair (taskIn tasks i .figures) (shareAt shares i)
-  unfolding shareAt isLow isHigh
+  unfolding shareAt
   low-pair i inside low =
-      let is-low : eqb (taskIn tasks i .level) 0 ≡ true = rw low in
-      let pair = chosen-low tasks lawful shares chosen-it i inside is-low in
+      let pair = chosen-low tasks lawful shares chosen-it i inside low in
       record { room = has-below _ _ (pair .has); typical = pair .typical }
 
   totals : (critical : Bool) → shareTotal critical shares ≤ tasks .processors

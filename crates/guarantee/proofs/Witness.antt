@@ -1,7 +1,7 @@
 -- What S10.7, S10.9 and S10.10 ask can be met. The sheet is read and planned by computation; its model is run by computation, and the reports
 -- pass the test of true ones.
 use Prim.Native.Nat.{ℕ, zero, suc, _+_, _≤_, _<_}
-use mathlib.Core.Bool.{true, false, true≢false}
+use mathlib.Core.Bool.{Bool, true, false, true≢false, false≢true}
 use mathlib.Core.List.{List, [], _∷_, _++_}
 use mathlib.Core.Option.{Option, some}
 use mathlib.Core.Path.{_≡_, refl, sym, ap, ap₂, subst₂, _∙_}
@@ -233,17 +233,17 @@ runs =
     }
 
 -- A run that begins with a release of task i, and has a tick that reports nothing as the D-th after it, asks the rest of the job.
-asked-of : (level : ℕ) (budget : Budget) (t : Task) (i : ℕ) (before later : List Call) (len : ℕ → ℕ) →
+asked-of : (isSuch : ℕ → Bool) (budget : Budget) (t : Task) (i : ℕ) (before later : List Call) (len : ℕ → ℕ) →
     isAccepted start (release i) ≡ true →
-    t .level ≡ level →
+    isSuch (t .level) ≡ true →
     KeepsBudget t budget len →
     allTrue i len (λ _. 0) (step start (release i) .model) (before ++ noReports ∷ later) ≡ true →
     isAccepted (after (step start (release i) .model) before) noReports ≡ true →
     ticksIn (step start (release i) .model) before + 1 ≡ t .figures .deadline →
     releasesIn i (after (step start (release i) .model) (before ++ noReports ∷ [])) later ≡ 0 →
-    InTimeAsked level budget start t i (release i ∷ before ++ noReports ∷ later) len
+    InTimeAsked isSuch budget start t i (release i ∷ before ++ noReports ∷ later) len
 unfolding begun
-asked-of level budget t i before later len begins level-is keeps truth due ticks unreleased =
+asked-of isSuch budget t i before later len begins level-is keeps truth due ticks unreleased =
     record {
       job = record { before = []; since = before ++ noReports ∷ later; list = refl; accepted = begins };
       level-is = level-is;
@@ -262,22 +262,24 @@ asked-of level budget t i before later len begins level-is keeps truth due ticks
     }
 
 overrun-asked : InTimeAsked isHigh (high .figures .overload) start high 0 overrun longLengths
+unfolding isHigh
 overrun-asked =
     asked-of isHigh (high .figures .overload) high 0 beforeDue (drop 12 overrun) longLengths
     (runs .begins) refl long-keeps (runs .long-true) (runs .due) (runs .ticks) (runs .unreleased)
 
 low-asked : InTimeAsked isLow (low .figures .nominal) start low 1 lowAlone shortLengths
+unfolding isHigh isLow
 low-asked =
     asked-of isLow (low .figures .nominal) low 1 (take 2 (drop 1 lowAlone)) [] shortLengths
     (runs .low-begins) refl low-keeps (runs .low-true) (runs .low-due) (runs .low-ticks) refl
 
 -- Of the three releases of the other run that of the low task asks nothing.
 usual-asked : NominalAsked both start usual
-unfolding NominalAsked taskIn
+unfolding NominalAsked taskIn isHigh
 usual-asked =
     at-releases (λ i m since. isHigh (taskIn both i .level) ≡ true → NominalJob (taskIn both i) i m since) start usual (
       λ _ level. nominal first (drop 1 usual) (runs .short-true),
-      (λ _ level. absurd (omega arith), (λ _ level. nominal (after start (take 11 usual)) (drop 11 usual) (runs .short-again), tt)),
+      (λ _ level. absurd (false≢true level), (λ _ level. nominal (after start (take 11 usual)) (drop 11 usual) (runs .short-again), tt)),
     )
   where
     nominal : (m : Model) (since : List Call) → allTrue 0 shortLengths (λ _. 0) m since ≡ true → NominalJob high 0 m since
@@ -299,10 +301,11 @@ deadline-met =
     }
 
 pub nominal-met : NominalMet
+unfolding isHigh
 nominal-met =
     record {
       started = started;
-      high = ap (λ (t : Task). t .level) task-is;
+      high = ap (λ (t : Task). isHigh (t .level)) task-is;
       jobs = ap (λ (m : Model). releasesIn 0 m usual) model-is ∙ runs .jobs;
       asked = subst₂ (λ (ts : TaskSet) (m : Model). NominalAsked ts m usual) (sym read-set) (sym model-is) usual-asked;
     }
