@@ -9,7 +9,7 @@ use borrow.Author.Tests.{leb-false, le-leb, lt-leb}
 use Rattle.sheet.specs.declared.task.Figures.{Figures}
 use Rattle.shares.specs.declared.search.Found.the-variants.{At, Nothing}
 use Rattle.shares.specs.Test.{excess, demand, passes}
-use Rattle.shares.specs.Terms.{termsOf, meets}
+use Rattle.shares.specs.means.Terms.{termsOf, meets}
 use Rattle.shares.specs.Search.{first, leastCritical, answerOf, numberOf}
 
 module _ (test : ℕ → Bool) (M b : ℕ) where

@@ -6,7 +6,7 @@ use sheet::task::Figures;
 ghost use mathlib.Core.Path.{_≡_};
 ghost use Prim.Native.Nat.{_≤_};
 ghost use Rattle.shares.specs.Test.{excess};
-ghost use Rattle.shares.specs.Terms.{termsOf, meets, Small};
+ghost use Rattle.shares.specs.means.Terms.{termsOf, meets, Small};
 
 // What the test takes from the figures at one typical share a. A critical share b passes where
 // supply·b is at least slope·b + fixed + extra·(b − a).

@@ -5,7 +5,7 @@ use mathlib.Core.Path.{_≡_, refl, sym, ap, _∙_}
 use native.Mathlib.Omega.{arith}
 use borrow.Author.Needs.{needs}
 use Rattle.shares.specs.declared.test.Terms.{Terms}
-use Rattle.shares.specs.Terms.{meets}
+use Rattle.shares.specs.means.Terms.{meets}
 use Rattle.shares.specs.Search.{first, leastCritical, answerOf}
 use Rattle.shares.proofs.Walk.{search-past, search-here, search-on, least-by-terms, answer-none, answer-at}
 use Rattle.shares.proofs.search.least_critical.Statement.{statement}

@@ -5,7 +5,7 @@ use borrow.Author.Tests.{le-leb, lt-leb, leb-true, leb-false, ltb-true, ltb-fals
 use Rattle.basics.proofs.Logic.{test-same}
 use borrow.Author.Needs.{needs}
 use native.Mathlib.Omega.{arith}
-use Rattle.shares.specs.Terms.{meets}
+use Rattle.shares.specs.means.Terms.{meets}
 use Rattle.shares.proofs.Words.{product-below}
 use Rattle.shares.proofs.test.meets.Statement.{statement}
 use Rattle.shares.proofs.test.meets.Tie as tie

@@ -4,7 +4,7 @@ use mathlib.Core.Path.{_≡_}
 use borrow.Author.Needs.{needs}
 use native.Mathlib.Omega.{arith}
 use Rattle.shares.specs.Test.{excess}
-use Rattle.shares.specs.Terms.{termsOf}
+use Rattle.shares.specs.means.Terms.{termsOf}
 use Rattle.shares.proofs.test.terms_of.Statement.{statement}
 use Rattle.shares.proofs.test.terms_of.Tie as tie
 
