@@ -1,12 +1,13 @@
--- What S10.5 and S10.9 ask of a run, by tests that compute. Reports are true if each accepted tick reports just the set of nodes whose
--- length is reached with it; and what holds at each accepted Release of a run holds of every job in it.
+-- What S10.5, S10.9 and S10.10 ask of a run, by tests that compute. Reports are true if each accepted tick reports just the set of
+-- nodes whose length is reached with it; a mode that is typical throughout is so until any tick; and what holds at each accepted
+-- Release of a run holds of every job in it.
 use Prim.Native.Nat.{ℕ, _+_}
 use mathlib.Core.Path.{_≡_, refl, sym, ap, subst, _∙_}
-use mathlib.Core.Bool.{Bool, true, false, cond, _&&_, _||_, true≢false, and-eq-true-iff}
+use mathlib.Core.Bool.{Bool, true, false, cond, not, _&&_, _||_, true≢false, and-eq-true-iff}
 use mathlib.Core.List.{List, [], _∷_, _++_}
 use native.Mathlib.Nat.{zero-add}
 use native.Mathlib.Omega.{arith}
-use borrow.Author.Tests.{eqb-true}
+use borrow.Author.Tests.{eqb-true, not-true}
 use lib.Dec.{eqb, ltb}
 use lib.ListN.{getD}
 use Rattle.basics.specs.Lists.{range, keep}
@@ -16,6 +17,7 @@ use Rattle.model.specs.Row.{runningSet}
 use Rattle.model.specs.Step.{Model, Call, release, tick, step, rowAt, granted, runningAt}
 use Rattle.model.specs.Run.{after, isAccepted, isReleaseOf, releasesIn, isRunning, runsOn, runsIn, isDue, TrueReports}
 use Rattle.model.specs.Claim.{ReleaseIn, begun}
+use Rattle.model.specs.Beside.{TypicalUntil}
 use Rattle.model.proofs.Nodes.{runs-test}
 
 -- Whether node v of task i runs and its length is reached with a tick, where each node u ran on c u ticks before.
@@ -87,6 +89,21 @@ unfolding TrueReports
 true-reports i len m calls h before reports rest e z a v =
     true-along i len (λ _. 0) m before reports rest (subst (λ (l : List Call). allTrue i len (λ _. 0) m l ≡ true) e h) z a v
     ∙ ap (λ (n : ℕ). isDue (isRunning i v (after m before)) n (len v)) (zero-add (runsIn i v m before))
+
+-- Whether the mode is typical before each of these calls and after the last.
+abbrev pub allTypical : Model → List Call → Bool
+allTypical m [] = not (m .critical)
+allTypical m (x ∷ calls) = not (m .critical) && allTypical (step m x .model) calls
+
+typical-along : (m : Model) (before rest : List Call) → allTypical m (before ++ rest) ≡ true → after m before .critical ≡ false
+typical-along m [] [] h = not-true (m .critical) h
+typical-along m [] (x ∷ rest) h = not-true (m .critical) (and-eq-true-iff (not (m .critical)) _ .0 h .0)
+typical-along m (x ∷ before) rest h = typical-along (step m x .model) before rest (and-eq-true-iff (not (m .critical)) _ .0 h .1)
+
+pub typical-until : (d : ℕ) (m : Model) (calls : List Call) → allTypical m calls ≡ true → TypicalUntil d m calls
+unfolding TypicalUntil
+typical-until d m calls h before rest e few =
+    typical-along m before rest (subst (λ (l : List Call). allTypical m l ≡ true) e h)
 
 -- What a claim about jobs says at each accepted Release of a run: of the task, the model just after it, and the calls since.
 abbrev pub AtReleases : (ℕ → Model → List Call → Type 0) → Model → List Call → Type 0

@@ -1,7 +1,7 @@
 -- What S10.7, S10.9 and S10.10 ask can be met. The sheet is read and planned by computation; its model is run by computation, and the reports
 -- pass the test of true ones.
 use Prim.Native.Nat.{ℕ, zero, suc, _+_, _≤_, _<_}
-use mathlib.Core.Bool.{Bool, true, false, true≢false, false≢true}
+use mathlib.Core.Bool.{true, true≢false}
 use mathlib.Core.List.{List, [], _∷_, _++_}
 use mathlib.Core.Option.{Option, some}
 use mathlib.Core.Path.{_≡_, refl, sym, ap, ap₂, subst₂, _∙_}
@@ -17,7 +17,7 @@ use Rattle.sheet.specs.Answers.{_orElse_, firstOver}
 use Rattle.basics.specs.Numbers.{byteAt, u16At, u32At}
 use Rattle.basics.specs.Lists.{cellsFrom, allBelow, range}
 use Rattle.sheet.specs.Format.{processorsOf, countOf, offsetOf, lengthOf, startOf as placeOf, levelAt, nodesAt, figuresAt, masksAt, taskAt, zeroTask, tasksBelow, taskSetOf, taskIn}
-use Rattle.sheet.specs.Level.{levelLawful, isLow, bytesBeforeMasks, figureLimit, isHigh}
+use Rattle.sheet.specs.Level.{levelLawful, isLow, isHigh, bytesBeforeMasks, figureLimit}
 use Rattle.sheet.specs.Rules.{shapeLawful, inRange, inOrder, lowLawful, figuresLawful, maskLawful, masksLawful, isHeavy, taskAnswer}
 use Rattle.reader.specs.declared.Reading.{Reading}
 use Rattle.reader.specs.Reading.{headerLawful, headerAnswer, placeAnswer, endAnswer, shapeAnswer, recordAnswer, answerOf, readOf}
@@ -35,13 +35,13 @@ use Rattle.model.specs.Step.{Model, Call, release, tick, step, rowAt, granted, 
 use Rattle.model.specs.Run.{after, isAccepted, ticksIn, releasesIn, isRunning, isDue}
 use Rattle.model.specs.Plan.{freshRow, fresh}
 use Rattle.model.specs.Claim.{begun, KeepsBudget, NominalJob, Ended, StaysTypical, Deadline, EndInTime, Nominal}
-use Rattle.model.specs.Beside.{LowDeadline}
+use Rattle.model.specs.Beside.{TypicalUntil, LowDeadline}
 use Rattle.start.specs.Start.{startAnswer, startOf}
 use Rattle.guarantee.specs.Runs.{allModelSaid}
 use Rattle.guarantee.specs.Guarantee.{tasksOf, sharesFor, modelFor, Guarantee, BesideGuarantee}
 use Rattle.guarantee.specs.Witness.{twoTasks, highTask, longLengths, overrun, overrunSaid, shortLengths, usual, lowTask, lowAlone, InTimeAsked, NominalAsked, DeadlineMet, NominalMet, LowMet}
 use Rattle.guarantee.proofs.Theorem.{answer-returned, guarantee, beside-guarantee}
-use Rattle.guarantee.proofs.Truths.{allTrue, true-reports, at-releases}
+use Rattle.guarantee.proofs.Truths.{allTrue, true-reports, allTypical, typical-until, at-releases}
 
 -- The tasks of the sheet, and their shares.
 abbrev high : Task
@@ -208,7 +208,7 @@ record Runs : Type 0 where
   pub low-true : allTrue 1 shortLengths (λ _. 0) firstLow (drop 1 lowAlone) ≡ true
   pub low-due : isAccepted (after firstLow (take 2 (drop 1 lowAlone))) noReports ≡ true
   pub low-ticks : ticksIn firstLow (take 2 (drop 1 lowAlone)) + 1 ≡ 3
-  pub low-typical : after start lowAlone .critical ≡ false
+  pub low-typical : allTypical firstLow (drop 1 lowAlone) ≡ true
   pub low-again : isAccepted (after start lowAlone) (release 1) ≡ true
 
 runs : Runs
@@ -310,13 +310,22 @@ nominal-met =
       asked = subst₂ (λ (ts : TaskSet) (m : Model). NominalAsked ts m usual) (sym read-set) (sym model-is) usual-asked;
     }
 
+-- What is asked of the low job, with the mode.
+record LowAsked (m : Model) (t : Task) : Type 0 where
+  pub asked : InTimeAsked isLow (t .figures .nominal) m t 1 lowAlone shortLengths
+  pub typical : TypicalUntil (t .figures .deadline) (begun (asked .job)) (asked .job .since)
+
+low-all : LowAsked start low
+unfolding begun low-asked asked-of
+low-all = record { asked = low-asked; typical = typical-until 3 firstLow (drop 1 lowAlone) (runs .low-typical) }
+
 pub low-met : LowMet
 low-met =
+    let all : LowAsked (modelFor twoTasks) lowTask = subst₂ LowAsked (sym model-is) (sym low-is) low-all in
     record {
       started = started;
-      typical = ap (λ (m : Model). after m lowAlone .critical) model-is ∙ runs .low-typical;
-      asked =
-          subst₂ (λ (m : Model) (t : Task). InTimeAsked isLow (t .figures .nominal) m t 1 lowAlone shortLengths) (sym model-is) (sym low-is) low-asked;
+      asked = all .asked;
+      typical = all .typical;
       again = ap (λ (m : Model). isAccepted (after m lowAlone) (release 1)) model-is ∙ runs .low-again;
     }
 
@@ -334,7 +343,7 @@ mode-typical = guarantee twoTasks started usual .nominal (nominal-met .asked)
 
 -- S10.10 of the third: the low job has ended.
 pub low-ended : Ended lowTask (rowAt (after (modelFor twoTasks) lowAlone) 1)
-unfolding BesideGuarantee LowDeadline EndInTime modelFor
+unfolding BesideGuarantee LowDeadline modelFor
 low-ended =
     let a = low-met .asked in
-    beside-guarantee twoTasks started lowAlone .low (low-met .typical) 1 (a .job) shortLengths (a .level-is) (a .keeps) (a .reports) (a .passed)
+    beside-guarantee twoTasks started lowAlone .low 1 (a .job) shortLengths (a .level-is) (a .keeps) (a .reports) (low-met .typical) (a .passed)

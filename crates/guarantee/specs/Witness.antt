@@ -1,7 +1,7 @@
 -- What the deadline (S10.7), the nominal clause (S10.9) and the clause of low jobs (S10.10) ask can be met: one sheet, and a run for
 -- each of the three clauses.
 use Prim.Native.Nat.{ℕ}
-use mathlib.Core.Bool.{Bool, true, false}
+use mathlib.Core.Bool.{true}
 use mathlib.Core.List.{List, [], _∷_, _++_}
 use mathlib.Core.Path.{_≡_}
 use lib.ListN.{getD}
@@ -14,6 +14,7 @@ use Rattle.sheet.specs.Level.{isHigh, isLow}
 use Rattle.model.specs.Step.{Model, Call, release, tick}
 use Rattle.model.specs.Run.{after, isAccepted, releasesIn, TrueReports}
 use Rattle.model.specs.Claim.{ReleaseIn, begun, KeepsBudget, DeadlinePassed, NominalJob}
+use Rattle.model.specs.Beside.{TypicalUntil}
 use Rattle.dispatcher.specs.declared.tick.TickAnswer.the-variants.{Ran, Switched, Refused as TickRefused}
 use Rattle.start.specs.Start.{startOf}
 use Rattle.guarantee.specs.Runs.{Said, released, ticked, allSaid}
@@ -149,9 +150,9 @@ pub record NominalMet : Type 0 where
 pub record LowMet : Type 0 where
   -- Start accepts the sheet.
   pub started : startOf twoTasks .answer ≡ Accepted
-  -- The mode is typical after the run.
-  pub typical : after (modelFor twoTasks) lowAlone .critical ≡ false
-  -- All else that is asked of a low job holds of it.
+  -- What is asked of a low job, as of any other, holds of it.
   pub asked : InTimeAsked isLow (lowTask .figures .nominal) (modelFor twoTasks) lowTask 1 lowAlone shortLengths
+  -- The mode is typical until its D-th tick.
+  pub typical : TypicalUntil (lowTask .figures .deadline) (begun (asked .job)) (asked .job .since)
   -- The task can be released again.
   pub again : isAccepted (after (modelFor twoTasks) lowAlone) (release 1) ≡ true

@@ -1,9 +1,8 @@
 -- A job over a list of calls: true reports carried from call to call, one call of an alive job, and a job that has ended.
-use Prim.Native.Nat.{ℕ, _+_, _≤_, _<_}
+use Prim.Native.Nat.{ℕ, _+_, _<_}
 use mathlib.Core.Path.{_≡_, refl, sym, ap, subst, subst₃, fun-ext, _∙_}
 use mathlib.Core.Bool.{Bool, true, false, cond, _&&_, _||_, true≢false, and-true}
 use mathlib.Core.List.{List, [], _∷_, _++_}
-use mathlib.Core.Logic.{_⊎_, inl, inr}
 use native.Mathlib.Nat.{add-zero, zero-add}
 use native.Mathlib.Omega.{arith}
 use lib.Bits.{bitOr}
@@ -18,7 +17,7 @@ use Rattle.model.specs.Run.{after, isAccepted, isTick, isReleaseOf, rele
 use Rattle.model.proofs.Nodes.{all-ended-at, all-ended-intro}
 use Rattle.model.proofs.Steps.{next, Turn, same, begins, ticks, TickAt, Settled, stays-critical, stays-typical, turns, turn, release-of}
 use Rattle.model.proofs.Lasting.{length-step, kept-by-call}
-use Rattle.model.proofs.Job.{pace, Live, Over, AfterTick, goes-on, ends, live-tick}
+use Rattle.model.proofs.Job.{pace, Live, Over, OneMore, AfterTick, goes-on, ends, live-tick}
 
 -- The reports of task i are true over the calls, where each node v ran on c v ticks before them.
 unfoldable pub TrueFrom : ℕ → (ℕ → ℕ) → (ℕ → ℕ) → Model → List Call → Type 0
@@ -69,31 +68,9 @@ survivor-switched r h =
     ap (λ (b : Bool). record { fixed = r .fixed; age = r .age; job = record { ended = r .job .ended; alive = b } })
     (ap (λ (t : Bool). r .job .alive && t) h ∙ and-true (r .job .alive))
 
--- The row of a job that survives a switch, and every row while the mode stays typical, is after an accepted tick what its part of the tick makes of it;
--- and where the mode is typical after the tick, it was so before and no job is late.
-pub record PlainTick (m : Model) (i : ℕ) (reports : List ℕ) : Type 0 where
-  pub row : rowAt (next m (tick reports)) i ≡ tickedRow (rowAt m i) (getD reports i 0)
-  pub calm : next m (tick reports) .critical ≡ false →
-      (m .critical ≡ false) × (isLate (rowAt (next m (tick reports)) i) ≡ false)
-
-survivor-ticked : (r : Row) (report : ℕ) → survives (r .fixed) ≡ true → survives (tickedRow r report .fixed) ≡ true
+ticked-fixed : (r : Row) (report : ℕ) → tickedRow r report .fixed ≡ r .fixed
 unfolding tickedRow
-survivor-ticked r report h = h
-
-pub plain-tick : (m : Model) (i : ℕ) (reports : List ℕ) → TickAt m i reports →
-    (survives (rowAt m i .fixed) ≡ true) ⊎ (next m (tick reports) .critical ≡ false) → PlainTick m i reports
-plain-tick m i reports at why = go why (at .settled)
-  where
-    go : (survives (rowAt m i .fixed) ≡ true) ⊎ (next m (tick reports) .critical ≡ false) →
-        Settled m (next m (tick reports)) i (tickedRow (rowAt m i) (getD reports i 0)) → PlainTick m i reports
-    go w (stays-critical b n e) = record { row = e; calm = λ f. absurd (true≢false (sym n ∙ f)) }
-    go w (stays-typical b n e l) = record { row = e; calm = λ f. (b, ap isLate e ∙ l) }
-    go (inl h) (turns b n e) =
-        record {
-          row = e ∙ survivor-switched (tickedRow (rowAt m i) (getD reports i 0)) (survivor-ticked (rowAt m i) (getD reports i 0) h);
-          calm = λ f. absurd (true≢false (sym n ∙ f));
-        }
-    go (inr h) (turns b n e) = absurd (true≢false (sym n ∙ h))
+ticked-fixed r report = refl
 
 false-and : (x y : Bool) → x ≡ false → (x && y) ≡ false
 false-and x y e = ap (λ (t : Bool). t && y) e
@@ -143,46 +120,30 @@ over-after m (x ∷ calls) i h none o =
     let z = count-zero (isReleaseOf i m x) (releasesIn i (next m x) calls) none in
     over-after (next m x) calls i (rw (length-step m x) h) (z .1) (over-step m x i h (z .0) o)
 
--- The same job seen in another mode, where typical follows from typical.
-abbrev in-mode : {len : ℕ → ℕ} {work span : ℕ} {r : Row} {critical : Bool} {c : ℕ → ℕ} {n : ℕ} (critical′ : Bool) →
-    (critical′ ≡ false → critical ≡ false) → Live len work span r critical c n → Live len work span r critical′ c n
-in-mode critical′ typical l =
-    record {
-      alive = l .alive;
-      sound = l .sound;
-      downwards = l .downwards;
-      keeps = l .keeps;
-      full₁ = l .full₁;
-      full₂ = l .full₂;
-      partial = l .partial;
-      ticks = l .ticks;
-      typical = λ h. l .typical (typical h);
-      age = l .age;
-      done = l .done;
-      progress = l .progress;
-    }
+-- What a call that is no Release of its task makes of an alive job: it is no accepted tick and nothing happens; or a tick runs, and
+-- the job goes on, is dropped by a switch that it does not survive, or ends.
+module _ {len : ℕ → ℕ} {work span : ℕ} {r : Row} {c : ℕ → ℕ} {n : ℕ} (live : Live len work span r c n) where
+  pub data Moved (critical worked : Bool) (r′ : Row) (critical′ : Bool) (d : ℕ → ℕ) : Type 0 where
+    rests : worked ≡ false → critical′ ≡ critical → r′ ≡ r → d ≡ c → (l : Live len work span r′ d n) →
+        l .full₁ ≡ live .full₁ → l .full₂ ≡ live .full₂ → Moved critical worked r′ critical′ d
+    works : worked ≡ true → (l : Live len work span r′ d (n + 1)) →
+        OneMore critical (live .full₁) (live .full₂) (l .full₁) (l .full₂) → (critical′ ≡ false → isLate r′ ≡ false) →
+        Moved critical worked r′ critical′ d
+    dropped : worked ≡ true → survives (r .fixed) ≡ false → critical′ ≡ true → (part : Row) → part .fixed ≡ r .fixed →
+        (l : Live len work span part d (n + 1)) → OneMore critical (live .full₁) (live .full₂) (l .full₁) (l .full₂) →
+        Moved critical worked r′ critical′ d
+    ended : Over r′ → Moved critical worked r′ critical′ d
 
--- What a call that is no Release of its task makes of an alive job: it is no accepted tick and nothing happens, or a tick runs,
--- or the job ends with it.
-module _ {len : ℕ → ℕ} {work span : ℕ} {r : Row} {critical : Bool} {c : ℕ → ℕ} {n : ℕ}
-    (live : Live len work span r critical c n) where
-  pub data Moved (worked : Bool) (r′ : Row) (critical′ : Bool) (d : ℕ → ℕ) : Type 0 where
-    rests : worked ≡ false → critical′ ≡ critical → (l : Live len work span r′ critical′ d n) → l .full₁ ≡ live .full₁ →
-        Moved worked r′ critical′ d
-    works : worked ≡ true → (l : Live len work span r′ critical′ d (n + 1)) → l .full₁ ≤ live .full₁ + 1 →
-        (critical ≡ true → l .full₁ ≡ live .full₁) →
-        (critical′ ≡ false → (critical ≡ false) × (isLate r′ ≡ false)) →
-        Moved worked r′ critical′ d
-    ended : Over r′ → Moved worked r′ critical′ d
+module _ {len : ℕ → ℕ} {work span : ℕ} (i : ℕ) (m : Model) {c : ℕ → ℕ} {n : ℕ} (live : Live len work span (rowAt m i) c n) where
+  -- What a call makes of the job of task i.
+  abbrev MovedBy : Call → Type 0
+  MovedBy x = Moved live (m .critical) (isTick m x) (rowAt (next m x) i) (next m x .critical) (ranAfter i m x c)
 
-module _ {len : ℕ → ℕ} {work span : ℕ} (i : ℕ) (m : Model) {c : ℕ → ℕ} {n : ℕ}
-    (live : Live len work span (rowAt m i) (m .critical) c n) where
-  idle-step : (x : Call) → isTick m x ≡ false → next m x .critical ≡ m .critical → rowAt (next m x) i ≡ rowAt m i →
-      Moved live (isTick m x) (rowAt (next m x) i) (next m x .critical) (ranAfter i m x c)
+  idle-step : (x : Call) → isTick m x ≡ false → next m x .critical ≡ m .critical → rowAt (next m x) i ≡ rowAt m i → MovedBy x
   idle-step x t mode e =
-      subst₃ (λ (r′ : Row) (critical′ : Bool) (d : ℕ → ℕ). Moved live (isTick m x) r′ critical′ d) (sym e) (sym mode)
+      subst₃ (λ (r′ : Row) (critical′ : Bool) (d : ℕ → ℕ). Moved live (m .critical) (isTick m x) r′ critical′ d) (sym e) (sym mode)
       (fun-ext (λ v. sym (ap (λ (b : Bool). c v + cond (b && isRunning i v m) 1 0) t ∙ add-zero (c v))))
-      (rests t refl live refl)
+      (rests t refl refl refl live refl refl)
 
   pub true-head : (reports : List ℕ) (calls : List Call) → isAccepted m (tick reports) ≡ true →
       TrueFrom i len c m (tick reports ∷ calls) →
@@ -206,46 +167,52 @@ module _ {len : ℕ → ℕ} {work span : ℕ} (i : ℕ) (m : Model) {c : ℕ �
   -- The job after its part of an accepted tick with true reports, whatever the tick makes of the mode.
   pub part-step : (reports : List ℕ) (calls : List Call) → isAccepted m (tick reports) ≡ true → TickAt m i reports →
       TrueFrom i len c m (tick reports ∷ calls) →
-      AfterTick live (tickedRow (rowAt m i) (getD reports i 0)) (ranAfter i m (tick reports) c)
+      AfterTick live (m .critical) (tickedRow (rowAt m i) (getD reports i 0)) (ranAfter i m (tick reports) c)
   part-step reports calls a at h =
-      live-tick live (granted m i) (granted-paced m i) (ranAfter i m (tick reports) c) (getD reports i 0) (at .named) (ran-head reports a)
-      (true-head reports calls a h)
+      live-tick live (m .critical) (granted m i) (granted-paced m i) (ranAfter i m (tick reports) c) (getD reports i 0) (at .named)
+      (ran-head reports a) (true-head reports calls a h)
 
   tick-step : (reports : List ℕ) (calls : List Call) → isAccepted m (tick reports) ≡ true → TickAt m i reports →
-      (survives (rowAt m i .fixed) ≡ true) ⊎ (next m (tick reports) .critical ≡ false) →
-      TrueFrom i len c m (tick reports ∷ calls) →
-      Moved live (isTick m (tick reports)) (rowAt (next m (tick reports)) i) (next m (tick reports) .critical)
-      (ranAfter i m (tick reports) c)
-  tick-step reports calls a at why h =
-      subst (λ (r′ : Row). Moved live (isTick m (tick reports)) r′ critical′ (ranAfter i m (tick reports) c)) (sym (plain .row))
-      (go (part-step reports calls a at h))
+      TrueFrom i len c m (tick reports ∷ calls) → MovedBy (tick reports)
+  tick-step reports calls a at h = go (part-step reports calls a at h) (at .settled)
     where
-      critical′ : Bool
-      critical′ = next m (tick reports) .critical
+      part : Row
+      part = tickedRow (rowAt m i) (getD reports i 0)
 
-      plain : PlainTick m i reports
-      plain = plain-tick m i reports at why
+      -- The row is what its part of the tick makes of it.
+      on : rowAt (next m (tick reports)) i ≡ part → (l : Live len work span part (ranAfter i m (tick reports) c) (n + 1)) →
+          OneMore (m .critical) (live .full₁) (live .full₂) (l .full₁) (l .full₂) →
+          (next m (tick reports) .critical ≡ false → isLate part ≡ false) → MovedBy (tick reports)
+      on e l one calm =
+          subst (λ (r′ : Row). Moved live (m .critical) (isTick m (tick reports)) r′ (next m (tick reports) .critical)
+          (ranAfter i m (tick reports) c)) (sym e) (works a l one calm)
 
-      go : AfterTick live (tickedRow (rowAt m i) (getD reports i 0)) (ranAfter i m (tick reports) c) →
-          Moved live (isTick m (tick reports)) (tickedRow (rowAt m i) (getD reports i 0)) (next m (tick reports) .critical)
-          (ranAfter i m (tick reports) c)
-      go (goes-on l most fixed) =
-          works a (in-mode (next m (tick reports) .critical) (λ f. plain .calm f .0) l) most fixed
-          (λ f. (plain .calm f .0, ap isLate (sym (plain .row)) ∙ plain .calm f .1))
-      go (ends o) = ended o
+      -- The tick switches.
+      by-switch : (t : Bool) → survives (rowAt m i .fixed) ≡ t → next m (tick reports) .critical ≡ true →
+          rowAt (next m (tick reports)) i ≡ switchedRow part → (l : Live len work span part (ranAfter i m (tick reports) c) (n + 1)) →
+          OneMore (m .critical) (live .full₁) (live .full₂) (l .full₁) (l .full₂) → MovedBy (tick reports)
+      by-switch true s critical e l one =
+          on (e ∙ survivor-switched part (ap survives (ticked-fixed (rowAt m i) (getD reports i 0)) ∙ s)) l one (λ f. absurd (true≢false (sym critical ∙ f)))
+      by-switch false s critical e l one = dropped a s critical part (ticked-fixed (rowAt m i) (getD reports i 0)) l one
 
-  -- One call of an alive job that survives a switch, or of any while the mode stays typical.
-  pub live-step : (x : Call) (calls : List Call) → i < length (m .rows) →
-      (survives (rowAt m i .fixed) ≡ true) ⊎ (next m x .critical ≡ false) →
-      isReleaseOf i m x ≡ false → TrueFrom i len c m (x ∷ calls) →
-      Moved live (isTick m x) (rowAt (next m x) i) (next m x .critical) (ranAfter i m x c)
-  live-step x calls known why none h = go (turn m i x known)
+      go : AfterTick live (m .critical) part (ranAfter i m (tick reports) c) → Settled m (next m (tick reports)) i part →
+          MovedBy (tick reports)
+      go (goes-on l one) (stays-critical b critical e) = on e l one (λ f. absurd (true≢false (sym critical ∙ f)))
+      go (goes-on l one) (stays-typical b typical e calm) = on e l one (λ _. calm)
+      go (goes-on l one) (turns b critical e) = by-switch (survives (rowAt m i .fixed)) refl critical e l one
+      go (ends o) (stays-critical b critical e) = ended (subst Over (sym e) o)
+      go (ends o) (stays-typical b typical e calm) = ended (subst Over (sym e) o)
+      go (ends o) (turns b critical e) = ended (subst Over (sym e) (over-switched part o))
+
+  -- One call of an alive job.
+  pub live-step : (x : Call) (calls : List Call) → i < length (m .rows) → isReleaseOf i m x ≡ false →
+      TrueFrom i len c m (x ∷ calls) →
+      Moved live (m .critical) (isTick m x) (rowAt (next m x) i) (next m x .critical) (ranAfter i m x c)
+  live-step x calls known none h = go (turn m i x known)
     where
-      go : Turn m i x → Moved live (isTick m x) (rowAt (next m x) i) (next m x .critical) (ranAfter i m x c)
+      go : Turn m i x → MovedBy x
       go (same t r mode e) = idle-step x t mode e
       go (begins e a at) = absurd (true≢false (sym (release-of m i x e a) ∙ none))
       go (ticks reports e a at) =
-          subst (λ (y : Call). Moved live (isTick m y) (rowAt (next m y) i) (next m y .critical) (ranAfter i m y c)) (sym e)
-          (tick-step reports calls (ap (isAccepted m) (sym e) ∙ a) at
-          (subst (λ (y : Call). (survives (rowAt m i .fixed) ≡ true) ⊎ (next m y .critical ≡ false)) e why)
-          (subst (λ (y : Call). TrueFrom i len c m (y ∷ calls)) e h))
+          subst MovedBy (sym e)
+          (tick-step reports calls (ap (isAccepted m) (sym e) ∙ a) at (subst (λ (y : Call). TrueFrom i len c m (y ∷ calls)) e h))

@@ -99,7 +99,7 @@ pace f = f .share
 
 -- The job of a row is alive, n accepted ticks after its release: each node v ran on c v of them and has ended if that is its length.
 -- Of these ticks full₁ were full in typical and full₂ in critical mode, and partial ones were not full.
-pub record Live (len : ℕ → ℕ) (work span : ℕ) (r : Row) (critical : Bool) (c : ℕ → ℕ) (n : ℕ) : Type 0 where
+pub record Live (len : ℕ → ℕ) (work span : ℕ) (r : Row) (c : ℕ → ℕ) (n : ℕ) : Type 0 where
   pub alive : r .job .alive ≡ true
   pub sound : KeptSound r
   pub downwards : Downwards (r .fixed)
@@ -108,7 +108,6 @@ pub record Live (len : ℕ → ℕ) (work span : ℕ) (r : Row) (critical : Bool
   pub full₂ : ℕ
   pub partial : ℕ
   pub ticks : full₁ + full₂ + partial ≡ n
-  pub typical : critical ≡ false → full₂ ≡ 0
   pub age : r .age ≡ min n (r .fixed .deadline)
   pub done : (v : ℕ) → v < r .fixed .nodes → has (r .job .ended) v ≡ ended len c v
   pub progress : Progress (r .fixed .nodes) (precedes (r .fixed .predecessors)) len (pace (r .fixed) .typical)
@@ -120,11 +119,11 @@ pub record Over (r : Row) : Type 0 where
   pub gone : r .job .alive ≡ false
 
 -- At its release.
-pub begun-live : {len : ℕ → ℕ} {work span : ℕ} (r : Row) (critical : Bool) → KeptSound r → Downwards (r .fixed) →
+pub begun-live : {len : ℕ → ℕ} {work span : ℕ} (r : Row) → KeptSound r → Downwards (r .fixed) →
     Keeps (r .fixed .nodes) (precedes (r .fixed .predecessors)) work span len →
-    Live len work span (releasedRow r) critical (λ _. 0) 0
+    Live len work span (releasedRow r) (λ _. 0) 0
 unfolding releasedRow
-begun-live r critical sound down keeps =
+begun-live r sound down keeps =
     record {
       alive = refl;
       sound = sound-released r sound;
@@ -134,7 +133,6 @@ begun-live r critical sound down keeps =
       full₂ = 0;
       partial = 0;
       ticks = refl;
-      typical = λ _. refl;
       age = omega arith;
       done = λ v l. has-zero v ∙ sym (begin-unended keeps v l);
       progress = begin (pace (r .fixed) .typical) (pace (r .fixed) .critical) keeps;
@@ -145,8 +143,13 @@ abbrev pub TypicalBelow : ℕ → ℕ → Fixed → ℕ → Type 0
 TypicalBelow work span f bound =
     (full p : ℕ) → p + 1 ≤ span → pace f .typical * full + p + 1 ≤ work → full + p + 1 ≤ bound
 
-module _ {len : ℕ → ℕ} {work span : ℕ} {r : Row} {critical : Bool} {c : ℕ → ℕ} {n : ℕ}
-    (live : Live len work span r critical c n) where
+-- What one more tick in a mode makes of the numbers of full ticks in typical and in critical mode, f₁ and f₂.
+pub record OneMore (critical : Bool) (f₁ f₂ g₁ g₂ : ℕ) : Type 0 where
+  pub most : g₁ ≤ f₁ + 1
+  pub in-critical : critical ≡ true → g₁ ≡ f₁
+  pub in-typical : critical ≡ false → g₂ ≡ f₂
+
+module _ {len : ℕ → ℕ} {work span : ℕ} {r : Row} {c : ℕ → ℕ} {n : ℕ} (live : Live len work span r c n) where
   some-left : Alive (r .fixed .nodes) (has (r .job .ended))
   some-left =
       alive-some (sym (all-ended-test (r .fixed .nodes) (r .job .ended)) ∙ live .sound .sound .alive (live .alive))
@@ -156,10 +159,9 @@ module _ {len : ℕ → ℕ} {work span : ℕ} {r : Row} {critical : Bool} {c : 
       × (pace (r .fixed) .typical * live .full₁ + pace (r .fixed) .critical * live .full₂ + live .partial + 1 ≤ work)
   live-bounds = bounds (live .keeps) (live .progress) (alive-same (live .done) some-left)
 
-  -- In typical mode all full ticks were typical ones: a bound on what such a job can have behind it holds for n.
-  pub typical-below : {bound : ℕ} → critical ≡ false → TypicalBelow work span (r .fixed) bound → n < bound
-  typical-below typical below =
-      let none : live .full₂ ≡ 0 = live .typical typical in
+  -- Where no full tick was a critical one, a bound on what such a job can have behind it holds for n.
+  pub typical-below : {bound : ℕ} → live .full₂ ≡ 0 → TypicalBelow work span (r .fixed) bound → n < bound
+  typical-below none below =
       let spent : pace (r .fixed) .critical * live .full₂ ≡ 0 = rw none (omega arith) in
       omega (arith, below (live .full₁) (live .partial) (live-bounds .0) (omega (arith, live-bounds .1)), live .ticks)
 
@@ -187,18 +189,18 @@ module _ {len : ℕ → ℕ} {work span : ℕ} {r : Row} {critical : Bool} {c : 
       (counts v ∙ ap (λ (t : Bool). c v + bit t) (ran-is grant v l)))
 
   -- What an accepted tick with a true report makes of an alive job. The grant is the pace in the mode, whoever decided it.
-  pub data AfterTick (r′ : Row) (d : ℕ → ℕ) : Type 0 where
-    goes-on : (l : Live len work span r′ critical d (n + 1)) → l .full₁ ≤ live .full₁ + 1 →
-        (critical ≡ true → l .full₁ ≡ live .full₁) → AfterTick r′ d
-    ends : Over r′ → AfterTick r′ d
+  pub data AfterTick (critical : Bool) (r′ : Row) (d : ℕ → ℕ) : Type 0 where
+    goes-on : (l : Live len work span r′ d (n + 1)) → OneMore critical (live .full₁) (live .full₂) (l .full₁) (l .full₂) →
+        AfterTick critical r′ d
+    ends : Over r′ → AfterTick critical r′ d
 
-  pub live-tick : (grant : ℕ) → grant ≡ shareIn critical (pace (r .fixed)) → (d : ℕ → ℕ) (report : ℕ) →
+  pub live-tick : (critical : Bool) (grant : ℕ) → grant ≡ shareIn critical (pace (r .fixed)) → (d : ℕ → ℕ) (report : ℕ) →
       isSubset report (runningSet grant r) ≡ true →
       ((v : ℕ) → d v ≡ c v + bit (has (runningSet grant r) v)) →
       ((v : ℕ) → has report v ≡ isDue (has (runningSet grant r) v) (c v) (len v)) →
-      AfterTick (tickedRow r report) d
+      AfterTick critical (tickedRow r report) d
   unfolding tickedRow
-  live-tick grant paced d report named counts true-report = go (allEnded (r .fixed .nodes) (joined r report)) refl
+  live-tick critical grant paced d report named counts true-report = go (allEnded (r .fixed .nodes) (joined r report)) refl
     where
       ticked : Ticked (r .fixed .nodes) (precedes (r .fixed .predecessors)) len (pace (r .fixed) .typical)
           (pace (r .fixed) .critical) span critical d (live .full₁) (live .full₂) (live .partial)
@@ -207,7 +209,7 @@ module _ {len : ℕ → ℕ} {work span : ℕ} {r : Row} {critical : Bool} {c : 
           (λ v l. counts v ∙ ap (λ (t : Bool). c v + bit t) (runs-is grant r (live .downwards) (live .alive) v l))
           (downwards-test (r .fixed) (live .downwards)) critical paced some-left
 
-      go : (t : Bool) → allEnded (r .fixed .nodes) (joined r report) ≡ t → AfterTick (tickedRow r report) d
+      go : (t : Bool) → allEnded (r .fixed .nodes) (joined r report) ≡ t → AfterTick critical (tickedRow r report) d
       go true e = ends (record { nodes = e; gone = ap₂ (λ (x y : Bool). x && not y) (live .alive) e })
       go false e =
           goes-on
@@ -220,10 +222,8 @@ module _ {len : ℕ → ℕ} {work span : ℕ} {r : Row} {critical : Bool} {c : 
             full₂ = ticked .full₂;
             partial = ticked .partial;
             ticks = omega (arith, ticked .one-more, live .ticks);
-            typical = λ h. ticked .if-typical h ∙ live .typical h;
             age = omega (arith, live .age);
             done = done-next grant d report counts true-report;
             progress = ticked .progress;
           })
-          (ticked .full₁-most)
-          (ticked .if-critical)
+          (record { most = ticked .full₁-most; in-critical = ticked .if-critical; in-typical = ticked .if-typical })

@@ -15,7 +15,9 @@ pub mod Course
 pub mod Released
 pub mod Apart
 pub mod Ending
+pub mod Closing
 pub mod Deadline
 pub mod Low
+pub mod CriticalLasts
 pub mod Nominal
 pub mod Theorem

@@ -5,7 +5,6 @@ use mathlib.Core.Path.{_≡_, refl, sym, ap, subst, _∙_}
 use mathlib.Core.Bool.{Bool, true, false, cond, not, true≢false, and-eq-true-iff}
 use mathlib.Core.List.{List, [], _∷_}
 use mathlib.Core.Option.{Option, none, some}
-use mathlib.Core.Logic.{inr}
 use native.Mathlib.Omega.{arith}
 use borrow.Author.Tests.{leb-true, eqb-true}
 use lib.Dec.{eqb}
@@ -28,7 +27,7 @@ use Rattle.model.proofs.Lasting.{fixed-step, same-fixed, length-step}
 use Rattle.model.proofs.Fresh.{fresh-length, fresh-row}
 use Rattle.model.proofs.Released.{plannedFixed, high-fixed, known-task, live-at-release, fixed-begun}
 use Rattle.model.proofs.Job.{Live, AfterTick, goes-on, ends, TypicalBelow, typical-below}
-use Rattle.model.proofs.Course.{TrueFrom, true-from-start, ranAfter, true-from-next, Moved, rests, works, ended, part-step, live-step, dead-step}
+use Rattle.model.proofs.Course.{TrueFrom, true-from-start, ranAfter, true-from-next, Moved, rests, works, dropped, ended, part-step, live-step, dead-step}
 
 -- While a job that keeps the budget is alive in typical mode, fewer than V ticks have passed.
 abbrev Before : ℕ → ℕ → Fixed → Type 0
@@ -41,7 +40,8 @@ record Honest (i : ℕ) (m : Model) (calls : List Call) : Type 0 where
   pub span : ℕ
   pub counts : ℕ → ℕ
   pub passed : ℕ
-  pub live : Live len work span (rowAt m i) (m .critical) counts passed
+  pub live : Live len work span (rowAt m i) counts passed
+  pub none : live .full₂ ≡ 0
   pub before : Before work span (rowAt m i .fixed)
   pub reports : TrueFrom i len counts m calls
 
@@ -94,9 +94,10 @@ part-not-late m reports calls calm a i known = below-not-late part early
         honest = calm .alive i known high
             (and-eq-true-iff (r .job .alive) (not (allEnded (r .fixed .nodes) (joined r (getD reports i 0)))) .0 alive .0)
 
-        settled : AfterTick (honest .live) (tickedRow r (getD reports i 0)) (ranAfter i m (tick reports) (honest .counts)) →
+        settled : AfterTick (honest .live) (m .critical) (tickedRow r (getD reports i 0)) (ranAfter i m (tick reports) (honest .counts)) →
             part .age < r .fixed .virtualDeadline
-        settled (goes-on l most fixed) = omega (arith, typical-below l (calm .typical) (honest .before), l .age)
+        settled (goes-on l one) =
+            omega (arith, typical-below l (one .in-typical (calm .typical) ∙ honest .none) (honest .before), l .age)
         settled (ends o) = absurd (true≢false (sym alive ∙ o .gone))
 
 -- A call that leaves the mode typical and does not answer that it switched.
@@ -161,17 +162,17 @@ later m x calls i job =
       accepted = job .accepted;
     }
 
-honest-next : (m : Model) (x : Call) (calls : List Call) (i : ℕ) → i < length (m .rows) → next m x .critical ≡ false →
-    isReleaseOf i m x ≡ false → rowAt (next m x) i .job .alive ≡ true → Honest i m (x ∷ calls) → Honest i (next m x) calls
-honest-next m x calls i known typical no-release alive h =
-    go (live-step i m (h .live) x calls known (inr typical) no-release (h .reports))
+honest-next : (m : Model) (x : Call) (calls : List Call) (i : ℕ) → i < length (m .rows) → m .critical ≡ false →
+    next m x .critical ≡ false → isReleaseOf i m x ≡ false → rowAt (next m x) i .job .alive ≡ true → Honest i m (x ∷ calls) → Honest i (next m x) calls
+honest-next m x calls i known before-typical typical no-release alive h =
+    go (live-step i m (h .live) x calls known no-release (h .reports))
   where
     before : Before (h .work) (h .span) (rowAt (next m x) i .fixed)
     before = subst (Before (h .work) (h .span)) (sym (same-fixed (next m x) m (fixed-step m x) i)) (h .before)
 
-    carry : (n : ℕ) → Live (h .len) (h .work) (h .span) (rowAt (next m x) i) (next m x .critical)
-        (ranAfter i m x (h .counts)) n → Honest i (next m x) calls
-    carry n l =
+    carry : (n : ℕ) (l : Live (h .len) (h .work) (h .span) (rowAt (next m x) i) (ranAfter i m x (h .counts)) n) →
+        l .full₂ ≡ 0 → Honest i (next m x) calls
+    carry n l typical₂ =
         record {
           len = h .len;
           work = h .work;
@@ -179,14 +180,16 @@ honest-next m x calls i known typical no-release alive h =
           counts = ranAfter i m x (h .counts);
           passed = n;
           live = l;
+          none = typical₂;
           before = before;
           reports = true-from-next i (h .len) (h .counts) m x calls no-release (h .reports);
         }
 
-    go : Moved (h .live) (isTick m x) (rowAt (next m x) i) (next m x .critical) (ranAfter i m x (h .counts)) →
+    go : Moved (h .live) (m .critical) (isTick m x) (rowAt (next m x) i) (next m x .critical) (ranAfter i m x (h .counts)) →
         Honest i (next m x) calls
-    go (rests w mode l same₁) = carry (h .passed) l
-    go (works w l most fixed calm) = carry (h .passed + 1) l
+    go (rests w mode row counts l same₁ same₂) = carry (h .passed) l (same₂ ∙ h .none)
+    go (works w l one calm) = carry (h .passed + 1) l (one .in-typical before-typical ∙ h .none)
+    go (dropped w lost critical part fixed l one) = absurd (true≢false (sym critical ∙ typical))
     go (ended o) = absurd (true≢false (sym alive ∙ o .gone))
 
 calm-next : (m : Model) (x : Call) (calls : List Call) → Calm m (x ∷ calls) → Calm (next m x) calls
@@ -209,7 +212,7 @@ calm-next m x calls calm =
         goes no-release = was (rowAt m i .job .alive) refl
           where
             was : (t : Bool) → rowAt m i .job .alive ≡ t → Honest i (next m x) calls
-            was true e = honest-next m x calls i known (quiet-step m x calls calm .typical) no-release alive (calm .alive i known high e)
+            was true e = honest-next m x calls i known (calm .typical) (quiet-step m x calls calm .typical) no-release alive (calm .alive i known high e)
             was false e = absurd (true≢false (sym alive ∙ dead-step m x i known no-release e))
 
         go : Turn m i x → Honest i (next m x) calls
@@ -283,13 +286,16 @@ module _ (ts : TaskSet) (shares : List Share) (planned : Planned ts shares) wher
           within : (b : Budget) → KeepsBudget (taskIn ts i) b (own .lengths) → b .span ≤ taskIn ts i .figures .nominal .span →
               b .work ≤ taskIn ts i .figures .nominal .work → Honest i (begun job) (job .since)
           within b keeps less-span less-work =
+              let live : Live (own .lengths) (b .work) (b .span) (rowAt (begun job) i) (λ _. 0) 0 =
+              live-at-release ts shares planned (job .before) i b (own .lengths) (job .accepted) keeps in
               record {
                 len = own .lengths;
                 work = b .work;
                 span = b .span;
                 counts = λ _. 0;
                 passed = 0;
-                live = live-at-release ts shares planned (job .before) i b (own .lengths) (job .accepted) keeps;
+                live = live;
+                none = omega (arith, live .ticks);
                 before =
                     subst (Before (b .work) (b .span)) (sym (fixed-begun ts shares planned (job .before) i i known))
                     (before-high i known level b less-span less-work);

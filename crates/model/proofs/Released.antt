@@ -55,12 +55,11 @@ module _ (ts : TaskSet) (shares : List Share) (planned : Planned ts shares) wher
   -- The job at its release.
   pub live-at-release : (before : List Call) (i : ℕ) (b : Budget) (lengths : ℕ → ℕ) →
       isAccepted (after (fresh ts shares) before) (release i) ≡ true → KeepsBudget (taskIn ts i) b lengths →
-      Live lengths (b .work) (b .span) (rowAt (next (after (fresh ts shares) before) (release i)) i)
-      (next (after (fresh ts shares) before) (release i) .critical) (λ _. 0) 0
+      Live lengths (b .work) (b .span) (rowAt (next (after (fresh ts shares) before) (release i)) i) (λ _. 0) 0
   live-at-release before i b lengths a keeps =
-      subst (λ (r : Row). Live lengths (b .work) (b .span) r (next m (release i) .critical) (λ _. 0) 0)
+      subst (λ (r : Row). Live lengths (b .work) (b .span) r (λ _. 0) 0)
       (sym (release-at m i a .row))
-      (begun-live (rowAt m i) (next m (release i) .critical) (kept-sound ts shares planned before i known)
+      (begun-live (rowAt m i) (kept-sound ts shares planned before i known)
       (subst Downwards (sym fixed) (downwards-at i known))
       (subst (λ (f : Fixed). Keeps (f .nodes) (precedes (f .predecessors)) (b .work) (b .span) lengths) (sym fixed)
       (keeps-at i b lengths keeps)))

@@ -2,7 +2,7 @@
 use Prim.Native.Nat.{ℕ, _≤_, _<_, _^_, min}
 use mathlib.Core.Path.{_≡_}
 use mathlib.Core.Bool.{true, false}
-use mathlib.Core.List.{List, map, List·Memᴰ}
+use mathlib.Core.List.{List, map, _++_, List·Memᴰ}
 use lib.ListN.{length}
 use Rattle.sheet.specs.declared.task.TaskSet.{TaskSet}
 use Rattle.shares.specs.declared.share.Share.{Share}
@@ -11,15 +11,26 @@ use Rattle.nodes.specs.Sets.{has}
 use Rattle.sheet.specs.Level.{isLow}
 use Rattle.model.specs.Row.{Row, fixedOf, precedes, allEnded, ready, running}
 use Rattle.model.specs.Step.{Model, Call, release, rowAt}
-use Rattle.model.specs.Run.{after, isAccepted, ticksIn}
+use Rattle.model.specs.Run.{after, isAccepted, ticksIn, TrueReports}
 use Rattle.model.specs.Plan.{fresh}
-use Rattle.model.specs.Claim.{ReleaseIn, begun, EndInTime}
+use Rattle.model.specs.Claim.{ReleaseIn, begun, KeepsBudget, Ended, DeadlinePassed}
 
--- S10.10: a low job that keeps its budget, with true reports, has ended with the D-th tick after its release, if the mode is
--- typical after the list (and so was all along: the critical mode lasts).
+-- S10.10: from the model m on, the mode is typical until the d-th accepted tick of these calls: at each moment before it.
+unfoldable pub TypicalUntil : ℕ → Model → List Call → Type 0
+TypicalUntil d m calls =
+    (before rest : List Call) → calls ≡ before ++ rest → ticksIn m before < d → after m before .critical ≡ false
+
+-- S10.10: a low job that keeps its budget, with true reports, has ended once its deadline has passed, if from its release until the
+-- D-th tick the mode was typical. What that tick and later ones make of the mode does not matter.
 unfoldable pub LowDeadline : TaskSet → List Share → List Call → Type 0
 LowDeadline ts shares calls =
-    after (fresh ts shares) calls .critical ≡ false → EndInTime isLow (λ t. t .figures .nominal) ts shares calls
+    (i : ℕ) (job : ReleaseIn (fresh ts shares) i calls) (lengths : ℕ → ℕ) →
+    isLow (taskIn ts i .level) ≡ true →
+    KeepsBudget (taskIn ts i) (taskIn ts i .figures .nominal) lengths →
+    TrueReports i lengths (begun job) (job .since) →
+    TypicalUntil (taskIn ts i .figures .deadline) (begun job) (job .since) →
+    DeadlinePassed (taskIn ts i) i (begun job) (job .since) →
+    Ended (taskIn ts i) (rowAt (after (fresh ts shares) calls) i)
 
 -- S10.10: a task that was released in the list can be released after it only if there were D accepted ticks in between.
 unfoldable pub ReleasesApart : TaskSet → List Share → List Call → Type 0
