@@ -25,7 +25,7 @@ use Rattle.shares.specs.Deadline.{virtualOf}
 use Rattle.nodes.specs.Sets.{has, range}
 use Rattle.nodes.proofs.Bits.{has-zero, has-power}
 use Rattle.allocation.specs.Choice.{lowOptions, pairsWithin, highOptions, optionsOf, fits, leastOf, fitting, chosen}
-use Rattle.allocation.specs.Allocation.{chosenFor, shareAnswer, choiceAnswer, sharesOf}
+use Rattle.allocation.specs.Allocation.{chosenFor, shareAnswer, choiceAnswer, sharesOf, allocationAnswer}
 use Rattle.model.specs.Budget.{sumBelow, Chain, alone, link, along}
 use Rattle.model.specs.Row.{lowLevel, highLevel, isHigh, isSubset, allEnded, predecessorsOf, precedes, isReady, ready, running, runningSet, releasedRow, joined, tickedRow, isLate, switchedRow}
 use Rattle.model.specs.Step.{Model, Call, release, tick, step, rowAt, unknownTask, lowInCritical, tooEarly, wrongCount, notRunning, releaseRefusal, tickRefusal, released, ticked}
@@ -33,7 +33,7 @@ use Rattle.model.specs.Run.{after, isAccepted, ticksIn, releasesIn, isRunning, 
 use Rattle.model.specs.Plan.{freshRow, fresh}
 use Rattle.model.specs.Claim.{begun, KeepsBudget, NominalJob, Ended, StaysTypical, Deadline, EndInTime, Nominal}
 use Rattle.model.specs.Beside.{LowDeadline}
-use Rattle.start.specs.Start.{startAnswer, startOf}
+use Rattle.start.specs.Start.{startOf}
 use Rattle.guarantee.specs.Runs.{allModelSaid}
 use Rattle.guarantee.specs.Guarantee.{tasksOf, sharesFor, modelFor, Guarantee, BesideGuarantee}
 use Rattle.guarantee.specs.Witness.{twoTasks, highTask, longLengths, overrun, overrunSaid, shortLengths, usual, lowTask, lowAlone, InTimeAsked, NominalAsked, DeadlineMet, NominalMet, LowMet}
@@ -81,9 +81,9 @@ unfolding choiceAnswer shareAnswer chosenFor taskIn firstOver range isLow ceilDi
 both-chosen = (refl, refl)
 
 pub started : startOf twoTasks .answer ≡ Accepted
-unfolding startOf startAnswer
+unfolding startOf allocationAnswer
 started =
-    answer-returned (startAnswer twoTasks) _
+    answer-returned (allocationAnswer twoTasks) _
     ∙ ap (λ (r : Reading). r .answer orElse choiceAnswer (r .set)) read-both
     ∙ both-chosen .0
 
