@@ -11,7 +11,7 @@ use lib.ListN.{length, getD, drop, drop-of-length-le}
 use lib.Seq.{drop-cons}
 use borrow.Author.Tests.{lt-ltb, le-ltb, leb-true, leb-false}
 use Rattle.shares.specs.Row.{tabulate}
-use Rattle.allocation.specs.Selection.{offersNone}
+use Rattle.allocation.specs.means.Selection.{offersNone}
 
 module _ (M : ℕ) (row : List ℕ) (i : ℕ) (inside : i < length row) where
   offers-open : offersNone M (drop i row) ≡ ltb M (getD row i 0) && offersNone M (drop (i + 1) row)

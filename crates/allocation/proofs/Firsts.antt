@@ -7,7 +7,7 @@ use native.Mathlib.Omega.{arith}
 use native.Mathlib.Decide.{decLe}
 use lib.Dec.{ltb}
 use borrow.Author.Tests.{ltb-true, ltb-false, lt-ltb, le-ltb}
-use Rattle.allocation.specs.Selection.{better, leastFrom}
+use Rattle.allocation.specs.means.Selection.{better, leastFrom}
 
 module _ (f : ℕ → ℕ) (k : ℕ) where
   -- What is asked of the first number at which f is least among k to k + n.

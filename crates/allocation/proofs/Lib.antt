@@ -10,6 +10,7 @@ pub mod Lines
 pub mod Walk
 pub mod Sets
 pub mod Accepted
+pub mod Allocations
 pub mod Laws
 pub mod Ways
 pub mod Blocks

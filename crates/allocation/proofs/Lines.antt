@@ -17,7 +17,7 @@ use Rattle.allocation.specs.declared.rows.Row.{Row}
 use Rattle.allocation.specs.declared.selection.Totals.{Totals}
 use Rattle.shares.specs.Totals.{noProcessors}
 use Rattle.allocation.specs.Allocation.{sixteen}
-use Rattle.allocation.specs.Selection.{cellAt, entryAt, leastFrom, sumAt, bestShare, totalWith, leastTotal, totalsOf, offered, sharesAt, bestTotal, missingRow, rowsUpTo, lastTotals}
+use Rattle.allocation.specs.means.Selection.{cellAt, entryAt, leastFrom, sumAt, bestShare, totalWith, leastTotal, totalsOf, offered, sharesAt, bestTotal, missingRow, rowsUpTo, lastTotals}
 use Rattle.allocation.proofs.Firsts.{least-same, least-to}
 use Rattle.allocation.proofs.Optimal.{best-from, best-to, with-positive, with-best, with-none, with-past, with-some}
 

@@ -16,7 +16,7 @@ use Rattle.shares.specs.declared.share.Share.{Share}
 use Rattle.shares.specs.Totals.{typicalTotal, criticalTotal}
 use Rattle.basics.specs.Lists.{keep}
 use Rattle.allocation.specs.Choice.{choices, fits, pairNumbers, rank, noLater, leastOf}
-use Rattle.allocation.specs.Selection.{sumAt, bestShare, totalWith, leastTotal, offered, sharesAt, bestTotal, selected}
+use Rattle.allocation.specs.means.Selection.{sumAt, bestShare, totalWith, leastTotal, offered, sharesAt, bestTotal, selected}
 use Rattle.basics.proofs.Members.{each-has, each-from, map-has, map-from, keep-has, keep-from, none-empty}
 use Rattle.allocation.proofs.Ranks.{pairs-no-later, ranks-no-later, least-is, least-of-none}
 use Rattle.allocation.proofs.Firsts.{least-from, least-to, least-at-most, least-first-at}

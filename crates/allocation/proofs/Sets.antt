@@ -30,7 +30,7 @@ use Rattle.allocation.specs.Choice.{optionsOf, choices, fits, leastOf, f
 use Rattle.shares.specs.Totals.{noProcessors}
 use Rattle.allocation.specs.Allocation.{noShare, tasksOf, chosenFor, shareAnswer, choiceAnswer, choiceOf}
 use Rattle.allocation.specs.Lawful.{LawfulTask, LawfulSet}
-use Rattle.allocation.specs.Selection.{cellAt, offered, selected, zeroRow, missingRow, rowsOf, offersNone, rowAnswer, rowsUpTo, selectionOf}
+use Rattle.allocation.specs.means.Selection.{cellAt, offered, selected, zeroRow, missingRow, rowsOf, offersNone, rowAnswer, rowsUpTo, selectionOf}
 use Rattle.basics.proofs.Members.{keep-from, all-member, all-members, none-empty, empty-none}
 use Rattle.allocation.proofs.Ranks.{least-of-none}
 use Rattle.allocation.proofs.Optimal.{RowOf, Rows, no-row, row-and, Takes, choice-takes, select-least}

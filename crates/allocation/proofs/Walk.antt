@@ -15,7 +15,7 @@ use Rattle.allocation.specs.declared.rows.Row.{Row}
 use Rattle.allocation.specs.declared.selection.Totals.{Totals}
 use Rattle.shares.specs.Totals.{noProcessors}
 use Rattle.allocation.specs.Allocation.{noFit, sixteen}
-use Rattle.allocation.specs.Selection.{cellAt, entryAt, leastFrom, bestShare, leastTotal, totalsOf, offered, sharesAt, bestTotal, selected, missingRow, rowsUpTo, lastTotals, selectionOf}
+use Rattle.allocation.specs.means.Selection.{cellAt, entryAt, leastFrom, bestShare, leastTotal, totalsOf, offered, sharesAt, bestTotal, selected, missingRow, rowsUpTo, lastTotals, selectionOf}
 use Rattle.allocation.proofs.Lines.{missingTotals, rows-length, rows-open, whole-line, rest-line, entry-totals, best-total-is, step-some, step-from, step-to, step-within, step-shares, shares-length, open-at, open-rest, sixteen-is, sixteen-none}
 
 -- The answers that the walk ends in.

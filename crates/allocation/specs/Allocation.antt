@@ -1,18 +1,25 @@
--- What is chosen for a task set, and refusals 7 and 8.
+-- What is chosen for a task set, refusals 7 and 8, and what is fixed for each task of a sheet.
 use Prim.Native.Nat.{ℕ}
+use mathlib.Core.Bool.{true, false}
 use mathlib.Core.List.{List, []}
 use mathlib.Core.Option.{Option, none, some}
-use lib.ListN.{length, getD, take}
+use lib.ListN.{length, getD, take, replicate}
 use Rattle.sheet.specs.declared.answer.Answer.{Answer}
+use Rattle.sheet.specs.declared.answer.Answer.the-variants.{Accepted, Refused}
 use Rattle.sheet.specs.declared.task.Task.{Task}
 use Rattle.sheet.specs.declared.task.TaskSet.{TaskSet}
 use Rattle.sheet.specs.Answers.{noTask, refusedIf, _orElse_, firstOver}
 use Rattle.basics.specs.Lists.{cells, isEmpty, isNone}
 use Rattle.sheet.specs.Format.{taskIn}
+use Rattle.reader.specs.Reading.{readOf}
 use Rattle.shares.specs.declared.share.Share.{Share}
-use Rattle.shares.specs.Totals.{noProcessors}
+use Rattle.shares.specs.Deadline.{virtualOf}
+use Rattle.shares.specs.Totals.{noProcessors, shareAt}
+use Rattle.allocation.specs.declared.allocate.Allocation.{Allocation}
+use Rattle.allocation.specs.declared.allocate.Allocated.{Allocated}
 use Rattle.allocation.specs.declared.choice.Chosen.{Chosen}
 use Rattle.allocation.specs.Choice.{optionsOf, chosen}
+use Rattle.allocation.specs.Blocks.{offsetIn}
 
 -- S9.7: a task may take nothing.
 abbrev pub noShare : ℕ
@@ -52,3 +59,40 @@ sixteen shares = cells 16 (λ i. getD shares i noProcessors) noProcessors (lengt
 -- The answer on a task set with the shares that are chosen; zeros where nothing is.
 unfoldable pub choiceOf : TaskSet → Chosen
 choiceOf set = record { answer = choiceAnswer set; shares = sixteen (sharesOf (chosenFor set)) }
+
+-- What is fixed for task i of a set whose tasks have these shares: its share, where its block begins in each mode (S5.4), and V (S4.5).
+unfoldable pub allocationOf : TaskSet → List Share → ℕ → Allocation
+allocationOf set shares i =
+    record {
+      share = shareAt shares i;
+      offset = record { typical = offsetIn false shares i; critical = offsetIn true shares i };
+      «virtual_deadline» = virtualOf (taskIn set i) (shareAt shares i .typical);
+    }
+
+-- What stands for a task that is not there.
+abbrev pub noAllocation : Allocation
+noAllocation = record { share = noProcessors; offset = record { typical = 0; critical = 0 }; «virtual_deadline» = 0 }
+
+-- The same for all tasks of a set, as a line of sixteen, with zeros in the place of the tasks that are not there.
+unfoldable pub allocationsOf : TaskSet → List Share → List Allocation
+allocationsOf set shares = cells 16 (allocationOf set shares) noAllocation (set .count)
+
+-- The allocation of task i of such a line.
+unfoldable pub allocationAt : List Allocation → ℕ → Allocation
+allocationAt allocations i = getD allocations i noAllocation
+
+-- S3.3: the answer on a sheet: the reader's refusal, if there is one, and else that of the choice, 7 or 8.
+unfoldable pub allocationAnswer : List ℕ → Answer
+allocationAnswer sheet = readOf sheet .answer orElse choiceAnswer (readOf sheet .set)
+
+-- An answer with what goes with it: the number of tasks and what is fixed for them if accepted, zeros if refused.
+abbrev pub allocatedWith : Answer → ℕ → List Allocation → Allocated
+allocatedWith Accepted count allocations = record { answer = Accepted; count = count; allocations = allocations }
+allocatedWith (Refused number task) count allocations =
+    record { answer = Refused number task; count = 0; allocations = replicate 16 noAllocation }
+
+-- S5.3, S5.4, S4.5: what is fixed for the tasks of a sheet, with the shares that are chosen.
+unfoldable pub allocatedOf : List ℕ → Allocated
+allocatedOf sheet =
+    allocatedWith (allocationAnswer sheet) (readOf sheet .set .count)
+    (allocationsOf (readOf sheet .set) (sharesOf (chosenFor (readOf sheet .set))))

@@ -1,7 +1,7 @@
 // S4.4 and S9.7: the rows of a task set, and whether a row offers anything.
 ghost use mathlib.Core.Path.{_≡_};
 ghost use Prim.Native.Nat.{_≤_};
-ghost use Rattle.allocation.specs.Selection.{rowsOf, offersNone};
+ghost use Rattle.allocation.specs.means.Selection.{rowsOf, offersNone};
 use shares::row::row;
 use sheet::task::TaskSet;
 

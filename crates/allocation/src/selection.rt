@@ -3,7 +3,7 @@ ghost use mathlib.Core.Path.{_≡_};
 ghost use mathlib.Core.List.{[]};
 ghost use Prim.Native.Nat.{_+_, _≤_, min};
 ghost use Rattle.shares.specs.Row.{tabulate};
-ghost use Rattle.allocation.specs.Selection.{cellAt, entryAt, leastFrom, bestShare, sumAt, totalWith, totalsOf, rowsUpTo, lastTotals, selectionOf};
+ghost use Rattle.allocation.specs.means.Selection.{cellAt, entryAt, leastFrom, bestShare, sumAt, totalWith, totalsOf, rowsUpTo, lastTotals, selectionOf};
 use crate::choice::Chosen;
 use crate::rows::Row;
 use shares::share::Share;

@@ -1,4 +1,4 @@
--- Worked facts by computation: soundness at the edge of each range, and a fresh entry.
+-- Worked facts by computation: soundness at the edge of each range.
 use Prim.Native.Nat.{ℕ}
 use mathlib.Core.Bool.{Bool, true, false}
 use mathlib.Core.List.{List, [], _∷_}
@@ -6,14 +6,10 @@ use mathlib.Core.Path.{_≡_, refl}
 use lib.ListN.{replicate}
 use Rattle.basics.specs.Lists.{range, allBelow}
 use Rattle.nodes.specs.Sets.{has}
-use Rattle.sheet.specs.declared.task.Task.{Task}
-use Rattle.sheet.specs.Level.{levelLawful, isLow, isHigh, figureLimit}
+use Rattle.sheet.specs.Level.{levelLawful, figureLimit}
 use Rattle.sheet.specs.Rules.{maskLawful, masksLawful}
-use Rattle.shares.specs.Test.{virtualDeadline}
-use Rattle.shares.specs.Deadline.{virtualOf}
 use Rattle.model.specs.Row.{allEnded}
 use Rattle.entries.specs.declared.state.TaskState.{TaskState}
-use Rattle.entries.specs.Fresh.{freshEntry, zeroEntry}
 use Rattle.entries.specs.Sound.{entrySound}
 
 -- An entry with the shares (1, 2): level, k, masks, D, V, age, ended set, alive.
@@ -33,16 +29,6 @@ entry level nodes masks deadline virtual age ended alive =
 -- Node 1 waits for node 0.
 abbrev chain : List ℕ
 chain = 0 ∷ 1 ∷ []
-
--- Task A of S11 with two nodes.
-abbrev taskA : Task
-taskA =
-    record {
-      level = 1;
-      nodes = 2;
-      figures = record { deadline = 45; nominal = record { work = 9; span = 4 }; overload = record { work = 52; span = 20 } };
-      predecessors = chain;
-    }
 
 pub record Worked : Type 0 where
   -- S7.2: V is at most D.
@@ -75,14 +61,9 @@ pub record Worked : Type 0 where
   -- S7.2: an alive job has a node that has not ended.
   pub alive-some : entrySound (entry 1 2 chain 45 9 5 1 true) ≡ true
   pub alive-none : entrySound (entry 1 2 chain 45 9 5 3 true) ≡ false
-  -- S8.1: a fresh entry has the sheet's shape, V by its share, and the age D. S7.3: the entries behind the tasks are zero.
-  pub fresh : freshEntry taskA (record { typical = 1; critical = 2 }) ≡ entry 1 2 chain 45 9 45 0 false
-  pub fresh-two : freshEntry taskA (record { typical = 2; critical = 2 }) .«virtual_deadline» ≡ 6
-  pub zeros : zeroEntry
-      ≡ record { level = 0; nodes = 0; predecessors = replicate 32 0; deadline = 0; «virtual_deadline» = 0; share = record { typical = 0; critical = 0 }; age = 0; job = record { ended = 0; alive = false } }
 
 worked : Worked
-unfolding has range levelLawful figureLimit maskLawful allBelow masksLawful isLow virtualDeadline virtualOf allEnded freshEntry zeroEntry entrySound isHigh
+unfolding has range levelLawful maskLawful allBelow masksLawful allEnded entrySound figureLimit
 worked =
     record {
       virtual-below = refl;
@@ -107,7 +88,4 @@ worked =
       ended-beyond = refl;
       alive-some = refl;
       alive-none = refl;
-      fresh = refl;
-      fresh-two = refl;
-      zeros = refl;
     }

@@ -1,4 +1,3 @@
--- In reading order: the entry and the row that it holds, a fresh one, soundness.
+-- In reading order: the entry and the row that it holds, soundness.
 pub mod Entry
-pub mod Fresh
 pub mod Sound

@@ -18,7 +18,8 @@ use Rattle.shares.specs.declared.share.Share.{Share}
 use Rattle.shares.specs.Totals.{shareTotal, shareAt}
 use Rattle.allocation.specs.Blocks.{lengthIn}
 use Rattle.allocation.specs.Lawful.{LawfulSet}
-use Rattle.allocation.specs.Allocation.{chosenFor}
+use Rattle.allocation.specs.declared.allocate.Allocation.{Allocation}
+use Rattle.allocation.specs.Allocation.{chosenFor, allocationOf, allocationAt}
 use Rattle.allocation.proofs.Lawfulness.{figures-kept}
 use Rattle.allocation.proofs.Laws.{chosen-virtual}
 use Rattle.allocation.proofs.Lines.{cells-at}
@@ -32,7 +33,7 @@ use Rattle.entries.specs.Entry.{fixedOf, jobOf, rowOf}
 use Rattle.dispatcher.specs.Holds.{entriesOf, modelOf, sharesOf}
 use Rattle.entries.specs.Sound.{entrySound}
 use Rattle.dispatcher.specs.Sound.{entriesSound, isSound}
-use Rattle.entries.specs.Fresh.{freshEntry, zeroEntry}
+use Rattle.start.specs.Fresh.{freshEntry, zeroEntry}
 use Rattle.start.specs.Start.{entriesBelow, freshState}
 use Rattle.dispatcher.proofs.Entries.{noEntry, entryAt, entries-length, entries-at}
 use Rattle.dispatcher.proofs.Rows.{model-length, model-row}
@@ -40,10 +41,11 @@ use Rattle.entries.proofs.Soundness.{sound-entry}
 use Rattle.dispatcher.proofs.Soundness.{sound-state}
 use Rattle.guarantee.proofs.Planning.{planned}
 
--- A fresh entry is a fresh row.
-row-fresh : (t : Task) (s : Share) → rowOf (freshEntry t s) ≡ freshRow t s
-unfolding rowOf fixedOf jobOf freshEntry freshRow
-row-fresh t s = refl
+-- A fresh entry, with what is fixed for a task, is a fresh row.
+row-fresh : (tasks : TaskSet) (shares : List Share) (i : ℕ) →
+    rowOf (freshEntry (taskIn tasks i) (allocationOf tasks shares i)) ≡ freshRow (taskIn tasks i) (shareAt shares i)
+unfolding rowOf fixedOf jobOf freshEntry freshRow allocationOf
+row-fresh tasks shares i = refl
 
 -- Entries that are sound one by one are sound together.
 all-sound : (es : List TaskState) → ((i : ℕ) → i < length es → entrySound (getD es i noEntry) ≡ true) → entriesSound es ≡ true
@@ -57,9 +59,10 @@ shares-fresh critical [] shares = omega arith
 shares-fresh critical (t ∷ tasks) [] = omega arith
 shares-fresh critical (t ∷ tasks) (s ∷ shares) = omega (arith, shares-fresh critical tasks shares)
 
-module _ (tasks : TaskSet) (lawful : LawfulSet tasks) (shares : List Share) (chosen-it : chosenFor tasks ≡ some shares) where
+module _ (tasks : TaskSet) (lawful : LawfulSet tasks) (shares : List Share) (chosen-it : chosenFor tasks ≡ some shares)
+    (allocations : List Allocation) (fixed : (i : ℕ) → i < tasks .count → allocationAt allocations i ≡ allocationOf tasks shares i) where
   state : State
-  state = freshState tasks shares
+  state = freshState tasks allocations
 
   count-is : state .count ≡ tasks .count
   unfolding state freshState
@@ -69,19 +72,20 @@ module _ (tasks : TaskSet) (lawful : LawfulSet tasks) (shares : List Share) (cho
   unfolding state freshState entriesBelow
   entries-long =
       let few = lawful .few-tasks in
-      omega (arith, cells-length (λ i. freshEntry (taskIn tasks i) (shareAt shares i)) zeroEntry 0 16 (tasks .count))
+      omega (arith, cells-length (λ i. freshEntry (taskIn tasks i) (allocationAt allocations i)) zeroEntry 0 16 (tasks .count))
 
-  entry-is : (i : ℕ) → i < tasks .count → entryAt state i ≡ freshEntry (taskIn tasks i) (shareAt shares i)
+  entry-is : (i : ℕ) → i < tasks .count → entryAt state i ≡ freshEntry (taskIn tasks i) (allocationOf tasks shares i)
   unfolding state freshState entriesBelow
   entry-is i inside =
       let few = lawful .few-tasks in
-      cells-at (λ i. freshEntry (taskIn tasks i) (shareAt shares i)) zeroEntry 16 (tasks .count) i noEntry (omega arith) inside
+      cells-at (λ i. freshEntry (taskIn tasks i) (allocationAt allocations i)) zeroEntry 16 (tasks .count) i noEntry (omega arith) inside
+      ∙ ap (freshEntry (taskIn tasks i)) (fixed i inside)
 
   row-is : (i : ℕ) → i < tasks .count → rowAt (modelOf state) i ≡ rowAt (fresh tasks shares) i
   row-is i inside =
       model-row state entries-long i (omega (arith, count-is))
       ∙ ap rowOf (entry-is i inside)
-      ∙ row-fresh (taskIn tasks i) (shareAt shares i)
+      ∙ row-fresh tasks shares i
       ∙ sym (fresh-row tasks shares (planned tasks lawful shares chosen-it) i inside)
 
   rows-is : modelOf state .rows ≡ fresh tasks shares .rows
@@ -92,17 +96,17 @@ module _ (tasks : TaskSet) (lawful : LawfulSet tasks) (shares : List Share) (cho
       (λ i h. row-is i (omega (arith, model-length state entries-long, count-is)))
 
   -- The fresh state holds the model's fresh start.
-  pub fresh-model : modelOf (freshState tasks shares) ≡ fresh tasks shares
+  pub fresh-model : modelOf (freshState tasks allocations) ≡ fresh tasks shares
   unfolding state freshState modelOf fresh
   fresh-model = ap (λ (rows : List Row). record { critical = false; rows = rows }) rows-is
 
-  entry-sound : (i : ℕ) → i < tasks .count → entrySound (freshEntry (taskIn tasks i) (shareAt shares i)) ≡ true
-  unfolding freshEntry shareAt lengthIn
+  entry-sound : (i : ℕ) → i < tasks .count → entrySound (freshEntry (taskIn tasks i) (allocationOf tasks shares i)) ≡ true
+  unfolding freshEntry allocationOf shareAt lengthIn
   entry-sound i inside =
       let t = taskIn tasks i in
       let rules = lawful .lawful i inside in
       let kept = figures-kept (t .level) (t .figures) (rules .figures) in
-      sound-entry (freshEntry t (shareAt shares i))
+      sound-entry (freshEntry t (allocationOf tasks shares i))
       (record {
         level = rules .level;
         nodes = rules .nodes;
@@ -128,7 +132,7 @@ module _ (tasks : TaskSet) (lawful : LawfulSet tasks) (shares : List Share) (cho
       (omega (arith, shares-fresh critical (take (tasks .count) (tasks .tasks)) shares, planned tasks lawful shares chosen-it .fits critical))
 
   -- The fresh state is sound.
-  pub fresh-sound : isSound (freshState tasks shares) ≡ true
+  pub fresh-sound : isSound (freshState tasks allocations) ≡ true
   unfolding state freshState
   fresh-sound =
       sound-state state

@@ -16,9 +16,8 @@ use Rattle.sheet.specs.Answers.{noTask}
 use Rattle.sheet.specs.Format.{taskIn}
 use Rattle.reader.specs.Reading.{readOf}
 use Rattle.basics.proofs.Cells.{cells-length}
-use Rattle.shares.specs.Totals.{shareAt}
-use Rattle.allocation.specs.Allocation.{chosenFor, choiceAnswer, sharesOf}
-use Rattle.allocation.proofs.Accepted.{both-accepted, accepted-lawful}
+use Rattle.allocation.specs.Allocation.{allocationAt, allocationAnswer, allocatedOf}
+use Rattle.allocation.proofs.Allocations.{read-lawful}
 use Rattle.model.specs.Row.{Row}
 use Rattle.model.specs.Step.{Call, release, tick, step}
 use Rattle.dispatcher.specs.declared.state.State.{State}
@@ -31,8 +30,8 @@ use Rattle.dispatcher.specs.Answers.{notSound}
 use Rattle.dispatcher.specs.Holds.{modelOf, withRows, withModel}
 use Rattle.dispatcher.specs.Sound.{isSound}
 use Rattle.dispatcher.specs.Calls.{releasedBy, tickedBy, releaseOf, tickOf}
-use Rattle.entries.specs.Fresh.{freshEntry, zeroEntry}
-use Rattle.start.specs.Start.{entriesBelow, freshState, zeroState, startAnswer, startedWith, startOf}
+use Rattle.start.specs.Fresh.{freshEntry, zeroEntry}
+use Rattle.start.specs.Start.{entriesBelow, freshState, zeroState, startedWith, startOf}
 use Rattle.guarantee.specs.declared.turn.Turn.{Turn}
 use Rattle.guarantee.specs.declared.replay.Replayed.the-variants.{Written, Short}
 use Rattle.guarantee.specs.Runs.{stateOf, saidOf}
@@ -196,19 +195,19 @@ replaying-all whole bytes calls tasks s out at place rest e p =
 
 -- S7.1: the state that Start returns has sixteen entries and at most as many tasks.
 pub start-few : (sheet : List ℕ) → startOf sheet .state .count ≤ 16
-unfolding startOf startAnswer freshState zeroState
-start-few sheet = go (startAnswer sheet) refl
+unfolding startOf freshState zeroState
+start-few sheet = go (allocationAnswer sheet) refl
   where
-    go : (a : Answer) → startAnswer sheet ≡ a → startedWith a (freshState (readOf sheet .set) (sharesOf (chosenFor (readOf sheet .set)))) .state .count ≤ 16
-    go Accepted e = accepted-lawful sheet (both-accepted (readOf sheet .answer) (choiceAnswer (readOf sheet .set)) e .0) .few-tasks
+    go : (a : Answer) → allocationAnswer sheet ≡ a → startedWith a (freshState (readOf sheet .set) (allocatedOf sheet .allocations)) .state .count ≤ 16
+    go Accepted e = read-lawful sheet e .few-tasks
     go (Refused number task) e = omega arith
 
 pub start-line : (sheet : List ℕ) → length (startOf sheet .state .entries) ≡ 16
 unfolding startOf freshState entriesBelow zeroState
-start-line sheet = go (startAnswer sheet)
+start-line sheet = go (allocationAnswer sheet)
   where
-    go : (a : Answer) → length (startedWith a (freshState (readOf sheet .set) (sharesOf (chosenFor (readOf sheet .set)))) .state .entries) ≡ 16
-    go Accepted = cells-length (λ i. freshEntry (taskIn (readOf sheet .set) i) (shareAt (sharesOf (chosenFor (readOf sheet .set))) i)) zeroEntry 0 16 (readOf sheet .set .count)
+    go : (a : Answer) → length (startedWith a (freshState (readOf sheet .set) (allocatedOf sheet .allocations)) .state .entries) ≡ 16
+    go Accepted = cells-length (λ i. freshEntry (taskIn (readOf sheet .set) i) (allocationAt (allocatedOf sheet .allocations) i)) zeroEntry 0 16 (readOf sheet .set .count)
     go (Refused number task) = length-replicate 16 zeroEntry
 
 -- The calls that are run are the first of the log, as many as they are.

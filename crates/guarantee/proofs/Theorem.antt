@@ -1,5 +1,5 @@
 -- S10: a run from Start's state goes together with the model, and the model's theorem says the rest.
-use Prim.Native.Nat.{ℕ}
+use Prim.Native.Nat.{ℕ, _<_}
 use mathlib.Core.Bool.{true}
 use mathlib.Core.List.{List}
 use mathlib.Core.Option.{some}
@@ -8,8 +8,8 @@ use Rattle.sheet.specs.declared.answer.Answer.{Answer}
 use Rattle.sheet.specs.declared.answer.Answer.the-variants.{Accepted, Refused}
 use Rattle.reader.specs.Reading.{readOf}
 use Rattle.allocation.specs.Lawful.{LawfulSet}
-use Rattle.allocation.specs.Allocation.{chosenFor, choiceAnswer}
-use Rattle.allocation.proofs.Accepted.{both-accepted, accepted-lawful, accepted-choice}
+use Rattle.allocation.specs.Allocation.{chosenFor, allocationOf, allocationAt, allocationAnswer, allocatedOf}
+use Rattle.allocation.proofs.Allocations.{read-lawful, read-chosen, allocated-at}
 use Rattle.model.specs.Step.{Model, Call}
 use Rattle.model.specs.Run.{after}
 use Rattle.model.specs.Beside.{Beside}
@@ -18,7 +18,7 @@ use Rattle.model.proofs.Theorem.{demand3, beside}
 use Rattle.dispatcher.specs.declared.state.State.{State}
 use Rattle.dispatcher.specs.Holds.{modelOf}
 use Rattle.dispatcher.specs.Sound.{isSound}
-use Rattle.start.specs.Start.{freshState, startAnswer, startedWith, startOf}
+use Rattle.start.specs.Start.{freshState, startedWith, startOf}
 use Rattle.guarantee.specs.Runs.{allModelSaid}
 use Rattle.guarantee.specs.Guarantee.{tasksOf, sharesFor, modelFor, startState, Guaranteed, Guarantee, BesideGuarantee}
 use Rattle.guarantee.proofs.Together.{run-said, run-model}
@@ -31,32 +31,33 @@ answer-returned Accepted fresh = refl
 answer-returned (Refused number task) fresh = refl
 
 module _ (sheet : List ℕ) (accepted : startOf sheet .answer ≡ Accepted) where
-  answered : startAnswer sheet ≡ Accepted
+  answered : allocationAnswer sheet ≡ Accepted
   unfolding startOf
-  answered = sym (answer-returned (startAnswer sheet) _) ∙ accepted
-
-  both-passed : (readOf sheet .answer ≡ Accepted) × (choiceAnswer (readOf sheet .set) ≡ Accepted)
-  unfolding startAnswer
-  both-passed = both-accepted (readOf sheet .answer) (choiceAnswer (readOf sheet .set)) answered
+  answered = sym (answer-returned (allocationAnswer sheet) _) ∙ accepted
 
   lawful : LawfulSet (tasksOf sheet)
   unfolding tasksOf
-  lawful = accepted-lawful sheet (both-passed .0)
+  lawful = read-lawful sheet answered
 
   chosen-it : chosenFor (tasksOf sheet) ≡ some (sharesFor sheet)
   unfolding tasksOf sharesFor
-  chosen-it = accepted-choice (readOf sheet .set) (both-passed .1)
+  chosen-it = read-chosen sheet answered
 
-  state-is : startState sheet ≡ freshState (tasksOf sheet) (sharesFor sheet)
-  unfolding startState startOf tasksOf sharesFor
-  state-is = ap (λ (a : Answer). startedWith a (freshState (readOf sheet .set) (sharesFor sheet)) .state) answered
+  -- What is fixed for the sheet's tasks.
+  fixed : (i : ℕ) → i < tasksOf sheet .count → allocationAt (allocatedOf sheet .allocations) i ≡ allocationOf (tasksOf sheet) (sharesFor sheet) i
+  unfolding tasksOf sharesFor
+  fixed = allocated-at sheet answered
+
+  state-is : startState sheet ≡ freshState (tasksOf sheet) (allocatedOf sheet .allocations)
+  unfolding startState startOf tasksOf
+  state-is = ap (λ (a : Answer). startedWith a (freshState (readOf sheet .set) (allocatedOf sheet .allocations)) .state) answered
 
   pub state-sound : isSound (startState sheet) ≡ true
-  state-sound = rw state-is (fresh-sound (tasksOf sheet) lawful (sharesFor sheet) chosen-it)
+  state-sound = rw state-is (fresh-sound (tasksOf sheet) lawful (sharesFor sheet) chosen-it (allocatedOf sheet .allocations) fixed)
 
   pub state-model : modelOf (startState sheet) ≡ modelFor sheet
   unfolding modelFor
-  state-model = rw state-is (fresh-model (tasksOf sheet) lawful (sharesFor sheet) chosen-it)
+  state-model = rw state-is (fresh-model (tasksOf sheet) lawful (sharesFor sheet) chosen-it (allocatedOf sheet .allocations) fixed)
 
   sheet-planned : Planned (tasksOf sheet) (sharesFor sheet)
   sheet-planned = planned (tasksOf sheet) lawful (sharesFor sheet) chosen-it

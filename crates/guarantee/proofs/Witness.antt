@@ -1,7 +1,7 @@
 -- What S10.7, S10.9 and S10.10 ask can be met. The sheet is read and planned by computation; its model is run by computation, and the reports
 -- pass the test of true ones.
 use Prim.Native.Nat.{ℕ, zero, suc, _+_, _≤_, _<_}
-use mathlib.Core.Bool.{true, true≢false}
+use mathlib.Core.Bool.{true, true≢false, Bool, false≢true}
 use mathlib.Core.List.{List, [], _∷_, _++_}
 use mathlib.Core.Option.{Option, some}
 use mathlib.Core.Path.{_≡_, refl, sym, ap, ap₂, subst₂, _∙_}
@@ -28,15 +28,15 @@ use Rattle.shares.specs.Deadline.{virtualOf}
 use Rattle.nodes.specs.Sets.{has}
 use Rattle.nodes.proofs.Bits.{has-zero, has-power}
 use Rattle.allocation.specs.Choice.{lowOptions, pairsWithin, highOptions, optionsOf, fits, leastOf, fitting, chosen}
-use Rattle.allocation.specs.Allocation.{chosenFor, shareAnswer, choiceAnswer, sharesOf}
+use Rattle.allocation.specs.Allocation.{chosenFor, shareAnswer, choiceAnswer, sharesOf, allocationAnswer}
 use Rattle.model.specs.Budget.{sumBelow, Chain, alone, link, along}
 use Rattle.model.specs.Row.{isSubset, allEnded, predecessorsOf, precedes, isReady, ready, running, runningSet, releasedRow, joined, tickedRow, isLate, survives, switchedRow}
 use Rattle.model.specs.Step.{Model, Call, release, tick, step, rowAt, granted, runningAt, unknownTask, lowInCritical, tooEarly, wrongCount, notRunning, releaseRefusal, tickRefusal, released, ticked}
 use Rattle.model.specs.Run.{after, isAccepted, ticksIn, releasesIn, isRunning, isDue}
 use Rattle.model.specs.Plan.{freshRow, fresh}
 use Rattle.model.specs.Claim.{begun, KeepsBudget, NominalJob, Ended, StaysTypical, Deadline, EndInTime, Nominal}
-use Rattle.model.specs.Beside.{TypicalUntil, LowDeadline}
-use Rattle.start.specs.Start.{startAnswer, startOf}
+use Rattle.model.specs.Beside.{LowDeadline, TypicalUntil}
+use Rattle.start.specs.Start.{startOf}
 use Rattle.guarantee.specs.Runs.{allModelSaid}
 use Rattle.guarantee.specs.Guarantee.{tasksOf, sharesFor, modelFor, Guarantee, BesideGuarantee}
 use Rattle.guarantee.specs.Witness.{twoTasks, highTask, longLengths, overrun, overrunSaid, shortLengths, usual, lowTask, lowAlone, InTimeAsked, NominalAsked, DeadlineMet, NominalMet, LowMet}
@@ -84,9 +84,9 @@ unfolding choiceAnswer shareAnswer chosenFor taskIn firstOver range isLow ceilDi
 both-chosen = (refl, refl)
 
 pub started : startOf twoTasks .answer ≡ Accepted
-unfolding startOf startAnswer
+unfolding startOf allocationAnswer
 started =
-    answer-returned (startAnswer twoTasks) _
+    answer-returned (allocationAnswer twoTasks) _
     ∙ ap (λ (r : Reading). r .answer orElse choiceAnswer (r .set)) read-both
     ∙ both-chosen .0
 

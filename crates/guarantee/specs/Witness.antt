@@ -1,7 +1,7 @@
 -- What the deadline (S10.7), the nominal clause (S10.9) and the clause of low jobs (S10.10) ask can be met: one sheet, and a run for
 -- each of the three clauses.
 use Prim.Native.Nat.{ℕ}
-use mathlib.Core.Bool.{true}
+use mathlib.Core.Bool.{true, Bool}
 use mathlib.Core.List.{List, [], _∷_, _++_}
 use mathlib.Core.Path.{_≡_}
 use lib.ListN.{getD}

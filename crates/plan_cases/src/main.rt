@@ -124,7 +124,7 @@ const THREE: [u8; 62] = [
 ];
 
 // Prints a line of these numbers.
-fn print_line(numbers: &[u16]) {
+fn print_line(numbers: &[u32]) {
     let text = with_line(empty(), numbers);
     let len = text.len;
     let bytes = text.bytes;
@@ -132,17 +132,17 @@ fn print_line(numbers: &[u16]) {
 }
 
 // A byte as a number of a line.
-fn wide(x: u8) -> u16
+fn wide(x: u8) -> u32
     ensures { λ r. ⌜ r ≡ x ⌝ }
 {
-    x as u16
+    x as u32
 }
 
 // S3.1: 0 and 255, for an accepted plan of two tasks; then the plan's twelve bytes.
-fn accepted(plan: [u8; 18]) -> [u16; 14]
+fn accepted(plan: [u8; 18]) -> [u32; 14]
     ensures { λ r. ⌜ r ≡ 0 ∷ noTask ∷ take 12 plan ⌝ }
 {
-    let mut numbers = [0u16; 14];
+    let mut numbers = [0u32; 14];
     numbers[1] = wide(NO_TASK);
     let mut i: usize = 0;
     while i < 12 {

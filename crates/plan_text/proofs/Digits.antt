@@ -1,13 +1,15 @@
--- A number's digits: the last one behind those of a tenth. By that step they say the number, and the first is not `0`.
-use Prim.Native.Nat.{ℕ, zero, suc, _+_, _-_, _*_, _/_, _%_, _≤_, _<_}
+-- A number's digits: the last one behind those of a tenth. By that step they say the number, the first is not `0`, and they are
+-- what the kit writes.
+use Prim.Native.Nat.{ℕ, zero, suc, _+_, _-_, _*_, _/_, _%_, _^_, _≤_, _<_}
 use mathlib.Core.Bool.{Bool, true, false, cond, and-eq-true-iff}
 use mathlib.Core.List.{List, [], _∷_, _++_}
 use mathlib.Core.Path.{_≡_, refl, ap, _∙_}
-use native.Mathlib.Nat.{div-lt-self}
+use native.Mathlib.Nat.{div-lt-self, pow-suc, one-le-pow}
 use native.Mathlib.Omega.{arith}
 use lib.Dec.{ltb}
 use lib.ListN.{getD}
 use borrow.Author.Tests.{ltb-true, ltb-false, lt-ltb, le-ltb, le-leb}
+use Rattle.io.specs.Digits.{digits, Fewest}
 use Rattle.basics.specs.Lists.{all}
 use Rattle.plan_text.specs.Decimal.{digit, digitsWithin, decimal, isDigit, valueAfter, IsDecimal}
 
@@ -93,3 +95,19 @@ reads-within (suc k) n h = go (ltb n 10) refl (reads-within k (n / 10))
 pub decimal-reads : (n : ℕ) → IsDecimal n (decimal n)
 unfolding decimal
 decimal-reads n = reads-within n n (omega arith)
+
+-- As few digits as hold a number, as the kit writes them, are its digits.
+pub fewest-digits : (k n : ℕ) → Fewest 10 1 n k → digits 10 k n ≡ decimal n
+fewest-digits zero n (least, small, full) = absurd (omega arith)
+fewest-digits (suc zero) n (least, small, full) =
+    let same : n % 10 ≡ n = omega arith in
+    rw (same, one-digit n (omega arith), lt-ltb n 10 (omega arith))
+fewest-digits (suc (suc k)) n (least, small, full) =
+    let below : suc (suc k) - 1 ≡ suc k = omega arith in
+    let below′ : suc k - 1 ≡ k = omega arith in
+    let more : 10 ^ suc k ≤ n = rw below at (full (omega arith)) in
+    let less = pow-suc 10 (suc k) in
+    let tens = pow-suc 10 k in
+    let some = one-le-pow k 10 (omega arith) in
+    rw (lt-ltb (n % 10) 10 (omega arith), more-digits n (omega arith))
+    (ap (λ (l : List ℕ). l ++ digit (n % 10) ∷ []) (fewest-digits (suc k) (n / 10) (omega arith, omega arith, λ h. rw below′ (omega arith))))

@@ -12,7 +12,7 @@ use borrow.Author.Tests.{lt-ltb, le-ltb}
 use Rattle.plan_text.specs.declared.text.Text.{Text}
 use Rattle.plan_text.specs.Decimal.{decimal}
 use Rattle.plan_text.specs.Lines.{mark, line}
-use Rattle.plan_text.specs.Growth.{room, holding, Holds, withByte, withBytes}
+use Rattle.plan_text.specs.means.Growth.{room, holding, Holds, withByte, withBytes}
 
 -- Bytes added in two steps.
 pub with-both : (t : Text) (xs ys : List ℕ) → withBytes (withBytes t xs) ys ≡ withBytes t (xs ++ ys)

@@ -4,14 +4,15 @@ use mathlib.Core.List.{List, [], _∷_}
 use native.Mathlib.Decide.{decLt}
 use native.Mathlib.Nat.{div-lt-iff-lt-mul, pow-suc}
 use native.Mathlib.Omega.{arith}
-use lib.ListN.{length, getD, length-append}
-use Rattle.basics.specs.Numbers.{byteAt, u16At}
+use lib.ListN.{length, length-append}
 use Rattle.basics.specs.Lists.{range, each}
 use Rattle.plan_text.specs.Decimal.{digit, decimal}
 use Rattle.plan_text.specs.Lines.{mark, line}
-use Rattle.plan_text.specs.Printed.{refusalLine}
-use Rattle.plan_text.specs.Fields.{fieldsAt, linesAt}
-use Rattle.plan_text.specs.Growth.{room}
+use Rattle.allocation.specs.declared.allocate.Allocation.{Allocation}
+use Rattle.allocation.specs.Allocation.{allocationAt}
+use Rattle.allocation.specs.means.Bounds.{AllBounded}
+use Rattle.plan_text.specs.Printed.{fieldsOf, planLines, refusalLine}
+use Rattle.plan_text.specs.means.Growth.{room}
 use Rattle.plan_text.proofs.Digits.{one-digit, more-digits}
 
 -- A number below 10 ^ (k + 1) has at most k + 1 digits.
@@ -52,29 +53,23 @@ each-length f b first (suc n) h =
     let rest = each-length f b (suc first) n (λ i l. h i (omega arith)) in
     rw (length-append (f first) (each (range (suc first) n) f)) (omega arith)
 
--- The lines of a plan of bytes.
-module _ (plan : List ℕ) (bytes : (k : ℕ) → getD plan k 0 < 256) (n : ℕ) (few : n ≤ 16) where
-  small : (k : ℕ) → byteAt plan k < 10 ^ 3
-  unfolding byteAt
-  small k = let byte = bytes k in omega arith
-
-  larger : (k : ℕ) → u16At plan k < 10 ^ 5
-  unfolding u16At byteAt
-  larger k =
-      let low = bytes k in
-      let high = bytes (k + 1) in
-      omega arith
-
-  fields-length : (i : ℕ) → i < n → length (line (fieldsAt plan n i)) ≤ 26
-  unfolding fieldsAt
+-- The lines of tasks whose blocks and V are small.
+module _ (n : ℕ) (allocations : List Allocation) (small : AllBounded allocations n) where
+  fields-length : (i : ℕ) → i < n → length (line (fieldsOf i (allocationAt allocations i))) ≤ 26
+  unfolding fieldsOf
   fields-length i h =
-      six-length i _ _ _ _ _ (omega arith) (small (2 * i)) (small (2 * i + 1)) (small (2 * n + 2 * i))
-      (small (2 * n + 2 * i + 1)) (larger (4 * n + 2 * i))
+      let few = small .few in
+      let here = small .each i h in
+      let typical = here .typical in
+      let critical = here .critical in
+      let word = here .two-bytes in
+      six-length i _ _ _ _ _ (omega arith) (omega arith) (omega arith) (omega arith) (omega arith) (omega arith)
 
-  pub lines-length : length (linesAt plan n) ≤ room
-  unfolding linesAt
+  pub lines-length : length (planLines n allocations) ≤ room
+  unfolding planLines
   lines-length =
-      let all = each-length (λ i. line (fieldsAt plan n i)) 26 0 n (λ i h. fields-length i (omega arith)) in
+      let few = small .few in
+      let all = each-length (λ i. line (fieldsOf i (allocationAt allocations i))) 26 0 n (λ i h. fields-length i (omega arith)) in
       omega arith
 
 -- The line of a refusal whose number and task are bytes.

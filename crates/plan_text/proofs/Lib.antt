@@ -3,7 +3,7 @@ pub mod Digits
 pub mod Growths
 pub mod Copies
 pub mod Lengths
-pub mod Places
+pub mod Tasks
 pub mod Answers
 pub mod Worked
 pub mod Sheets

@@ -1,7 +1,6 @@
--- In reading order, S6: numbers in decimal, lines of numbers, what is printed for a sheet; then what the bytes of a plan say of
--- a task, and a text that grows in an array.
+-- What a reader must believe, in reading order, S6: numbers in decimal, lines of numbers, what is printed for a sheet. Then, in
+-- `means`, what only proofs and inner functions need.
 pub mod Decimal
 pub mod Lines
 pub mod Printed
-pub mod Fields
-pub mod Growth
+pub mod means

@@ -1,5 +1,4 @@
 // S6: the plan of a sheet as printed lines.
-mod fields;
 pub mod line;
 pub mod printed;
 pub mod text;

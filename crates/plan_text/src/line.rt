@@ -1,6 +1,6 @@
 // S6.3: lines of numbers.
 ghost use mathlib.Core.Path.{_≡_};
-ghost use Rattle.plan_text.specs.Growth.{withBytes};
+ghost use Rattle.plan_text.specs.means.Growth.{withBytes};
 ghost use Rattle.plan_text.specs.Lines.{line, mark};
 use crate::text::Text;
 use crate::text::with_byte;
@@ -18,7 +18,7 @@ fn mark_before(left: usize) -> u8
 }
 
 // The text with a line of these numbers.
-pub fn with_line(t: Text, numbers: &[u16]) -> Text
+pub fn with_line(t: Text, numbers: &[u32]) -> Text
     ensures { λ r. ⌜ r ≡ withBytes t (line (now (numbers .entry))) ⌝ }
 {
     let mut text = t;

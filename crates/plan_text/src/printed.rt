@@ -3,35 +3,67 @@ ghost use mathlib.Core.Path.{_≡_};
 ghost use mathlib.Core.List.{_++_};
 ghost use Prim.Native.Nat.{_≤_};
 ghost use lib.ListN.{length, take, drop};
-ghost use Rattle.plan_text.specs.Growth.{room, Holds};
-ghost use Rattle.plan_text.specs.Printed.{refusalLine, textOf, writtenTo};
-use crate::fields::lines_at;
+ghost use Rattle.plan_text.specs.means.Growth.{room, Holds};
+ghost use Rattle.allocation.specs.means.Bounds.{AllBounded};
+ghost use Rattle.plan_text.specs.Printed.{fieldsOf, planLines, refusalLine, textOf, writtenTo};
 use crate::line::with_line;
 use crate::text::Text;
 use crate::text::empty;
 use crate::text::with_bytes;
-use planner::plan::plan;
+use allocation::allocate::Allocation;
+use allocation::allocate::allocate;
 use sheet::answer::Answer;
+
+// S6.1: task i, its typical offset and length, its critical offset and length, and V.
+fn fields_of(i: u8, a: Allocation) -> [u32; 6]
+    ensures { λ r. ⌜ r ≡ fieldsOf i a ⌝ }
+{
+    [
+        i as u32,
+        a.offset.typical as u32,
+        a.share.typical as u32,
+        a.offset.critical as u32,
+        a.share.critical as u32,
+        a.virtual_deadline,
+    ]
+}
+
+// S6.1: a line for each of n tasks.
+fn plan_lines(n: u8, allocations: [Allocation; 16]) -> Text
+    requires { ⌜ AllBounded allocations n ⌝ }
+    ensures { λ r. ⌜ Holds r (planLines n allocations) ⌝ }
+{
+    let mut text = empty();
+    let mut i: u8 = 0;
+    while i < n {
+        let a = allocations[i as usize];
+        let fields = fields_of(i, a);
+        text = with_line(text, &fields);
+        i += 1;
+    }
+    text
+}
 
 // S6.2: the text of a refusal.
 fn refusal_line(number: u8, task: u8) -> Text
     ensures { λ r. ⌜ Holds r (refusalLine number task) ⌝ }
 {
     let word = [b'r', b'e', b'f', b'u', b's', b'e', b'd', b' '];
-    let fields = [number as u16, task as u16];
+    let fields = [number as u32, task as u32];
     with_line(with_bytes(empty(), &word), &fields)
 }
 
-// S6.1, S6.2: the text of a sheet. The buffer has room for the plan of sixteen tasks, so that refusal 9 has no cause.
+// S6.1, S6.2: the text of a sheet.
 fn text_of(sheet: &[u8]) -> Text
     ensures { λ r. ⌜ Holds r (textOf (now (sheet .entry))) ⌝ }
 {
-    let mut buffer = [0u8; 96];
-    let answer = plan(sheet, &mut buffer);
+    let allocated = allocate(sheet);
+    let answer = allocated.answer;
     if let Answer::Refused(number, task) = answer {
         return refusal_line(number, task);
     }
-    lines_at(&buffer, sheet[1] as usize)
+    let allocations = allocated.allocations;
+    plan_lines(allocated.count, allocations)
 }
 
 // Copies the first len bytes to the front of out.

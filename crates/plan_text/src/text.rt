@@ -2,7 +2,7 @@
 ghost use mathlib.Core.Path.{_≡_};
 ghost use mathlib.Core.List.{[]};
 ghost use Rattle.plan_text.specs.Decimal.{decimal};
-ghost use Rattle.plan_text.specs.Growth.{holding, withByte, withBytes};
+ghost use Rattle.plan_text.specs.means.Growth.{holding, withByte, withBytes};
 
 // Sixteen lines of 26 bytes.
 const ROOM: usize = 416;
@@ -51,11 +51,10 @@ pub fn with_bytes(t: Text, bytes: &[u8]) -> Text
 }
 
 // S6.3: the text with the digits of n behind its own bytes.
-pub fn with_number(t: Text, n: u16) -> Text
+pub fn with_number(t: Text, n: u32) -> Text
     ensures { λ r. ⌜ r ≡ withBytes t (decimal n) ⌝ }
 {
-    if n < 10 {
-        return with_byte(t, 48 + (n as u8));
-    }
-    with_byte(with_number(t, n / 10), 48 + (n % 10) as u8)
+    let mut digits = [0u8; 20];
+    let count = io::decimal(n as u64, &mut digits);
+    with_bytes(t, &digits[..count])
 }

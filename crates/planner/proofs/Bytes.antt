@@ -1,12 +1,12 @@
--- Bytes laid over a buffer: what is laid behind what was laid is one piece, pair after pair.
+-- Bytes laid over a buffer: what is laid behind what was laid is one piece; and what each task gives, one task after the other.
 use Prim.Native.Nat.{ℕ, zero, suc, _+_, _*_, _≤_}
 use mathlib.Core.Path.{_≡_, refl, sym, ap, _∙_}
-use mathlib.Core.List.{List, [], _∷_, _++_, append-assoc, append-nil}
+use mathlib.Core.List.{List, [], _++_, append-assoc, append-nil}
 use native.Mathlib.Nat.{add-zero}
 use native.Mathlib.Numerals.{add-one}
 use native.Mathlib.Omega.{arith}
-use lib.ListN.{length, take, drop, set, length-append, length-drop, take-append-drop}
-use lib.Seq.{sets-eq, take-at, drop-append-add, drop-drop, length-take-le}
+use lib.ListN.{length, take, drop, length-append, length-drop, take-append-drop}
+use lib.Seq.{take-at, drop-append-add, drop-drop, length-take-le}
 use Rattle.basics.specs.Lists.{range, each}
 use Rattle.planner.specs.Writing.{laid}
 
@@ -18,10 +18,6 @@ pub laid-length : (at : ℕ) (bytes old : List ℕ) → at + length bytes ≤ le
 unfolding laid
 laid-length at bytes old fit =
     simp (length-append, length-drop) (omega (arith, length-take-le at old (omega arith)))
-
-pub laid-pair : (at x y : ℕ) (old : List ℕ) → at + 2 ≤ length old → set (set old at x) (at + 1) y ≡ laid at (x ∷ y ∷ []) old
-unfolding laid
-laid-pair at x y old fit = rw (add-one at) (sets-eq (x ∷ y ∷ []) old at fit)
 
 pub laid-more : (at : ℕ) (bytes more old : List ℕ) → at + length bytes ≤ length old →
     laid (at + length bytes) more (laid at bytes old) ≡ laid at (bytes ++ more) old
@@ -40,7 +36,7 @@ laid-more at bytes more old fit =
     ∙ ap (λ (x : ℕ). drop x old) (sym all))
     ∙ ap (λ (l : List ℕ). l ++ drop (at + length (bytes ++ more)) old) (append-assoc (take at old) bytes more)
 
--- The bytes of one number more.
+-- The bytes of one task more.
 module _ (f : ℕ → List ℕ) where
   each-snoc : (first count : ℕ) → each (range first (suc count)) f ≡ each (range first count) f ++ f (first + count)
   unfolding range
@@ -64,15 +60,3 @@ module _ (f : ℕ → List ℕ) where
 
   pub pairs-length : ((i : ℕ) → length (f i) ≡ 2) → (count : ℕ) → length (each (range 0 count) f) ≡ 2 * count
   pairs-length two = each-length two 0
-
-  -- A pair laid behind i pairs.
-  module _ (two : (i : ℕ) → length (f i) ≡ 2) (at i : ℕ) (old buffer : List ℕ) (fit : at + 2 * i ≤ length old)
-      (done : buffer ≡ laid at (each (range 0 i) f) old) where
-    so-far : at + length (each (range 0 i) f) ≡ at + 2 * i
-    so-far = ap (λ (x : ℕ). at + x) (pairs-length two i)
-
-    pub pairs-more : laid (at + 2 * i) (f i) buffer ≡ laid at (each (range 0 (i + 1)) f) old
-    pairs-more =
-        rw (done, ← so-far)
-        (laid-more at (each (range 0 i) f) (f i) old (omega (arith, so-far))
-        ∙ ap (λ (l : List ℕ). laid at l old) (sym (each-next i)))

@@ -1,41 +1,59 @@
--- The parts of a plan, task after task: blocks with their offsets, and virtual deadlines.
-use Prim.Native.Nat.{ℕ, _+_, _*_, _≤_}
-use mathlib.Core.Path.{_≡_, refl, sym}
-use mathlib.Core.Bool.{Bool, false}
-use mathlib.Core.List.{List, [], _∷_}
-use lib.ListN.{length}
-use Rattle.sheet.specs.declared.task.TaskSet.{TaskSet}
-use Rattle.sheet.specs.Format.{taskIn}
-use Rattle.shares.specs.declared.share.Share.{Share}
-use Rattle.shares.specs.Deadline.{virtualOf}
-use Rattle.basics.specs.Lists.{range}
-use Rattle.allocation.specs.Blocks.{offsetIn, lengthIn}
-use Rattle.planner.specs.Plan.{blockBytes, virtualBytes, wordBytes}
-use Rattle.planner.specs.Writing.{laid}
-use Rattle.planner.proofs.Bytes.{laid-none, pairs-more, pairs-length}
+-- The parts of a plan, task after task: a pair of bytes set behind those of the tasks before it.
+use Prim.Native.Nat.{ℕ, suc, _+_, _*_}
+use mathlib.Core.Path.{_≡_, refl, ap, _∙_, sym}
+use mathlib.Core.Bool.{Bool}
+use mathlib.Core.List.{List, [], _∷_, _++_}
+use native.Mathlib.Nat.{add-zero}
+use native.Mathlib.Omega.{arith}
+use lib.ListN.{length, set}
+use lib.Seq.{sets}
+use Rattle.basics.specs.Lists.{range, each}
+use Rattle.allocation.specs.declared.allocate.Allocation.{Allocation}
+use Rattle.allocation.specs.Allocation.{allocationAt}
+use Rattle.planner.specs.Plan.{blockOf, blockBytes, wordBytes, virtualBytes}
+use Rattle.planner.proofs.Bytes.{each-next, pairs-length}
 
-module _ (mode : Bool) (shares : List Share) (at : ℕ) (old : List ℕ) where
-  pub blocks-none : old ≡ laid at (blockBytes mode shares 0) old
+-- Bytes set in two steps.
+pub sets-more : (old : List ℕ) (at : ℕ) (bytes more : List ℕ) → sets (sets old at bytes) (at + length bytes) more ≡ sets old at (bytes ++ more)
+sets-more old at [] more = rw (add-zero at)
+sets-more old at (b ∷ bytes) more =
+    let e : at + suc (length bytes) ≡ suc at + length bytes = omega arith in
+    rw e (sets-more (set old at b) (suc at) bytes more)
+
+-- A pair behind i pairs.
+module _ (f : ℕ → List ℕ) (two : (i : ℕ) → length (f i) ≡ 2) (at : ℕ) (old : List ℕ) where
+  pairs-more : (i : ℕ) (buffer : List ℕ) → buffer ≡ sets old at (each (range 0 i) f) →
+      sets buffer (at + 2 * i) (f i) ≡ sets old at (each (range 0 (i + 1)) f)
+  pairs-more i buffer done =
+      let so-far : at + length (each (range 0 i) f) ≡ at + 2 * i = ap (λ (x : ℕ). at + x) (pairs-length f two i) in
+      rw (done, ← so-far)
+      (sets-more old at (each (range 0 i) f) (f i) ∙ ap (λ (l : List ℕ). sets old at l) (sym (each-next f i)))
+
+module _ (allocations : List Allocation) (at : ℕ) (old : List ℕ) where
+  pub blocks-none : (mode : Bool) → old ≡ sets old at (blockBytes mode 0 allocations)
   unfolding blockBytes range
-  blocks-none = sym (laid-none at old)
+  blocks-none mode = refl
 
-  module _ (i : ℕ) (buffer : List ℕ) (fit : at + 2 * i ≤ length old) (done : buffer ≡ laid at (blockBytes mode shares i) old) where
-    pub blocks-more : laid (at + 2 * i) (offsetIn mode shares i ∷ lengthIn mode shares i ∷ []) buffer ≡ laid at (blockBytes mode shares (i + 1)) old
-    unfolding blockBytes
-    blocks-more = pairs-more (λ j. offsetIn mode shares j ∷ lengthIn mode shares j ∷ []) (λ j. refl) at i old buffer fit done
+  pub blocks-more : (mode : Bool) (i : ℕ) (buffer : List ℕ) → buffer ≡ sets old at (blockBytes mode i allocations) →
+      sets buffer (at + 2 * i) (blockOf mode (allocationAt allocations i)) ≡ sets old at (blockBytes mode (i + 1) allocations)
+  unfolding blockBytes
+  blocks-more mode i buffer done = pairs-more (λ j. blockOf mode (allocationAt allocations j)) (λ j. refl) at old i buffer done
 
-module _ (set : TaskSet) (shares : List Share) (at : ℕ) (old : List ℕ) where
-  pub virtuals-none : old ≡ laid at (virtualBytes set shares 0) old
+  pub virtuals-none : old ≡ sets old at (virtualBytes 0 allocations)
   unfolding virtualBytes range
-  virtuals-none = sym (laid-none at old)
+  virtuals-none = refl
 
-  module _ (i : ℕ) (buffer : List ℕ) (fit : at + 2 * i ≤ length old) (done : buffer ≡ laid at (virtualBytes set shares i) old) where
-    pub virtuals-more : laid (at + 2 * i) (wordBytes (virtualOf (taskIn set i) (lengthIn false shares i))) buffer ≡ laid at (virtualBytes set shares (i + 1)) old
-    unfolding virtualBytes
-    virtuals-more =
-        pairs-more (λ j. wordBytes (virtualOf (taskIn set j) (lengthIn false shares j))) (λ j. refl) at i old buffer fit done
+  pub virtuals-more : (i : ℕ) (buffer : List ℕ) → buffer ≡ sets old at (virtualBytes i allocations) →
+      sets buffer (at + 2 * i) (wordBytes (allocationAt allocations i .«virtual_deadline»)) ≡ sets old at (virtualBytes (i + 1) allocations)
+  unfolding virtualBytes
+  virtuals-more i buffer done =
+      pairs-more (λ j. wordBytes (allocationAt allocations j .«virtual_deadline»)) (λ j. refl) at old i buffer done
 
 -- A part has two bytes for each task.
-pub blocks-length : (mode : Bool) (shares : List Share) (n : ℕ) → length (blockBytes mode shares n) ≡ 2 * n
+pub blocks-length : (mode : Bool) (n : ℕ) (allocations : List Allocation) → length (blockBytes mode n allocations) ≡ 2 * n
 unfolding blockBytes
-blocks-length mode shares n = pairs-length (λ j. offsetIn mode shares j ∷ lengthIn mode shares j ∷ []) (λ j. refl) n
+blocks-length mode n allocations = pairs-length (λ j. blockOf mode (allocationAt allocations j)) (λ j. refl) n
+
+pub virtuals-length : (n : ℕ) (allocations : List Allocation) → length (virtualBytes n allocations) ≡ 2 * n
+unfolding virtualBytes
+virtuals-length n allocations = pairs-length (λ j. wordBytes (allocationAt allocations j .«virtual_deadline»)) (λ j. refl) n

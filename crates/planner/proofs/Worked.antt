@@ -17,8 +17,11 @@ use Rattle.shares.specs.Deadline.{virtualOf}
 use Rattle.shares.specs.Low.{ceilDiv, lowShare, hasLowShare}
 use Rattle.shares.specs.Test.{excess, demand, passes, virtualDeadline}
 use Rattle.allocation.specs.Choice.{lowOptions, pairsWithin, highOptions, optionsOf, fits, leastOf, fitting, chosen}
-use Rattle.allocation.specs.Blocks.{offsetIn, lengthIn}
-use Rattle.allocation.specs.Allocation.{chosenFor, shareAnswer, choiceAnswer, sharesOf}
+use Rattle.shares.specs.Totals.{shareAt}
+use Rattle.sheet.specs.declared.task.TaskSet.{TaskSet}
+use Rattle.allocation.specs.Blocks.{offsetIn}
+use Rattle.allocation.specs.Allocation.{chosenFor, shareAnswer, choiceAnswer, sharesOf, allocationOf, allocationsOf, allocationAt, allocationAnswer, allocatedOf}
+use Rattle.allocation.specs.declared.allocate.Allocation.{Allocation}
 use Rattle.allocation.proofs.Worked.{pair, on, ab}
 use Rattle.planner.specs.Plan.{blockBytes, wordBytes, virtualBytes, planBytes, planAnswer, planned}
 
@@ -45,10 +48,18 @@ planAB = typical ++ (critical ++ virtuals)
     virtuals : List ℕ
     virtuals = 9 ∷ 0 ∷ 6 ∷ 0 ∷ []
 
+-- What is fixed for three tasks with the shares (1, 3), (2, 2) and (2, 0).
+abbrev three : List Allocation
+three = allocationsOf (record { processors = 64; count = 3; tasks = [] }) (pair 1 3 ∷ pair 2 2 ∷ pair 2 0 ∷ [])
+
+-- The plan of a task set, with the shares that are chosen for it.
+abbrev planFor : TaskSet → List ℕ
+planFor set = planBytes (set .count) (allocationsOf set (sharesOf (chosenFor set)))
+
 pub record Worked : Type 0 where
   -- S5.4: the blocks of three tasks, the last of which has none in critical mode.
-  pub typical-blocks : blockBytes false (pair 1 3 ∷ pair 2 2 ∷ pair 2 0 ∷ []) 3 ≡ 0 ∷ 1 ∷ 1 ∷ 2 ∷ 3 ∷ 2 ∷ []
-  pub critical-blocks : blockBytes true (pair 1 3 ∷ pair 2 2 ∷ pair 2 0 ∷ []) 3 ≡ 0 ∷ 3 ∷ 3 ∷ 2 ∷ 5 ∷ 0 ∷ []
+  pub typical-blocks : blockBytes false 3 three ≡ 0 ∷ 1 ∷ 1 ∷ 2 ∷ 3 ∷ 2 ∷ []
+  pub critical-blocks : blockBytes true 3 three ≡ 0 ∷ 3 ∷ 3 ∷ 2 ∷ 5 ∷ 0 ∷ []
   -- S1.1: a number of two bytes has its low byte first.
   pub word : wordBytes 600 ≡ 88 ∷ 2 ∷ []
   pub word-low : wordBytes 255 ≡ 255 ∷ 0 ∷ []
@@ -63,15 +74,15 @@ pub record Worked : Type 0 where
       ≡ 0 ∷ 1 ∷ 1 ∷ 2 ∷ 0 ∷ 2 ∷ 2 ∷ 0 ∷ 88 ∷ 2 ∷ 0 ∷ 0 ∷ 7 ∷ []
   pub left-alone : planned (sheetOn 4) (replicate 11 7) ≡ replicate 11 7
   -- S11.11: A and B on 8 and on 6 processors.
-  pub on-eight : planBytes (on 8 ab) (sharesOf (chosenFor (on 8 ab))) ≡ planAB
-  pub on-six : planBytes (on 6 ab) (sharesOf (chosenFor (on 6 ab))) ≡ planAB
+  pub on-eight : planFor (on 8 ab) ≡ planAB
+  pub on-six : planFor (on 6 ab) ≡ planAB
   -- S11.14: the plan of a sheet of 62 bytes, and refusal 9 for a buffer that is a byte short.
   pub sheet-plan : planned (sheetABE 8) (replicate 18 255)
       ≡ 0 ∷ 1 ∷ 1 ∷ 2 ∷ 3 ∷ 5 ∷ 0 ∷ 2 ∷ 2 ∷ 6 ∷ 8 ∷ 0 ∷ 9 ∷ 0 ∷ 7 ∷ 0 ∷ 0 ∷ 0 ∷ []
   pub sheet-room : planAnswer (sheetABE 8) 17 ≡ Refused 9 255
 
 pub worked : Worked
-unfolding byteAt u16At u32At processorsOf countOf offsetOf lengthOf startOf cellsFrom levelAt nodesAt figuresAt masksAt taskAt zeroTask tasksBelow taskSetOf taskIn levelLawful shapeLawful inRange inOrder lowLawful figuresLawful maskLawful allBelow masksLawful isHeavy taskAnswer firstOver headerLawful headerAnswer placeAnswer endAnswer shapeAnswer recordAnswer answerOf readOf virtualOf isLow ceilDiv lowShare hasLowShare excess demand passes virtualDeadline range lowOptions pairsWithin highOptions optionsOf fits leastOf fitting chosen offsetIn lengthIn chosenFor shareAnswer choiceAnswer blockBytes virtualBytes planBytes planAnswer planned isHigh figureLimit bytesBeforeMasks
+unfolding byteAt u16At u32At processorsOf countOf offsetOf lengthOf startOf cellsFrom levelAt nodesAt figuresAt masksAt taskAt zeroTask tasksBelow taskSetOf taskIn levelLawful shapeLawful inRange inOrder lowLawful figuresLawful maskLawful allBelow masksLawful isHeavy taskAnswer firstOver headerLawful headerAnswer placeAnswer endAnswer shapeAnswer recordAnswer answerOf readOf virtualOf isLow ceilDiv lowShare hasLowShare excess demand passes virtualDeadline range lowOptions pairsWithin highOptions optionsOf fits leastOf fitting chosen offsetIn chosenFor shareAnswer choiceAnswer shareAt allocationOf allocationsOf allocationAt allocationAnswer allocatedOf blockBytes virtualBytes planBytes planAnswer planned isHigh figureLimit bytesBeforeMasks
 worked =
     record {
       typical-blocks = refl;

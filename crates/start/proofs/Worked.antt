@@ -1,4 +1,4 @@
--- Worked facts by computation: the state of zeros, and Start on sheets that refusal 1 meets.
+-- Worked facts by computation: a fresh entry, the state of zeros, and Start on sheets that refusal 1 meets.
 use mathlib.Core.Bool.{false}
 use mathlib.Core.List.{[], _∷_}
 use mathlib.Core.Path.{_≡_, refl}
@@ -8,10 +8,34 @@ use Rattle.sheet.specs.Answers.{numberOf, taskOf}
 use Rattle.basics.specs.Numbers.{byteAt}
 use Rattle.sheet.specs.Format.{processorsOf, countOf}
 use Rattle.reader.specs.Reading.{headerLawful, headerAnswer, answerOf, readOf}
-use Rattle.entries.specs.Fresh.{zeroEntry}
-use Rattle.start.specs.Start.{zeroState, startAnswer, startOf}
+use Rattle.sheet.specs.declared.task.Task.{Task}
+use Rattle.shares.specs.declared.share.Share.{Share}
+use Rattle.allocation.specs.declared.allocate.Allocation.{Allocation}
+use Rattle.allocation.specs.Allocation.{allocationAnswer}
+use Rattle.start.specs.Fresh.{freshEntry, zeroEntry}
+use Rattle.start.specs.Start.{zeroState, startOf}
+
+-- Task A of S11 with two nodes.
+abbrev taskA : Task
+taskA =
+    record {
+      level = 1;
+      nodes = 2;
+      figures = record { deadline = 45; nominal = record { work = 9; span = 4 }; overload = record { work = 52; span = 20 } };
+      predecessors = 0 ∷ 1 ∷ [];
+    }
+
+-- What is fixed for it at the shares (1, 2): V is 9.
+abbrev fixedA : Allocation
+fixedA = record { share = record { typical = 1; critical = 2 }; offset = record { typical = 0; critical = 0 }; «virtual_deadline» = 9 }
 
 pub record Worked : Type 0 where
+  -- S8.1: a fresh entry has the sheet's shape, the V and the share that are fixed for it, the age D, and no job.
+  pub fresh : freshEntry taskA fixedA
+      ≡ record { level = 1; nodes = 2; predecessors = 0 ∷ 1 ∷ []; deadline = 45; «virtual_deadline» = 9; share = record { typical = 1; critical = 2 }; age = 45; job = record { ended = 0; alive = false } }
+  -- S7.3: the entries behind the tasks are zero.
+  pub zeros : zeroEntry
+      ≡ record { level = 0; nodes = 0; predecessors = replicate 32 0; deadline = 0; «virtual_deadline» = 0; share = record { typical = 0; critical = 0 }; age = 0; job = record { ended = 0; alive = false } }
   -- S8.1: the state of a refused Start, by its fields.
   pub zero-processors : zeroState .processors ≡ 0
   pub zero-count : zeroState .count ≡ 0
@@ -31,9 +55,11 @@ pub record Worked : Type 0 where
   pub empty-task : taskOf (startOf [] .answer) ≡ 255
 
 worked : Worked
-unfolding byteAt processorsOf countOf headerLawful headerAnswer answerOf readOf zeroState startAnswer startOf
+unfolding byteAt processorsOf countOf headerLawful headerAnswer answerOf readOf freshEntry zeroEntry allocationAnswer zeroState startOf
 worked =
     record {
+      fresh = refl;
+      zeros = refl;
       zero-processors = refl;
       zero-count = refl;
       zero-mode = refl;

@@ -1,16 +1,19 @@
 // S8.1: Start, from a sheet to a fresh state.
 ghost use mathlib.Core.Path.{_≡_};
+ghost use Prim.Native.Nat.{_≤_};
 ghost use Rattle.sheet.specs.Answers.{numberOf, taskOf, Says};
-ghost use Rattle.allocation.specs.Lawful.{LawfulSet};
-ghost use Rattle.start.specs.Start.{freshState, zeroState, startOf, SharesGiven};
+ghost use Rattle.start.specs.Start.{freshState, zeroState, startOf};
+use crate::fresh::fresh_entry;
+use crate::fresh::zero_entry;
+use allocation::allocate::Allocation;
+use allocation::allocate::allocations_of;
 use allocation::choice::choose;
 use dispatcher::state::State;
-use entries::fresh::fresh_entry;
-use entries::fresh::zero_entry;
 use reader::read;
-use shares::share::Share;
 use sheet::answer::Answer;
 use sheet::task::TaskSet;
+
+mod fresh;
 
 // Start's answer beside the state: a fresh one, or zeros where it was refused.
 pub struct Started {
@@ -29,10 +32,10 @@ fn zero_state() -> State
     }
 }
 
-// S8.1: the fresh state of a task set whose tasks have these shares.
-fn fresh_state(set: TaskSet, shares: [Share; 16]) -> State
-    requires { ⌜ SharesGiven set shares ⌝ }
-    ensures { λ r. ⌜ r ≡ freshState set shares ⌝ }
+// S8.1: the fresh state of a task set with what is fixed for its tasks.
+fn fresh_state(set: TaskSet, allocations: [Allocation; 16]) -> State
+    requires { ⌜ set .count ≤ 16 ⌝ }
+    ensures { λ r. ⌜ r ≡ freshState set allocations ⌝ }
 {
     let n = set.count;
     let mut state = zero_state();
@@ -41,14 +44,15 @@ fn fresh_state(set: TaskSet, shares: [Share; 16]) -> State
     let mut i: usize = 0;
     while i < n as usize {
         let task = set.tasks[i];
-        let share = shares[i];
-        state.entries[i] = fresh_entry(task, share);
+        let allocation = allocations[i];
+        state.entries[i] = fresh_entry(task, allocation);
         i += 1;
     }
     state
 }
 
-// S8.1: reads a sheet, chooses the shares and makes the state. Where the reading is refused, nothing is chosen.
+// S8.1: reads a sheet, chooses the shares, fixes what each task gets and makes the state. Where the reading is refused, nothing is
+// chosen.
 pub fn start(sheet: &[u8]) -> Started
     ensures whole { λ r. ⌜ r ≡ startOf (now (sheet .entry)) ⌝ }
     ensures says { λ r. ⌜ Says (r .answer) (numberOf (startOf (now (sheet .entry)) .answer)) (taskOf (startOf (now (sheet .entry)) .answer)) ⌝ }
@@ -71,8 +75,9 @@ pub fn start(sheet: &[u8]) -> Started
         };
     }
     let shares = chosen.shares;
+    let allocations = allocations_of(set, shares);
     Started {
-        state: fresh_state(set, shares),
+        state: fresh_state(set, allocations),
         answer: Answer::Accepted,
     }
 }

@@ -4,7 +4,7 @@ use mathlib.Core.Path.{sym, ap, _∙_}
 use lib.ListN.{length}
 use denote.Ref.{now}
 use lib.Seq.{length-take-le}
-use Rattle.plan_text.specs.Growth.{withBytes}
+use Rattle.plan_text.specs.means.Growth.{withBytes}
 use Rattle.plan_text.specs.Lines.{line}
 use Rattle.plan_text.proofs.Growths.{added-inside}
 use borrow.Author.Needs.{needs}

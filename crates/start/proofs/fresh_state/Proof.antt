@@ -6,7 +6,7 @@ use mathlib.Core.Bool.{false}
 use mathlib.Core.List.{List}
 use lib.ListN.{set}
 use Rattle.sheet.specs.Format.{taskIn}
-use Rattle.shares.specs.Totals.{shareAt}
+use Rattle.allocation.specs.Allocation.{allocationAt}
 use Rattle.entries.specs.declared.state.TaskState.{TaskState}
 use Rattle.dispatcher.specs.declared.state.State.{State}
 use mathlib.Core.Path.{_≡_, refl, ap, ap₂, _∙_}
@@ -17,15 +17,15 @@ use Rattle.start.proofs.fresh_state.Statement.{statement}
 use Rattle.start.proofs.fresh_state.Tie as tie
 
 abbrev Inv-loop : tie.InvT-loop
-Inv-loop set shares n state₀ i₀ state i =
+Inv-loop set allocations n state₀ i₀ state i =
     (i ≤ set .count)
     × (state .processors ≡ set .processors)
     × (state .count ≡ set .count)
     × (state .critical ≡ false)
-    × (state .entries ≡ entriesBelow set shares i)
+    × (state .entries ≡ entriesBelow set allocations i)
 
 abbrev μ-loop : tie.MeasureT-loop
-μ-loop set shares n state₀ i₀ state i = set .count - i
+μ-loop set allocations n state₀ i₀ state i = set .count - i
 
 zero-state-requires : tie.Need-zero-state-requires Inv-loop μ-loop
 zero-state-requires c κs = search needs
@@ -50,15 +50,14 @@ mul-task c = search needs
 element-copy-out-task : tie.Need-element-copy-out-task Inv-loop μ-loop
 element-copy-out-task c = search needs
 
-mul-share : tie.Need-mul-share Inv-loop μ-loop
-mul-share c = search needs
+mul-allocation : tie.Need-mul-allocation Inv-loop μ-loop
+mul-allocation c = search needs
 
-array-copy-out-share : tie.Need-array-copy-out-share Inv-loop μ-loop
-array-copy-out-share c = search needs
+array-copy-out-allocation : tie.Need-array-copy-out-allocation Inv-loop μ-loop
+array-copy-out-allocation c = search needs
 
 fresh-entry-requires : tie.Need-fresh-entry-requires Inv-loop μ-loop
-unfolding shareAt
-fresh-entry-requires c κs = c .before .before .before .before .before .pre .some-share (c .before .before .before .loop .i) (omega arith)
+fresh-entry-requires c κs = search needs
 
 mul-t12 : tie.Need-mul-t12 Inv-loop μ-loop
 mul-t12 c = search needs
@@ -73,11 +72,11 @@ loop-less : tie.Need-loop-less Inv-loop μ-loop
 loop-less c = search needs
 
 loop-again : tie.Need-loop-again Inv-loop μ-loop
-unfolding taskIn shareAt
+unfolding taskIn allocationAt
 loop-again c =
     let start = c .before .before .before .before .before .before in
     let loop = c .before .before .before .before .loop in
-    let few = start .pre .few in (
+    let few = start .pre in (
       omega arith,
       loop .inv .1,
       loop .inv .2,
@@ -108,8 +107,8 @@ fresh-state-spec =
     cast-loop
     mul-task
     element-copy-out-task
-    mul-share
-    array-copy-out-share
+    mul-allocation
+    array-copy-out-allocation
     fresh-entry-requires
     mul-t12
     element-set-from-state

@@ -7,13 +7,14 @@ use Rattle.sheet.proofs.Said.{with-said}
 use Rattle.reader.specs.Reading.{readOf}
 use Rattle.sheet.specs.declared.task.TaskSet.{TaskSet}
 use Rattle.allocation.specs.declared.choice.Chosen.{Chosen}
-use Rattle.allocation.specs.Allocation.{chosenFor, choiceAnswer, choiceOf, sharesOf, sixteen}
+use Rattle.allocation.specs.Allocation.{chosenFor, choiceAnswer, choiceOf, sharesOf, sixteen, allocationsOf, allocationAnswer, allocatedOf}
 use Rattle.allocation.specs.Lawful.{LawfulSet}
+use Rattle.allocation.proofs.Accepted.{accepted-lawful, accepted-choice}
+use Rattle.allocation.proofs.Allocations.{shares-fit, answer-read, answer-choice, line-fixed}
 use Rattle.start.specs.declared.Started.{Started}
-use Rattle.start.specs.Start.{freshState, startAnswer}
-use Rattle.allocation.proofs.Accepted.{accepted-lawful}
+use Rattle.start.specs.Start.{freshState}
 use Rattle.reader.specs.declared.Reading.{Reading}
-use Rattle.start.proofs.Starts.{fresh-same, shares-given, start-read, start-choice, start-refused, start-accepted}
+use Rattle.start.proofs.Starts.{start-refused, start-accepted}
 use borrow.Author.Needs.{needs}
 use Rattle.start.proofs.start.Statement.{statement}
 use Rattle.start.proofs.start.Tie as tie
@@ -37,7 +38,7 @@ returns c =
     let refused = c .before .enum-told2 .given .1 in
     with-said (λ (r : Started). r .answer)
     (start-refused s _ _ refused
-    (start-read s (sym (ap (λ (r : Reading). r .answer) reading) ∙ refused) ∙ sym refused)
+    (answer-read s (sym (ap (λ (r : Reading). r .answer) reading) ∙ refused) ∙ sym refused)
     (c .zero-state .ensures))
 
 -- Past the reader's answer the sheet is accepted, and its task set keeps every rule.
@@ -61,9 +62,9 @@ choice-shares : (c : tie.After-choose) → c .choose .result .shares ≡ sixteen
 unfolding choiceOf
 choice-shares c = ap (λ (r : Chosen). r .shares) (c .choose .ensures .0)
 
-start-choice-is : (c : tie.After-choose) → startAnswer (now (c .before .before .before .before .before .before .args .sheet)) ≡ c .choose .result .answer
-start-choice-is c =
-    start-choice _ (reading-accepted (c .before .before))
+answer-is : (c : tie.After-choose) → allocationAnswer (now (c .before .before .before .before .before .before .args .sheet)) ≡ c .choose .result .answer
+answer-is c =
+    answer-choice _ (reading-accepted (c .before .before))
     ∙ ap choiceAnswer (sym (reading-set (c .before .before)))
     ∙ sym (choice-answer c)
 
@@ -79,28 +80,37 @@ zero-state-requires-2 c κs = search needs
 returns-2 : tie.Need-returns-2
 returns-2 c =
     with-said (λ (r : Started). r .answer)
-    (start-refused _ _ _ (c .before .enum-told3 .given .1) (start-choice-is (c .before .before .before)) (c .zero-state2 .ensures))
+    (start-refused _ _ _ (c .before .enum-told3 .given .1) (answer-is (c .before .before .before)) (c .zero-state2 .ensures))
 
 enum-told-4 : tie.Need-enum-told-4
 enum-told-4 c = search needs
 
-fresh-state-requires : tie.Need-fresh-state-requires
-fresh-state-requires c κs =
+allocations-of-requires : tie.Need-allocations-of-requires
+allocations-of-requires c κs =
     let at = c .before .before .before in
+    let tasks = at .before .before .before .before .read .result .set in
     let accepted = sym (choice-answer at) ∙ c .before .enum-told4 .given .1 in
-    rw (choice-shares at) (shares-given (at .before .before .before .before .read .result .set) (reading-lawful (at .before .before)) accepted)
+    rw (choice-shares at) (shares-fit tasks (reading-lawful (at .before .before)) _ (accepted-choice tasks accepted))
+
+fresh-state-requires : tie.Need-fresh-state-requires
+fresh-state-requires c κs = reading-lawful (c .before .before .before .before .before .before) .few-tasks
 
 returns-3 : tie.Need-returns-3
 returns-3 c =
-    let at = c .before .before .before .before in
+    let at = c .before .before .before .before .before in
+    let s = now (at .before .before .before .before .before .before .args .sheet) in
     let tasks = at .before .before .before .before .read .result .set in
-    let accepted = c .before .before .enum-told4 .given .1 in
+    let set-is = reading-set (at .before .before) in
+    let accepted = answer-is at ∙ c .before .before .before .enum-told4 .given .1 in
     with-said (λ (r : Started). r .answer)
-    (start-accepted _ _ (start-choice-is at ∙ accepted)
+    (start-accepted _ _ accepted
     (c .fresh-state .ensures
-    ∙ ap (freshState tasks) (choice-shares at)
-    ∙ fresh-same tasks (reading-lawful (at .before .before)) (sym (choice-answer at) ∙ accepted)
-    ∙ ap (λ (t : TaskSet). freshState t (sharesOf (chosenFor t))) (reading-set (at .before .before))))
+    ∙ ap (freshState tasks)
+    (c .before .allocations-of .ensures
+    ∙ ap (allocationsOf tasks) (choice-shares at)
+    ∙ ap (λ (t : TaskSet). allocationsOf t (sixteen (sharesOf (chosenFor t)))) set-is
+    ∙ line-fixed _ accepted)
+    ∙ ap (λ (t : TaskSet). freshState t (allocatedOf s .allocations)) set-is))
 
 pub start-spec : {M : Type 1} → statement M
 start-spec =
@@ -116,5 +126,6 @@ start-spec =
     zero-state-requires-2
     returns-2
     enum-told-4
+    allocations-of-requires
     fresh-state-requires
     returns-3)

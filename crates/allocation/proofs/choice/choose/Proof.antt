@@ -10,7 +10,7 @@ use Rattle.sheet.proofs.Faults.{over-next, over-stop, over-end, over-all}
 use Rattle.sheet.proofs.Said.{with-said}
 use Rattle.allocation.specs.declared.choice.Chosen.{Chosen}
 use Rattle.allocation.specs.Allocation.{noShare}
-use Rattle.allocation.specs.Selection.{rowAnswer}
+use Rattle.allocation.specs.means.Selection.{rowAnswer}
 use Rattle.allocation.proofs.Sets.{choice-refused, choice-selected}
 use Rattle.allocation.proofs.choice.choose.Statement.{statement}
 use Rattle.allocation.proofs.choice.choose.Tie as tie

@@ -4,7 +4,7 @@ use lib.ListN.{length, drop, getD}
 use Prim.Native.Nat.{_-_, _≤_, _<_}
 use mathlib.Core.Path.{_≡_, refl, sym, _∙_}
 use native.Mathlib.Omega.{arith}
-use Rattle.allocation.specs.Selection.{offersNone}
+use Rattle.allocation.specs.means.Selection.{offersNone}
 use Rattle.allocation.proofs.Cells.{offers-on, offers-stop, offers-end}
 use Rattle.allocation.proofs.rows.offers_none.Statement.{statement}
 use Rattle.allocation.proofs.rows.offers_none.Tie as tie

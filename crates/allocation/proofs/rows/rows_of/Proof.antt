@@ -8,7 +8,7 @@ use Prim.Native.Nat.{_-_, _≤_}
 use mathlib.Core.Path.{_≡_, refl}
 use native.Mathlib.Omega.{arith}
 use Rattle.shares.specs.Row.{rowOf}
-use Rattle.allocation.specs.Selection.{rowsOf, zeroRow}
+use Rattle.allocation.specs.means.Selection.{rowsOf, zeroRow}
 use Rattle.allocation.proofs.rows.rows_of.Statement.{statement}
 use Rattle.allocation.proofs.rows.rows_of.Tie as tie
 

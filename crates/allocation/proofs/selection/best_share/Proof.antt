@@ -5,7 +5,7 @@ use Prim.Native.Nat.{_+_, _-_, _≤_}
 use mathlib.Core.Path.{_≡_}
 use native.Mathlib.Omega.{arith}
 use denote.Ref.{now}
-use Rattle.allocation.specs.Selection.{cellAt, entryAt, sumAt, bestShare, leastFrom}
+use Rattle.allocation.specs.means.Selection.{cellAt, entryAt, sumAt, bestShare, leastFrom}
 use Rattle.allocation.proofs.Firsts.{least-start, least-taken, least-kept, least-to}
 use Rattle.allocation.proofs.selection.best_share.Statement.{statement}
 use Rattle.allocation.proofs.selection.best_share.Tie as tie

@@ -3,7 +3,7 @@
 use Prim.Native.Nat.{_-_, _≤_}
 use mathlib.Core.Path.{_≡_}
 use native.Mathlib.Omega.{arith}
-use Rattle.allocation.specs.Selection.{entryAt, leastFrom}
+use Rattle.allocation.specs.means.Selection.{entryAt, leastFrom}
 use Rattle.allocation.proofs.Firsts.{least-start, least-taken, least-kept}
 use Rattle.allocation.proofs.selection.first_least.Statement.{statement}
 use Rattle.allocation.proofs.selection.first_least.Tie as tie

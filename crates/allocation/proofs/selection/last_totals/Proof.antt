@@ -3,7 +3,7 @@
 use lib.ListN.{getD, set, replicate}
 use Rattle.shares.specs.Row.{tabulate}
 use Rattle.allocation.specs.declared.selection.Totals.{Totals}
-use Rattle.allocation.specs.Selection.{cellAt, entryAt, totalWith, missingRow, rowsUpTo}
+use Rattle.allocation.specs.means.Selection.{cellAt, entryAt, totalWith, missingRow, rowsUpTo}
 use Rattle.allocation.proofs.Lines.{line, missingTotals, lines, rows-length, lines-start, lines-at, lines-store, lines-last, line-more}
 use borrow.Author.Needs.{needs}
 use Prim.Native.Nat.{ℕ, _+_, _-_, _≤_}

@@ -1,7 +1,7 @@
 -- `selection::no_totals` meets its contract.
 use mathlib.Core.Path.{refl}
 use Rattle.shares.specs.Row.{tabulate}
-use Rattle.allocation.specs.Selection.{leastTotal, totalsOf}
+use Rattle.allocation.specs.means.Selection.{leastTotal, totalsOf}
 use borrow.Author.Needs.{needs}
 use Rattle.allocation.proofs.selection.no_totals.Statement.{statement}
 use Rattle.allocation.proofs.selection.no_totals.Tie as tie

@@ -12,7 +12,7 @@ use lib.ListN.{getD, drop}
 use Rattle.shares.specs.declared.share.Share.{Share}
 use Rattle.allocation.specs.declared.rows.Row.{Row}
 use Rattle.shares.specs.Totals.{noProcessors}
-use Rattle.allocation.specs.Selection.{rowsUpTo, leastTotal, sharesAt, bestTotal}
+use Rattle.allocation.specs.means.Selection.{rowsUpTo, leastTotal, sharesAt, bestTotal}
 use Rattle.allocation.proofs.selection.select.Statement.{statement}
 use Rattle.allocation.proofs.selection.select.Tie as tie
 

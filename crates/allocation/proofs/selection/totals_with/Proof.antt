@@ -1,7 +1,7 @@
 -- `selection::totals_with` meets its contract. The loop's invariant: the totals are done below t and say m + 1 from there on,
 -- which is right above m. The measure is what is left of m + 1.
 use Prim.Native.Nat.{ℕ, min, _+_, _-_, _≤_}
-use Rattle.allocation.specs.Selection.{sumAt, cellAt, entryAt, totalWith}
+use Rattle.allocation.specs.means.Selection.{sumAt, cellAt, entryAt, totalWith}
 use borrow.Author.Needs.{needs}
 use mathlib.Core.List.{List, _∷_}
 use mathlib.Core.Path.{_≡_, refl, sym, ap, ap₂, _∙_}

@@ -6,7 +6,7 @@ use native.Mathlib.Omega.{arith}
 use lib.ListN.{length, drop}
 use denote.Ref.{now}
 use borrow.Author.Needs.{needs}
-use Rattle.plan_text.specs.Growth.{withBytes}
+use Rattle.plan_text.specs.means.Growth.{withBytes}
 use Rattle.plan_text.specs.Lines.{line}
 use Rattle.plan_text.proofs.Growths.{past-end, line-step}
 use Rattle.plan_text.proofs.line.with_line.Statement.{statement}

@@ -4,7 +4,7 @@ use mathlib.Core.Path.{_≡_, ap, _∙_}
 use native.Mathlib.Omega.{arith}
 use Rattle.plan_text.specs.Lines.{line}
 use Rattle.plan_text.specs.Printed.{refusedWord, refusalLine}
-use Rattle.plan_text.specs.Growth.{withBytes}
+use Rattle.plan_text.specs.means.Growth.{withBytes}
 use Rattle.plan_text.proofs.Growths.{with-both, holds-all}
 use Rattle.plan_text.proofs.Lengths.{refusal-length}
 use borrow.Author.Needs.{needs}

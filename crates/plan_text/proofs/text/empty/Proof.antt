@@ -1,6 +1,6 @@
 -- `text::empty` meets its contract: a text of no bytes is zeros.
 use mathlib.Core.Path.{refl}
-use Rattle.plan_text.specs.Growth.{holding}
+use Rattle.plan_text.specs.means.Growth.{holding}
 use Rattle.plan_text.proofs.text.empty.Statement.{statement}
 use Rattle.plan_text.proofs.text.empty.Tie as tie
 

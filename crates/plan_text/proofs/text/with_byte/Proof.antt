@@ -1,7 +1,7 @@
 -- `text::with_byte` meets its contract: one way for a full text and one for any other.
 use borrow.Author.Needs.{needs}
 use borrow.Author.Tests.{lt-ltb, le-ltb}
-use Rattle.plan_text.specs.Growth.{withByte, room}
+use Rattle.plan_text.specs.means.Growth.{withByte, room}
 use Rattle.plan_text.proofs.text.with_byte.Statement.{statement}
 use Rattle.plan_text.proofs.text.with_byte.Tie as tie
 

@@ -7,7 +7,7 @@ use native.Mathlib.Numerals.{add-one}
 use lib.ListN.{length, drop}
 use lib.Seq.{drop-cons}
 use denote.Ref.{now}
-use Rattle.plan_text.specs.Growth.{withBytes}
+use Rattle.plan_text.specs.means.Growth.{withBytes}
 use Rattle.plan_text.proofs.Growths.{past-end}
 use Rattle.plan_text.proofs.text.with_bytes.Statement.{statement}
 use Rattle.plan_text.proofs.text.with_bytes.Tie as tie

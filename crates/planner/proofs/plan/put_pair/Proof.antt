@@ -1,8 +1,7 @@
 -- `plan::put_pair` meets its contract.
+use native.Mathlib.Numerals.{add-one}
 use native.Mathlib.Omega.{arith}
 use lib.ListN.{length-set}
-use denote.Ref.{now}
-use Rattle.planner.proofs.Bytes.{laid-pair}
 use borrow.Author.Needs.{needs}
 use Rattle.planner.proofs.plan.put_pair.Statement.{statement}
 use Rattle.planner.proofs.plan.put_pair.Tie as tie
@@ -20,7 +19,7 @@ same-length : tie.Need-same-length
 same-length c = search needs
 
 returns : tie.Need-returns
-returns c = laid-pair (c .args .at) (c .args .x) (c .args .y) (now (c .args .buffer)) (omega arith)
+returns c = rw (add-one (c .args .at))
 
 pub put-pair-spec : {M : Type 1} → statement M
 put-pair-spec =

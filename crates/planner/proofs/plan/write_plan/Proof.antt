@@ -1,13 +1,10 @@
 -- `plan::write_plan` meets its contract: three parts, one behind the other.
 use native.Mathlib.Omega.{arith}
 use denote.Ref.{now}
-use Rattle.planner.proofs.Plans.{parts-laid}
+use Rattle.planner.proofs.Plans.{parts-set}
 use borrow.Author.Needs.{needs}
 use Rattle.planner.proofs.plan.write_plan.Statement.{statement}
 use Rattle.planner.proofs.plan.write_plan.Tie as tie
-
-cast-count : tie.Need-cast-count
-cast-count c = search needs
 
 write-blocks-requires : tie.Need-write-blocks-requires
 write-blocks-requires c κs = search needs
@@ -29,15 +26,14 @@ same-length c = search needs
 
 returns : tie.Need-returns
 returns c =
-    let start = c .before .before .before .before .before .before .before .before .before .before .before .before .before in
-    parts-laid (start .args .set) (start .args .shares) (now (start .args .buffer)) (omega arith) _ _ _
+    let args = c .before .before .before .before .before .before .before .before .before .before .before .before .before .args in
+    parts-set (args .n) (args .allocations) (now (args .buffer)) _ _ _
     (c .before .before .before .before .before .before .before .before .before .before .write-blocks .ensures) (c .before .before .before .before .before .before .write-blocks2 .ensures) (omega arith) (c .before .before .write-virtuals .ensures)
 
 pub write-plan-spec : {M : Type 1} → statement M
 write-plan-spec =
     tie.close
     (tie.spec
-    cast-count
     write-blocks-requires
     mul-write-blocks
     write-blocks-requires-2

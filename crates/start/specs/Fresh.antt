@@ -2,21 +2,20 @@
 use mathlib.Core.Bool.{false}
 use lib.ListN.{replicate}
 use Rattle.sheet.specs.declared.task.Task.{Task}
-use Rattle.shares.specs.declared.share.Share.{Share}
-use Rattle.shares.specs.Deadline.{virtualOf}
 use Rattle.shares.specs.Totals.{noProcessors}
+use Rattle.allocation.specs.declared.allocate.Allocation.{Allocation}
 use Rattle.entries.specs.declared.state.TaskState.{TaskState}
 
--- S8.1: the task's part of the sheet, its shares and its V, without a job, and as old as D.
-unfoldable pub freshEntry : Task → Share → TaskState
-freshEntry t s =
+-- S8.1: the task's part of the sheet and what is fixed for it, without a job, and as old as D.
+unfoldable pub freshEntry : Task → Allocation → TaskState
+freshEntry t a =
     record {
       level = t .level;
       nodes = t .nodes;
       predecessors = t .predecessors;
       deadline = t .figures .deadline;
-      «virtual_deadline» = virtualOf t (s .typical);
-      share = s;
+      «virtual_deadline» = a .«virtual_deadline»;
+      share = a .share;
       age = t .figures .deadline;
       job = record { ended = 0; alive = false };
     }

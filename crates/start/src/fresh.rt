@@ -1,10 +1,9 @@
 // S8.1: a fresh entry, and one of zeros.
 ghost use mathlib.Core.Path.{_≡_};
-ghost use Prim.Native.Nat.{_≤_};
-ghost use Rattle.entries.specs.Fresh.{freshEntry, zeroEntry};
-use crate::state::Job;
-use crate::state::TaskState;
-use shares::deadline::virtual_of;
+ghost use Rattle.start.specs.Fresh.{freshEntry, zeroEntry};
+use allocation::allocate::Allocation;
+use entries::state::Job;
+use entries::state::TaskState;
 use shares::share::Share;
 use sheet::task::Task;
 
@@ -30,20 +29,20 @@ pub fn zero_entry() -> TaskState
     }
 }
 
-// S8.1: a task's entry with its shares, as old as D, so that it may be released at once.
-pub fn fresh_entry(t: Task, s: Share) -> TaskState
-    requires { ⌜ 1 ≤ s .typical ⌝ }
-    ensures { λ r. ⌜ r ≡ freshEntry t s ⌝ }
+// S8.1: a task's entry with what is fixed for it, as old as D, so that it may be released at once.
+pub fn fresh_entry(t: Task, a: Allocation) -> TaskState
+    ensures { λ r. ⌜ r ≡ freshEntry t a ⌝ }
 {
     let figures = t.figures;
     let predecessors = t.predecessors;
+    let share = a.share;
     TaskState {
         level: t.level,
         nodes: t.nodes,
         predecessors,
         deadline: figures.deadline,
-        virtual_deadline: virtual_of(t, s.typical),
-        share: s,
+        virtual_deadline: a.virtual_deadline,
+        share,
         age: figures.deadline,
         job: Job {
             ended: 0,

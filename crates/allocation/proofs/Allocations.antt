@@ -1,0 +1,208 @@
+-- What is fixed for the tasks of a set: a line of sixteen shares fixes what the shares do, the numbers are small since the shares
+-- fit, and a sheet's answers go refusal by refusal.
+use Prim.Native.Nat.{ℕ, zero, suc, _+_, _≤_, _<_}
+use mathlib.Core.Bool.{Bool, true, false, cond}
+use mathlib.Core.List.{List, _∷_}
+use mathlib.Core.Option.{some}
+use mathlib.Core.Path.{_≡_, refl, sym, ap, ap₂, _∙_}
+use native.Mathlib.Decide.{decLt}
+use native.Mathlib.Omega.{arith}
+use lib.Dec.{ltb}
+use lib.ListN.{length, getD, take, set, replicate, length-replicate}
+use lib.Seq.{ext-getD, getD-take, length-take-le}
+use borrow.Author.Tests.{le-ltb}
+use Rattle.sheet.specs.declared.answer.Answer.{Answer}
+use Rattle.sheet.specs.declared.answer.Answer.the-variants.{Accepted, Refused}
+use Rattle.sheet.specs.declared.task.TaskSet.{TaskSet}
+use Rattle.basics.specs.Lists.{cellsFrom, cells}
+use Rattle.basics.proofs.Cells.{cells-none, cells-store, cells-length}
+use Rattle.reader.specs.Reading.{readOf}
+use Rattle.shares.specs.declared.share.Share.{Share}
+use Rattle.shares.specs.Totals.{noProcessors, shareAt, shareTotal}
+use Rattle.allocation.specs.declared.allocate.Allocation.{Allocation}
+use Rattle.allocation.specs.declared.allocate.Allocated.{Allocated}
+use Rattle.allocation.specs.Blocks.{offsetIn, lengthIn, BlocksInOrder}
+use Rattle.allocation.specs.Lawful.{LawfulSet}
+use Rattle.allocation.specs.Allocation.{tasksOf, chosenFor, choiceAnswer, sharesOf, sixteen, allocationOf, noAllocation, allocationsOf, allocationAt, allocationAnswer, allocatedWith, allocatedOf}
+use Rattle.allocation.specs.means.Bounds.{SharesFit, Bounded, AllBounded}
+use Rattle.allocation.proofs.Accepted.{both-accepted, accepted-lawful, accepted-choice}
+use Rattle.allocation.proofs.Blocks.{total-part, chosen-blocks}
+use Rattle.allocation.proofs.Laws.{chosen-length, chosen-typical, chosen-critical, chosen-positive, chosen-deadline}
+use Rattle.allocation.proofs.Lines.{cells-at}
+
+-- The line of sixteen begins with the shares.
+module _ (shares : List Share) (few : length shares ≤ 16) where
+  share-same : (i : ℕ) → i < length shares → shareAt (sixteen shares) i ≡ shareAt shares i
+  unfolding sixteen shareAt
+  share-same i inside = cells-at (λ j. getD shares j noProcessors) noProcessors 16 (length shares) i noProcessors (omega arith) inside
+
+  sixteen-length : length (sixteen shares) ≡ 16
+  unfolding sixteen
+  sixteen-length = cells-length (λ j. getD shares j noProcessors) noProcessors 0 16 (length shares)
+
+  sixteen-take : (i : ℕ) → i ≤ length shares → take i (sixteen shares) ≡ take i shares
+  unfolding shareAt
+  sixteen-take i to =
+      let whole = sixteen-length in
+      let long : length (take i (sixteen shares)) ≡ i = length-take-le i (sixteen shares) (omega arith) in
+      ext-getD noProcessors (take i (sixteen shares)) (take i shares) (long ∙ sym (length-take-le i shares to))
+      (λ j inside.
+      let below : j < i = omega arith in
+      getD-take i (sixteen shares) j noProcessors below ∙ share-same j (omega arith) ∙ sym (getD-take i shares j noProcessors below))
+
+  offset-same : (mode : Bool) (i : ℕ) → i ≤ length shares → offsetIn mode (sixteen shares) i ≡ offsetIn mode shares i
+  unfolding offsetIn
+  offset-same mode i to = ap (shareTotal mode) (sixteen-take i to)
+
+-- Cells that agree below the count are alike.
+cells-same : {A : Type 0} (f g : ℕ → A) (none : A) (first size count : ℕ) →
+    ((i : ℕ) → i < count → f i ≡ g i) → cellsFrom first size f none count ≡ cellsFrom first size g none count
+unfolding cellsFrom
+cells-same f g none first zero count same = refl
+cells-same f g none first (suc size) count same =
+    ap₂ _∷_ (go (decLt first count)) (cells-same f g none (suc first) size count same)
+  where
+    go : Dec (first < count) → cond (ltb first count) (f first) none ≡ cond (ltb first count) (g first) none
+    go (yes h) = ap (λ x. cond (ltb first count) x none) (same first h)
+    go (no h) = rw (le-ltb first count (omega arith))
+
+-- The line of the first i tasks: none of them, one more, all of them.
+module _ (tasks : TaskSet) (shares : List Share) where
+  pub allocations-none : replicate 16 noAllocation ≡ cells 16 (allocationOf tasks shares) noAllocation 0
+  allocations-none = sym (cells-none (allocationOf tasks shares) noAllocation 0 16 0 (omega arith))
+
+  pub allocations-store : (i : ℕ) → i < 16 →
+      set (cells 16 (allocationOf tasks shares) noAllocation i) i (allocationOf tasks shares i)
+      ≡ cells 16 (allocationOf tasks shares) noAllocation (i + 1)
+  allocations-store i h = cells-store (allocationOf tasks shares) noAllocation 16 i h
+
+  pub allocations-length : length (allocationsOf tasks shares) ≡ 16
+  unfolding allocationsOf
+  allocations-length = cells-length (allocationOf tasks shares) noAllocation 0 16 (tasks .count)
+
+  pub allocations-at : tasks .count ≤ 16 → (i : ℕ) → i < tasks .count → allocationAt (allocationsOf tasks shares) i ≡ allocationOf tasks shares i
+  unfolding allocationAt allocationsOf
+  allocations-at few i inside = cells-at (allocationOf tasks shares) noAllocation 16 (tasks .count) i noAllocation (omega arith) inside
+
+-- The shares that are chosen for a lawful task set.
+module _ (tasks : TaskSet) (lawful : LawfulSet tasks) (choice : List Share) (chosen-it : chosenFor tasks ≡ some choice) where
+  all-shares : length choice ≡ tasks .count
+  all-shares = chosen-length tasks lawful choice chosen-it
+
+  few-shares : length choice ≤ 16
+  few-shares = let few = lawful .few-tasks in omega (arith, all-shares)
+
+  total-within : (mode : Bool) → shareTotal mode choice ≤ tasks .processors
+  total-within false = chosen-typical tasks lawful choice chosen-it
+  total-within true = chosen-critical tasks lawful choice chosen-it
+
+  -- Their numbers fit what the code adds up.
+  pub shares-fit : SharesFit tasks (sixteen choice)
+  unfolding offsetIn lengthIn shareAt
+  shares-fit =
+      record {
+        few = lawful .few-tasks;
+        some-share = λ i inside.
+            rw (share-same choice few-shares i (omega (arith, all-shares))) (chosen-positive tasks lawful choice chosen-it i inside);
+        ends = λ mode i to.
+            let small = lawful .few-processors in
+            let here = total-within mode in
+            let part = total-part mode choice i in
+            let few : shareTotal mode (take i choice) < 256 = omega arith in
+            rw (sixteen-take choice few-shares i (omega (arith, all-shares))) few;
+      }
+
+  allocation-same : (i : ℕ) → i < tasks .count → allocationOf tasks (sixteen choice) i ≡ allocationOf tasks choice i
+  unfolding allocationOf
+  allocation-same i inside =
+      rw (
+        share-same choice few-shares i (omega (arith, all-shares)),
+        offset-same choice few-shares false i (omega (arith, all-shares)),
+        offset-same choice few-shares true i (omega (arith, all-shares)),
+      )
+
+  -- The line of sixteen shares fixes what the shares do.
+  pub allocations-same : allocationsOf tasks (sixteen choice) ≡ allocationsOf tasks choice
+  unfolding allocationsOf
+  allocations-same = cells-same (allocationOf tasks (sixteen choice)) (allocationOf tasks choice) noAllocation 0 16 (tasks .count) allocation-same
+
+  blocks : BlocksInOrder (tasks .processors) choice
+  unfolding chosenFor
+  blocks = chosen-blocks (tasks .processors) (tasksOf tasks) choice chosen-it
+
+  pub allocation-bounded : (i : ℕ) → i < tasks .count → Bounded (allocationOf tasks choice i)
+  unfolding allocationOf lengthIn shareAt
+  allocation-bounded i inside =
+      let small = lawful .few-processors in
+      record {
+        typical = let ends = blocks .inside false i (omega (arith, all-shares)) in omega arith;
+        critical = let ends = blocks .inside true i (omega (arith, all-shares)) in omega arith;
+        two-bytes = chosen-deadline tasks lawful choice chosen-it i inside;
+      }
+
+-- The answer on a sheet, and what goes with it.
+pub answer-with : (a : Answer) (count : ℕ) (allocations : List Allocation) → allocatedWith a count allocations .answer ≡ a
+answer-with Accepted count allocations = refl
+answer-with (Refused number task) count allocations = refl
+
+module _ (s : List ℕ) where
+  pub answer-is : allocatedOf s .answer ≡ allocationAnswer s
+  unfolding allocatedOf
+  answer-is = answer-with (allocationAnswer s) _ _
+
+  pub answer-read : {number task : ℕ} → readOf s .answer ≡ Refused number task → allocationAnswer s ≡ Refused number task
+  unfolding allocationAnswer
+  answer-read e = rw e
+
+  pub answer-choice : readOf s .answer ≡ Accepted → allocationAnswer s ≡ choiceAnswer (readOf s .set)
+  unfolding allocationAnswer
+  answer-choice e = rw e
+
+  pub allocated-refused : (answer : Answer) (allocations : List Allocation) {number task : ℕ} → answer ≡ Refused number task →
+      allocationAnswer s ≡ answer → allocations ≡ replicate 16 noAllocation →
+      record { answer = answer; count = 0; allocations = allocations } ≡ allocatedOf s
+  unfolding allocatedOf
+  allocated-refused answer allocations refused same zeros = rw (same, refused, zeros)
+
+  module _ (accepted : allocationAnswer s ≡ Accepted) where
+    both-passed : (readOf s .answer ≡ Accepted) × (choiceAnswer (readOf s .set) ≡ Accepted)
+    unfolding allocationAnswer
+    both-passed = both-accepted (readOf s .answer) (choiceAnswer (readOf s .set)) accepted
+
+    pub read-lawful : LawfulSet (readOf s .set)
+    read-lawful = accepted-lawful s (both-passed .0)
+
+    pub read-chosen : chosenFor (readOf s .set) ≡ some (sharesOf (chosenFor (readOf s .set)))
+    read-chosen = accepted-choice (readOf s .set) (both-passed .1)
+
+    pub allocated-count : allocatedOf s .count ≡ readOf s .set .count
+    unfolding allocatedOf
+    allocated-count = rw accepted
+
+    pub allocated-line : allocatedOf s .allocations ≡ allocationsOf (readOf s .set) (sharesOf (chosenFor (readOf s .set)))
+    unfolding allocatedOf
+    allocated-line = rw accepted
+
+    -- What is fixed by the line of sixteen shares.
+    pub line-fixed : allocationsOf (readOf s .set) (sixteen (sharesOf (chosenFor (readOf s .set)))) ≡ allocatedOf s .allocations
+    line-fixed = allocations-same (readOf s .set) read-lawful _ read-chosen ∙ sym allocated-line
+
+    pub allocated-accepted : (count : ℕ) (allocations : List Allocation) → count ≡ readOf s .set .count →
+        allocations ≡ allocatedOf s .allocations → record { answer = Accepted; count = count; allocations = allocations } ≡ allocatedOf s
+    unfolding allocatedOf
+    allocated-accepted count allocations e f = rw (e, f, accepted)
+
+    pub allocated-at : (i : ℕ) → i < readOf s .set .count →
+        allocationAt (allocatedOf s .allocations) i ≡ allocationOf (readOf s .set) (sharesOf (chosenFor (readOf s .set))) i
+    allocated-at i inside = rw allocated-line (allocations-at (readOf s .set) _ (read-lawful .few-tasks) i inside)
+
+    pub allocated-length : length (allocatedOf s .allocations) ≡ 16
+    allocated-length = rw allocated-line (allocations-length (readOf s .set) _)
+
+    pub allocated-bounded : AllBounded (allocatedOf s .allocations) (allocatedOf s .count)
+    allocated-bounded =
+        rw allocated-count
+        record {
+          few = read-lawful .few-tasks;
+          each = λ i inside. rw (allocated-at i inside) (allocation-bounded (readOf s .set) read-lawful _ read-chosen i inside);
+        }

@@ -1,0 +1,2 @@
+-- What only proofs and inner functions need: a text that grows in an array.
+pub mod Growth

@@ -1,0 +1,2 @@
+-- What only proofs and inner functions need: that the plan's parts fit a buffer.
+pub mod Room
