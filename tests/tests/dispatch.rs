@@ -1,12 +1,12 @@
 //! The proved dispatcher beside the independent one on random states, sound and not: answers, whole states and boards
 //! agree, and a refused call returns an equal state.
-use dibwunek_tests::answers::Reply;
-use dibwunek_tests::boundary::{of_bytes, to_bytes, Dispatcher, Independent};
-use dibwunek_tests::counts::{hold, Counts};
-use dibwunek_tests::dispatcher::State;
-use dibwunek_tests::proved::dispatching::Proved;
-use dibwunek_tests::random::Random;
-use dibwunek_tests::states::{not_running, report, sound, unsound, with_ones, FAULTS};
+use dibwunek_tests::harness::boundary::{of_bytes, to_bytes, Dispatcher, Independent};
+use dibwunek_tests::harness::counts::{hold, Counts};
+use dibwunek_tests::harness::proved::dispatching::Proved;
+use dibwunek_tests::makers::random::Random;
+use dibwunek_tests::makers::states::{not_running, report, sound, unsound, with_ones, FAULTS};
+use dibwunek_tests::reference::answers::Reply;
+use dibwunek_tests::reference::dispatcher::State;
 
 /// Compares the two dispatchers call by call, and counts the answers.
 struct Comparison {

@@ -1,8 +1,8 @@
 //! Sheets with one fault of each kind at each task, and with several: the specification gives each its answer.
-use dibwunek_tests::agreement::Tally;
-use dibwunek_tests::faults::{of_directory, of_header, of_record, one_of_record, twice_of_record, Faulty};
-use dibwunek_tests::random::Random;
-use dibwunek_tests::sheets::{small, valid, Draft};
+use dibwunek_tests::harness::agreement::Tally;
+use dibwunek_tests::makers::faults::{of_directory, of_header, of_record, one_of_record, twice_of_record, Faulty};
+use dibwunek_tests::makers::random::Random;
+use dibwunek_tests::makers::sheets::{small, valid, Draft};
 
 #[test]
 fn single_faults() {

@@ -1,12 +1,12 @@
 //! The proved planner beside the independent one: the answer and every byte of the buffer agree.
-use dibwunek_tests::answers::Reply;
-use dibwunek_tests::counts::{hold, Counts};
-use dibwunek_tests::planner::{self, plan_into};
-use dibwunek_tests::proved::planning;
-use dibwunek_tests::random::Random;
-use dibwunek_tests::reader::{Sheet, Task};
-use dibwunek_tests::sheets::{plausible, valid, Draft, CASE_14};
-use dibwunek_tests::tight;
+use dibwunek_tests::harness::counts::{hold, Counts};
+use dibwunek_tests::harness::proved::planning;
+use dibwunek_tests::makers::random::Random;
+use dibwunek_tests::makers::sheets::{plausible, valid, Draft, CASE_14};
+use dibwunek_tests::makers::tight;
+use dibwunek_tests::reference::answers::Reply;
+use dibwunek_tests::reference::planner::{self, plan_into};
+use dibwunek_tests::reference::reader::{Sheet, Task};
 
 /// Compares the two planners on a sheet and a buffer of random bytes, and gives their answer.
 fn check(sheet: &[u8], length: usize, random: &mut Random, counts: &mut Counts) -> Reply {

@@ -1,8 +1,8 @@
 //! Holds the proved reader to the independent one, and counts the answers.
-use crate::answers::Refusal;
-use crate::proved::{self, Answer, TaskSet, FIRST_MASK};
-use crate::random;
-use crate::reader::{self, Level, Sheet};
+use crate::harness::proved::{self, TaskSet, FIRST_MASK};
+use crate::makers::random;
+use crate::reference::answers::{Answer, Refusal};
+use crate::reference::reader::{self, Level, Sheet};
 
 /// The answer that a reading stands for.
 pub fn answer(reading: &Result<Sheet, Refusal>) -> Answer {

@@ -1,5 +1,5 @@
 //! The proved planner.
-use crate::answers::Reply;
+use crate::reference::answers::Reply;
 
 extern "C" {
     fn dibwunek_plan(sheet: *const u8, sheet_len: usize, buffer: *mut u8, buffer_len: usize) -> u32;

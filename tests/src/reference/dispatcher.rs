@@ -1,13 +1,13 @@
 //! A dispatcher by S7, S8 and refusals 10 to 16 of the specification. Sets of nodes are rows of marks, and a
 //! step makes a whole state out of the one before. It shares nothing with the proved one: neither code nor definitions.
-use crate::answers::{Cause, Refusal};
-use crate::planner::{self, Plan};
-use crate::reader::{Level, Sheet};
+use crate::reference::answers::{Cause, Refusal};
+use crate::reference::planner::{self, Plan};
+use crate::reference::reader::{self, Level, Sheet};
 
 /// The entries of a state.
-pub const ENTRIES: usize = 16;
+pub const ENTRIES: usize = reader::TASKS;
 /// The nodes that an entry has room for.
-pub const NODES: usize = 32;
+pub const NODES: usize = reader::NODES;
 /// A high task's level; a low one's is 0.
 pub const HIGH: u8 = 1;
 
@@ -278,7 +278,7 @@ impl State {
 #[cfg(test)]
 mod tests {
     use super::*;
-    use crate::sheets::{Draft, CASE_14};
+    use crate::makers::sheets::{Draft, CASE_14};
 
     /// Task A of S11 alone on two processors, with three nodes that nothing precedes.
     fn three_nodes() -> State {

@@ -1,6 +1,6 @@
 //! The proved dispatcher, on states in their byte form.
-use crate::answers::Reply;
-use crate::boundary::{Dispatcher, STATE};
+use crate::harness::boundary::{Dispatcher, STATE};
+use crate::reference::answers::Reply;
 
 extern "C" {
     fn dibwunek_release(state: *const u8, state_len: usize, task: usize, out: *mut u8, out_len: usize) -> u32;

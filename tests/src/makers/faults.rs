@@ -1,8 +1,9 @@
 //! Faulty sheets, each with the answer that the specification gives it. A fault is put into a draft whose other parts hold,
 //! so that one row alone has cause to refuse it.
-use crate::proved::{Answer, NODES};
-use crate::random::Random;
-use crate::sheets::{pair, Draft, LIMIT};
+use crate::makers::random::Random;
+use crate::makers::sheets::{pair, Draft, LIMIT};
+use crate::reference::answers::Answer;
+use crate::reference::reader::NODES;
 
 /// A sheet, and the answer that it must get.
 pub struct Faulty {

@@ -39,6 +39,9 @@ impl Refusal {
     }
 }
 
+/// Number and task of an answer; accepted is (0, 255).
+pub type Answer = (u8, u8);
+
 /// What a call answers.
 #[derive(Clone, Copy, Debug, PartialEq, Eq, PartialOrd, Ord)]
 pub enum Reply {

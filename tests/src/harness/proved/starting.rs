@@ -1,6 +1,6 @@
 //! The proved Start, with the state in its byte form.
-use crate::answers::Reply;
-use crate::boundary::STATE;
+use crate::harness::boundary::STATE;
+use crate::reference::answers::Reply;
 
 extern "C" {
     fn dibwunek_start(sheet: *const u8, sheet_len: usize, out: *mut u8, out_len: usize) -> u32;
