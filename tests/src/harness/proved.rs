@@ -1,13 +1,9 @@
 //! Safe wrappers of the exported functions. None of them has a `requires`, so every slice and number may be passed.
-//! A feature of the package says of each group beyond the reader's that the static library has it.
 use crate::reference::answers::Answer;
 use crate::reference::reader::{NODES, TASKS};
 
-#[cfg(feature = "dispatching")]
 pub mod dispatching;
-#[cfg(feature = "planning")]
 pub mod planning;
-#[cfg(feature = "starting")]
 pub mod starting;
 
 /// The field of node 0's mask; the fields before it are level, k, D, CN, LN, CO, LO.
