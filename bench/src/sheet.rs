@@ -1,9 +1,7 @@
 //! The reader in plain Rust, written from the specification.
-
-pub const TASKS: usize = 16;
-pub const NODES: usize = 32;
-pub const NO_TASK: u8 = 255;
-pub const HIGH: u8 = 1;
+use dibwunek_tests::reference::answers::NO_TASK;
+use dibwunek_tests::reference::dispatcher::HIGH;
+use dibwunek_tests::reference::reader::{NODES, TASKS};
 
 /// Number and task of a refusal, as in S9.
 #[derive(Clone, Copy, Debug, PartialEq, Eq)]

@@ -5,8 +5,8 @@ use crate::reference::answers::{Refusal, Reply};
 use crate::reference::dispatcher::{self, nodes, set_of, Entry, Mode, State, Ticked, ENTRIES, NODES};
 
 /// The bytes before the entries, of an entry, and of a state.
-const HEAD: usize = 3;
-const ENTRY: usize = 5 + 4 * 4 + 4 * NODES;
+pub const HEAD: usize = 3;
+pub const ENTRY: usize = 5 + 4 * 4 + 4 * NODES;
 pub const STATE: usize = HEAD + ENTRIES * ENTRY;
 
 /// The calls on a state. Each gives its answer and the state that it returns.

@@ -1,7 +1,8 @@
-//! Safe wrappers of the exported functions. None of them has a `requires`, so every slice and number may be passed.
+//! The proved functions: `calls` as they are exported, the others with answers and states that compare with the reference.
 use crate::reference::answers::Answer;
 use crate::reference::reader::{NODES, TASKS};
 
+pub mod calls;
 pub mod dispatching;
 pub mod planning;
 pub mod starting;

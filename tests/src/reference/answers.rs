@@ -21,6 +21,9 @@ pub enum Cause {
     BoardBuffer = 16,
 }
 
+/// The task of an answer that names none.
+pub const NO_TASK: u8 = 255;
+
 /// A refusal, with the task that its row names.
 #[derive(Clone, Copy, Debug, PartialEq, Eq)]
 pub struct Refusal {
@@ -36,6 +39,11 @@ impl Refusal {
     /// A refusal by a row that names no task.
     pub fn whole(cause: Cause) -> Refusal {
         Refusal { cause, task: None }
+    }
+
+    /// Its number and task.
+    pub fn answer(self) -> Answer {
+        (self.cause as u8, self.task.map_or(NO_TASK, |task| task as u8))
     }
 }
 
@@ -74,7 +82,8 @@ impl Reply {
 }
 
 impl From<Refusal> for Reply {
-    fn from(Refusal { cause, task }: Refusal) -> Reply {
-        Reply::Refused(cause as u8, task.map_or(255, |task| task as u8))
+    fn from(refusal: Refusal) -> Reply {
+        let (number, task) = refusal.answer();
+        Reply::Refused(number, task)
     }
 }

@@ -70,8 +70,8 @@ pub fn printed(input: &[u8]) -> String {
     match read_and_plan(sheet) {
         Ok((_, plan)) => plan.lines(),
         Err(refusal) => {
-            let task = refusal.task.unwrap_or(255);
-            format!("refused {} {task}\n", refusal.cause as u8)
+            let (number, task) = refusal.answer();
+            format!("refused {number} {task}\n")
         }
     }
 }
