@@ -1,8 +1,10 @@
 """Tests of the tools as programs, where a file or a stream fails: a line names the place, and no traceback is shown."""
 
 import contextlib
+import io
 import os
 import pathlib
+import random
 import shlex
 import shutil
 import signal
@@ -11,6 +13,11 @@ import sys
 import tempfile
 import time
 import unittest
+from unittest import mock
+
+import console
+import sheet as sheets
+import simulate
 
 HERE = pathlib.Path(__file__).resolve().parent
 WORKED = HERE.parent / "examples" / "worked.sheet"
@@ -220,6 +227,68 @@ class Streams(Tools):
             time.sleep(0.01)
         child.kill()
         self.fail("the tool does not read")
+
+
+PIECES = (
+    *(b":", b"#", b"\t", b"\r", b"\n", b"\0", b"\xff", b"\xef\xbb\xbf", b"\xc2\xa0", b"\xe2\x80\xa8", b"\xc2\xb2"),
+    *(b"0", b"-1", b"+1", b"1e3", b"31", b"32", b"255", b"256", b"65535", b"65536", b"9" * 5000),
+    *(b"task", b"task: high", b"high", b"low", b"processors", b"deadline", b"nominal", b"overload", b"work", b"span"),
+    *(b"nodes", b"node", b"after"),
+)
+
+
+def edited_lines(rng, data):
+    """A text with some lines lost, repeated, exchanged or cut, and pieces put into others."""
+    lines = data.split(b"\n")
+    for _ in range(rng.randrange(1, 4)):
+        i, j = rng.randrange(len(lines)), rng.randrange(len(lines))
+        at, piece = rng.randrange(len(lines[i]) + 1), rng.choice(PIECES)
+        words = lines[i].split() or [b""]
+        words[rng.randrange(len(words))] = piece
+        lines[i : i + 1] = rng.choice(
+            (
+                [lines[i][:at]],
+                [lines[i], lines[j]],
+                [lines[j]],
+                [b""],
+                [b" ".join(words)],
+                [lines[i][:at] + piece + lines[i][at:]],
+            )
+        )
+    return b"\n".join(lines)
+
+
+class Random(unittest.TestCase):
+    """Random edits of the examples: every command ends with a status, or with a failure whose line can be shown."""
+
+    def end_of(self, tool, arguments, data):
+        said = []
+        files = {"read": lambda _: data, "to_output": lambda _: None, "say": said.append}
+        with mock.patch.multiple(console, **files), contextlib.redirect_stderr(io.StringIO()):
+            try:
+                status = tool.main(arguments)
+            except SystemExit as end:
+                status = end.code
+            except console.Failure as failure:
+                said.append(failure)
+                status = 1
+        for line in "\n".join(map(str, said)).splitlines():
+            self.assertTrue(line.isprintable() and len(line) < 400, line)
+        return status
+
+    def test_edited_examples(self):
+        rng, texts = random.Random(5), [path.read_bytes() for path in sorted(WORKED.parent.glob("*.sheet"))]
+        ends = set()
+        with mock.patch.object(sheets, "printed", lambda _: "refused 8 255\n"):
+            for _ in range(250):
+                data = edited_lines(rng, rng.choice(texts))
+                for name in ("check", "write", "print", "plan"):
+                    ends.add((name, self.end_of(sheets, [name, "-"], data)))
+                lengths = [str(rng.randrange(1, 9)) for _ in range(rng.choice((1, 3, 5, 6, 7)))]
+                shares = [str(rng.randrange(1, 9)) for _ in range(rng.choice((1, 2, 2)))]
+                ends.add(("run", self.end_of(simulate, ["-", "--shares", *shares, "--lengths", *lengths], data)))
+        self.assertLessEqual({("check", 0), ("check", 1), ("write", 0), ("write", 1), ("print", 1), ("plan", 1)}, ends)
+        self.assertLessEqual({("run", 0), ("run", 1), ("run", 2)}, ends)
 
 
 if __name__ == "__main__":
