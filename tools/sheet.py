@@ -619,7 +619,7 @@ def main(arguments=None):
         formatter_class=argparse.RawDescriptionHelpFormatter,
         usage="sheet.py COMMAND FILE [-o FILE]",
     )
-    commands = parser.add_subparsers(dest="command", required=True, metavar="COMMAND")
+    commands = parser.add_subparsers(dest="command", required=True, metavar="COMMAND", prog="sheet.py")
     for name, (_, what) in COMMANDS.items():
         command = commands.add_parser(name, help=what)
         command.add_argument("file", help="the file to read; - for standard input")
