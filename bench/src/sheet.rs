@@ -45,7 +45,7 @@ impl TaskSet {
     }
 }
 
-/// Rows 1 and 2, then for each task rows 3 to 6.
+/// Refusals 1 and 2, then for each task 3 to 6.
 pub fn read(sheet: &[u8]) -> Result<TaskSet, Refusal> {
     let header = Refusal { number: 1, task: NO_TASK };
     let &[processors @ 1..=64, count @ 1..=16, ref rest @ ..] = sheet else { return Err(header) };

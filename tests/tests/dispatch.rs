@@ -38,7 +38,7 @@ impl Comparison {
         let proved = Proved.board(state, &mut buffer);
         let reply = Independent.board(state, &mut expected);
         hold(&(proved, &buffer), &(reply, &expected), on);
-        assert!(reply.row() == 0 || buffer == before);
+        assert!(reply.number() == 0 || buffer == before);
         self.count("board", state, (reply, state.to_vec())).0
     }
 
@@ -46,9 +46,9 @@ impl Comparison {
         match reply {
             Reply::Done => self.counts.add(done),
             Reply::Switched(_) => self.counts.add("switched"),
-            Reply::Refused(row, _) => {
+            Reply::Refused(number, _) => {
                 assert!(before == after, "a refused call changed the state {:?}", of_bytes(before));
-                self.counts.add(row);
+                self.counts.add(number);
             }
         }
         (reply, after)

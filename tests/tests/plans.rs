@@ -15,7 +15,7 @@ fn check(sheet: &[u8], length: usize, random: &mut Random, counts: &mut Counts) 
     let mut buffer = before;
     let proved = planning::plan(sheet, &mut buffer);
     hold(&(proved, buffer), &(reply, after), || format!("the sheet {sheet:?} and {length} bytes of buffer"));
-    counts.add(format!("{:2}", reply.row()));
+    counts.add(format!("{:2}", reply.number()));
     reply
 }
 
@@ -51,7 +51,7 @@ fn just_enough_processors() {
         for processors in least.saturating_sub(2).max(1)..=64.min(least + 2) {
             let length = near(&mut random, count);
             let reply = check(&bytes(processors, &tasks), length, &mut random, &mut counts);
-            assert_eq!(matches!(reply.row(), 7 | 8), processors < least);
+            assert_eq!(matches!(reply.number(), 7 | 8), processors < least);
         }
     }
     counts.close(OF_PLANNER, 80);
@@ -119,7 +119,7 @@ fn damaged_sheets() {
         let length = near(&mut random, count);
         check(&sheet, length, &mut random, &mut counts);
     }
-    counts.close((0..=8).map(|row| format!("{row:2}")), 10);
+    counts.close((0..=8).map(|number| format!("{number:2}")), 10);
 }
 
 #[test]

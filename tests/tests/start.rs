@@ -12,7 +12,7 @@ use dibwunek_tests::reference::answers::Reply;
 fn check(sheet: &[u8], counts: &mut Counts) {
     let (reply, state) = boundary::start(sheet);
     hold(&starting::start(sheet), &(reply, state), || format!("the sheet {sheet:?}"));
-    counts.add(reply.row());
+    counts.add(reply.number());
 }
 
 #[test]

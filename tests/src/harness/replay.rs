@@ -95,16 +95,16 @@ pub fn run(dispatcher: &dyn Dispatcher, fresh: Vec<u8>, story: &Story, counts: &
                     Err(refusal) => refusal.into(),
                 };
                 hold(&reply, &expected, || on(place));
-                if reply.row() == 0 {
+                if reply.number() == 0 {
                     replay.tick(reports, &running, reply, &of_bytes(&next), || on(place));
                 }
                 (reply, next)
             }
         };
-        assert!(reply.row() == 0 || next == state, "a refused call changed the state: {}", on(place));
+        assert!(reply.number() == 0 || next == state, "a refused call changed the state: {}", on(place));
         hold(&next, &to_bytes(&model), || on(place));
         replay.counts.add(match (reply, call) {
-            (Reply::Refused(row, _), _) => row.to_string(),
+            (Reply::Refused(number, _), _) => number.to_string(),
             (Reply::Switched(_), _) => "switched".to_string(),
             (Reply::Done, Call::Release(_)) => "released".to_string(),
             (Reply::Done, Call::Tick(_)) => "ran".to_string(),

@@ -118,7 +118,7 @@ fn reported(random: &mut Random, job: &mut Job, running: &[usize]) -> u32 {
     report
 }
 
-/// A call that the state refuses, of any of the rows 11 to 15 that there is cause for.
+/// A call that the state refuses, of any of the refusals 11 to 15 that there is cause for.
 fn refused_call(random: &mut Random, state: &State) -> Option<Call> {
     let count = usize::from(state.count);
     let task = random.within(0..=count - 1);

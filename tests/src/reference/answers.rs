@@ -1,6 +1,6 @@
 //! The answers of the specification's section S9.
 
-/// The cause of a refusal; its value is the row's number.
+/// The cause of a refusal; its value is the number of its clause.
 #[derive(Clone, Copy, Debug, PartialEq, Eq)]
 pub enum Cause {
     Header = 1,
@@ -24,7 +24,7 @@ pub enum Cause {
 /// The task of an answer that names none.
 pub const NO_TASK: u8 = 255;
 
-/// A refusal, with the task that its row names.
+/// A refusal, with the task that it names.
 #[derive(Clone, Copy, Debug, PartialEq, Eq)]
 pub struct Refusal {
     pub cause: Cause,
@@ -36,7 +36,7 @@ impl Refusal {
         Refusal { cause, task: Some(task) }
     }
 
-    /// A refusal by a row that names no task.
+    /// A refusal that names no task.
     pub fn whole(cause: Cause) -> Refusal {
         Refusal { cause, task: None }
     }
@@ -57,7 +57,7 @@ pub enum Reply {
     Done,
     /// A tick turned the state critical, because of this task.
     Switched(u8),
-    /// Refused, with the number of the row and its task, 255 where it names none.
+    /// Refused, with its number and its task, 255 where it names none.
     Refused(u8, u8),
 }
 
@@ -72,8 +72,8 @@ impl Reply {
         }
     }
 
-    /// The row of a refusal; 0 where there is none.
-    pub fn row(self) -> usize {
+    /// The number of a refusal; 0 where there is none.
+    pub fn number(self) -> usize {
         match self {
             Reply::Refused(number, _) => number.into(),
             _ => 0,

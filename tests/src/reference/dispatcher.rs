@@ -88,7 +88,7 @@ pub struct Ticked {
     pub switched: Option<usize>,
 }
 
-/// Start: rows 1 to 8, else the fresh state.
+/// Start: refusals 1 to 8, else the fresh state.
 pub fn start(sheet: &[u8]) -> Result<State, Refusal> {
     planner::read_and_plan(sheet).map(|(sheet, plan)| State::fresh(&sheet, &plan))
 }
@@ -208,7 +208,7 @@ impl State {
         entry.own().filter(|&v| entry.is_ready(v)).take(entry.share(self.mode)).collect()
     }
 
-    /// Release: rows 10 to 13, else the state with the job alive.
+    /// Release: refusals 10 to 13, else the state with the job alive.
     pub fn release(&self, task: usize) -> Result<State, Refusal> {
         self.sound()?;
         let entry = self.own().get(task).ok_or(Refusal::whole(Cause::NoSuchTask))?;
@@ -224,7 +224,7 @@ impl State {
         Ok(state)
     }
 
-    /// Tick: rows 10, 14 and 15, else the state after it.
+    /// Tick: refusals 10, 14 and 15, else the state after it.
     pub fn tick(&self, reports: &[u32]) -> Result<Ticked, Refusal> {
         self.sound()?;
         if reports.len() != self.own().len() {
@@ -257,7 +257,7 @@ impl State {
         Ok(Ticked { state, switched })
     }
 
-    /// Board: rows 10 and 16 for a buffer of so many bytes, else what is written to it.
+    /// Board: refusals 10 and 16 for a buffer of so many bytes, else what is written to it.
     pub fn board(&self, length: usize) -> Result<Vec<u8>, Refusal> {
         self.sound()?;
         if length != 2 * usize::from(self.processors) {

@@ -30,7 +30,7 @@ pub struct Plan {
 /// The bytes that the printer takes as the sheet.
 pub const PRINTER_INPUT: usize = 4_096;
 
-/// Plans what was read: row 7 over the tasks, then row 8.
+/// Plans what was read: refusal 7 over the tasks, then 8.
 pub fn plan(sheet: &Sheet) -> Result<Plan, Refusal> {
     let most = usize::from(sheet.processors);
     let options: Vec<Vec<Pair>> = sheet.tasks.iter().map(|task| options(task, most)).collect();

@@ -44,7 +44,7 @@ struct Pair {
     length: usize,
 }
 
-/// Reads a sheet: row 1; row 2 over all pairs; then per task rows 3, 4, 5, 6.
+/// Reads a sheet: refusal 1; 2 over all pairs; then per task 3, 4, 5, 6.
 pub fn read(sheet: &[u8]) -> Result<Sheet, Refusal> {
     let (processors, pairs) = header(sheet).ok_or(Refusal::whole(Cause::Header))?;
     let tasks = records(sheet, &pairs)?
