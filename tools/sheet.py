@@ -3,10 +3,12 @@
 
     sheet.py write TEXT [-o SHEET]     text to bytes
     sheet.py print SHEET [-o TEXT]     bytes to text
-    sheet.py check TEXT                only says what the reader would refuse
+    sheet.py check TEXT                only says which of refusals 1 to 6 the sheet would meet
+    sheet.py plan FILE                 plans a text or a sheet's bytes and shows the plan, or the refusal in words
 
 A tool for the host. It is no part of the image, and nothing is proved of it: the planner reads the bytes itself and
-takes nothing on this tool's word.
+takes nothing on this tool's word. `plan` hands the bytes to the proved printer and shows its answer; the printer has to
+be built, by `rt check plan_printer`.
 
 The text, where # begins a comment and the lines of a task stand in any order:
 
@@ -24,13 +26,24 @@ The text, where # begins a comment and the lines of a task stand in any order:
 
 An error is what can't be written, such as a number that does not fit its bytes; it names the line, nothing is written
 and the exit status is 1. What can be written but breaks a rule of the sheet (refusals 1 and 3 to 6) is written, with a
-warning that gives the refusal's number; so a refused sheet can be tried too. Refusals 7 and 8 are left to the planner.
+warning that gives the refusal's number; so a refused sheet can be tried too. Refusals 7 and 8 are the planner's to
+give: `plan` shows them.
 """
 
 import argparse
+import contextlib
+import pathlib
 import re
+import subprocess
 import sys
 from dataclasses import dataclass, field
+
+import console
+
+ROOT = pathlib.Path(__file__).resolve().parent.parent
+PRINTER = ROOT / "target" / "bin" / "plan_printer"
+PRINTER_INPUT = 4096  # bytes that the printer takes (S6.4)
+PATIENCE = 60  # seconds for the printer, which takes far less
 
 BYTE, WORD = 0xFF, 0xFFFF
 BITS = 32
@@ -93,9 +106,7 @@ GRAMMAR = {
 
 
 def quoted(text):
-    """A piece of the text for a message: short, and safe to show."""
-    shown = "".join(c if c.isprintable() else "?" for c in text[:60])
-    return f"'{shown}'" if len(text) <= 60 else f"'{shown}...'"
+    return f"'{console.shown(text, 60)}'"
 
 
 def number_of(line, what, word, most):
@@ -130,6 +141,8 @@ def lines_of(data):
             text = raw.decode("utf-8-sig" if line == 1 else "utf-8")
         except UnicodeDecodeError:
             raise SheetError(line, "expected text in UTF-8") from None
+        if "\0" in text:
+            raise SheetError(line, "expected text, got a byte 0")
         text = text.partition("#")[0].strip()
         if text:
             yield line, text
@@ -210,6 +223,8 @@ def parse(data):
         key = re.match(r"[^\s:]*", text).group()
         if key not in GRAMMAR:
             raise SheetError(line, f"expected one of {', '.join(GRAMMAR)} at the line's start, got {quoted(words[0])}")
+        if key != "task" and key != words[0]:
+            raise SheetError(line, f"expected '{GRAMMAR[key]}' with no colon, got {quoted(text)}")
         if key == "processors":
             claim(sheet.places, line, key, "the number of processors")
             sheet.processors = number_of(line, key, *shaped(line, words), BYTE)
@@ -389,61 +404,213 @@ def faults(sheet):
     return found
 
 
+# The plan.
+
+
+@dataclass
+class Entry:
+    """A line of the printer's plan: a task, its first processor and how many, in both states, its virtual deadline."""
+
+    task: int
+    typical: int
+    typically: int
+    critical: int
+    critically: int
+    virtual: int
+
+
+# What a refusal of the planner means and what to do; the README's table has more.
+REFUSALS = {
+    1: (
+        "the number of processors or of tasks is out of range, or the sheet is cut short",
+        "give 1 to 64 processors and 1 to 16 tasks",
+    ),
+    2: (
+        "its record is not where it should be, or the sheet does not end with the last record",
+        "make the bytes anew with sheet.py write",
+    ),
+    3: (
+        "its level, its number of nodes or the length of its record is wrong",
+        "give a level, high or low, and 1 to 32 nodes",
+    ),
+    4: (
+        "one of its figures is out of range, or they do not suit each other",
+        "mend its deadline, work or span; the warning says which",
+    ),
+    5: (
+        "a node comes after itself or after a node with a higher number",
+        "number the nodes so that whatever comes before has the lower number",
+    ),
+    6: (
+        "its overload work does not exceed its deadline: one processor would do for it",
+        "keep it out of the sheet, or make it part of another task",
+    ),
+    7: (
+        "it has no share, even with all processors to itself",
+        "give it a longer deadline, shorten its longest chain, or take more processors",
+    ),
+    8: (
+        "each task has a share, but no choice of them fits together",
+        "take more processors, take out a low task, or give a task a longer deadline",
+    ),
+}
+
+
+def of_bytes(data):
+    """Whether an input is a sheet's bytes. They hold a byte 0 (the first record's offset has one), and no text does."""
+    return b"\0" in data and not data.startswith((b"\xff\xfe", b"\xfe\xff"))
+
+
+def printed(data):
+    """What the printer says of a sheet's bytes."""
+    where = f"{console.named(str(PRINTER))}: error"
+    try:
+        done = subprocess.run([PRINTER], input=data, stdout=subprocess.PIPE, timeout=PATIENCE, check=False)
+    except FileNotFoundError:
+        build = f"run `rt check plan_printer` in {console.named(str(ROOT))}"
+        raise console.Failure(f"{where}: the printer is not built: {build}") from None
+    except OSError as error:
+        raise console.Failure(f"{where}: {error.strerror}") from None
+    except subprocess.TimeoutExpired:
+        raise console.Failure(f"{where}: no answer in {PATIENCE} seconds") from None
+    if done.returncode:
+        raise console.Failure(f"{where}: it ended with the status {done.returncode}")
+    return done.stdout.decode("ascii", "replace")
+
+
+def answer_of(text, tasks):
+    """The plan's entries, or a refusal's number and task, as the printer writes them (S6.1, S6.2)."""
+    refused = re.fullmatch(r"refused ([1-8]) (\d{1,3})\n", text)
+    if refused:
+        return None, int(refused.group(1)), int(refused.group(2))
+    rows = re.fullmatch(r"((\d{1,5} ){5}\d{1,5}\n)+", text)
+    entries = [Entry(*map(int, line.split())) for line in text.splitlines()] if rows else []
+    if not entries or [entry.task for entry in entries] != list(range(tasks)):
+        what = f"expected a plan for {tasks} tasks or a refusal, got {quoted(text)}"
+        raise console.Failure(f"{console.named(str(PRINTER))}: error: {what}")
+    return entries, 0, 255
+
+
+def processors(first, count):
+    if not count:
+        return "none"
+    return f"{first} (1)" if count == 1 else f"{first}-{first + count - 1} ({count})"
+
+
+def task_name(names, index):
+    """A task's number, and its name where the sheet's text gives one."""
+    name = names[index] if index < len(names) else ""
+    return f"{index} {console.shown(name, 40)}".rstrip()
+
+
+def plan_text(entries, names):
+    """The plan for people, a line for each task."""
+    rows = [("task", "typical", "critical", "virtual deadline")]
+    for entry in entries:
+        typical = processors(entry.typical, entry.typically)
+        critical = processors(entry.critical, entry.critically)
+        rows.append((task_name(names, entry.task), typical, critical, str(entry.virtual or "none")))
+    widths = [max(len(row[column]) for row in rows) for column in range(4)]
+    lines = ["  ".join(cell.ljust(width) for cell, width in zip(row, widths)).rstrip() for row in rows]
+    return "\n".join(lines) + "\n"
+
+
+def refusal_text(number, task, names):
+    cause, remedy = REFUSALS[number]
+    whose = "" if task == 255 else f"task {task_name(names, task)}: "
+    return f"refusal {number}: {whose}{cause}\n    what to do: {remedy}"
+
+
 # The commands.
 
 
-def read_input(path):
-    if path == "-":
-        return sys.stdin.buffer.read()
-    with open(path, "rb") as source:
-        return source.read()
-
-
-def write_output(path, data):
-    if path is not None:
-        with open(path, "wb") as target:
-            target.write(data)
-        return
-    sys.stdout.buffer.write(data)
-    sys.stdout.buffer.flush()
-
-
 def located(path, place, of_text):
-    return f"{path}:{place}" if of_text else f"{path}: offset {place}"
+    return f"{console.named(path)}:{place}" if of_text else f"{console.named(path)}: offset {place}"
 
 
 def warn(path, found, of_text):
     for fault in found:
         task = "" if fault.task == 255 else f"task {fault.task}, "
         where = located(path, fault.place, of_text)
-        print(f"{where}: warning: {task}refusal {fault.number}: {fault.cause}", file=sys.stderr)
+        console.say(f"{where}: warning: {task}refusal {fault.number}: {fault.cause}")
 
 
-def run(options):
-    of_text = options.command != "print"
-    path = options.file
+def read_text(path, data):
+    """The sheet that a text says, and its bytes."""
     try:
-        data = read_input(path)
-        sheet = parse(data) if of_text else decode(data)
-        output = encode(sheet) if of_text else render(sheet).encode()
-        found = faults(sheet)
-        warn(path, found, of_text)
-        if options.command == "check":
-            if not found:
-                count = "1 task" if len(sheet.tasks) == 1 else f"{len(sheet.tasks)} tasks"
-                print(f"{path}: the reader takes this sheet: {count}, {len(output)} bytes")
-            return 1 if found else 0
-        if options.command == "write" and options.output is None and sys.stdout.isatty():
-            print(f"{path}: a sheet is bytes, not text: give -o FILE, or a pipe", file=sys.stderr)
-            return 1
-        write_output(options.output, output)
-        return 0
+        sheet = parse(data)
+        return sheet, encode(sheet)
     except SheetError as error:
-        print(f"{located(path, error.place, of_text)}: error: {error}", file=sys.stderr)
+        raise console.Failure(f"{located(path, error.place, True)}: error: {error}") from None
+
+
+def read_bytes(path, data):
+    try:
+        return decode(data)
+    except SheetError as error:
+        raise console.Failure(f"{located(path, error.place, False)}: error: {error}") from None
+
+
+def run_write(options):
+    sheet, data = read_text(options.file, console.read(options.file))
+    warn(options.file, faults(sheet), True)
+    if options.output is None and sys.stdout is not None and sys.stdout.isatty():
+        raise console.Failure(f"{console.named(options.file)}: a sheet is bytes, not text: give -o FILE, or a pipe")
+    console.write(options.output, data)
+    return 0
+
+
+def run_print(options):
+    sheet = read_bytes(options.file, console.read(options.file))
+    warn(options.file, faults(sheet), False)
+    console.write(options.output, render(sheet).encode())
+    return 0
+
+
+def run_check(options):
+    sheet, data = read_text(options.file, console.read(options.file))
+    found = faults(sheet)
+    warn(options.file, found, True)
+    if found:
         return 1
-    except OSError as error:
-        print(f"{error.filename or path}: error: {error.strerror}", file=sys.stderr)
-        return 1
+    path, count = console.named(options.file), len(sheet.tasks)
+    tasks = "1 task" if count == 1 else f"{count} tasks"
+    console.put(f"{path}: checked for refusals 1 to 6, none found: {tasks}, {len(data)} bytes\n")
+    console.put(f"{path}: 7 and 8 are the planner's to give: sheet.py plan {path}\n")
+    return 0
+
+
+def run_plan(options):
+    """The planner's answer comes from the printer alone; a text gives the names and the lines."""
+    data, tasks = console.read(options.file), []
+    if of_bytes(data):
+        where, count = f"{console.named(options.file)}: as bytes", data[1] if len(data) > 1 else 0
+        with contextlib.suppress(SheetError):
+            warn(options.file, faults(decode(data)), False)
+    else:
+        where = console.named(options.file)
+        sheet, data = read_text(options.file, data)
+        tasks, count = sheet.tasks, len(sheet.tasks)
+        warn(options.file, faults(sheet), True)
+    if len(data) > PRINTER_INPUT:
+        what = f"the sheet has {len(data)} bytes; the printer takes {PRINTER_INPUT}, and none with more can be planned"
+        raise console.Failure(f"{where}: error: {what}")
+    names = [task.name for task in tasks]
+    entries, number, task = answer_of(printed(data), count)
+    if entries is None:
+        if task < len(tasks):
+            where = located(options.file, tasks[task].places["task"], True)
+        raise console.Failure(f"{where}: {refusal_text(number, task, names)}")
+    console.put(plan_text(entries, names))
+    return 0
+
+
+COMMANDS = {
+    "write": (run_write, "write a sheet's bytes from a text"),
+    "print": (run_print, "print a sheet's bytes as a text"),
+    "check": (run_check, "only say which of refusals 1 to 6 the sheet would meet"),
+    "plan": (run_plan, "plan a text or a sheet's bytes and show the plan"),
+}
 
 
 def main(arguments=None):
@@ -452,18 +619,15 @@ def main(arguments=None):
         formatter_class=argparse.RawDescriptionHelpFormatter,
         usage="sheet.py COMMAND FILE [-o FILE]",
     )
-    commands = parser.add_subparsers(dest="command", required=True, metavar="COMMAND")
-    for name, what in (
-        ("write", "write a sheet's bytes from a text"),
-        ("print", "print a sheet's bytes as a text"),
-        ("check", "only say what the reader would refuse"),
-    ):
+    commands = parser.add_subparsers(dest="command", required=True, metavar="COMMAND", prog="sheet.py")
+    for name, (_, what) in COMMANDS.items():
         command = commands.add_parser(name, help=what)
         command.add_argument("file", help="the file to read; - for standard input")
-        if name != "check":
+        if name in ("write", "print"):
             command.add_argument("-o", dest="output", metavar="FILE", help="where to write, if not to standard output")
-    return run(parser.parse_args(arguments))
+    options = parser.parse_args(arguments)
+    return COMMANDS[options.command][0](options)
 
 
 if __name__ == "__main__":
-    sys.exit(main())
+    sys.exit(console.run(main))

@@ -15,10 +15,14 @@ An illustration for the host. It is no part of the image, and nothing is proved 
 """
 
 import argparse
+import re
 import sys
 from dataclasses import dataclass
 
+import console
 import sheet as sheets
+
+LONGEST = sheets.MAX_NODES * sheets.MAX_FIGURE  # ticks of a job; a length is at most a figure
 
 
 @dataclass
@@ -97,71 +101,81 @@ def budget(task, lengths):
     return f"work {work}, longest chain {span}: keeps {kept}"
 
 
-def print_run(task, run):
+def show_run(task, run):
     rows = [("tick", "state", "running", "ended", "")]
     for number, tick in enumerate(run.ticks, 1):
         lists = [" ".join(map(str, nodes)) for nodes in (tick.running, tick.ended)]
         state = "critical" if tick.critical else "typical"
         rows.append((str(number), state, *lists, "switched" if tick.switched else ""))
     widths = [max(len(row[column]) for row in rows) for column in range(5)]
-    for row in rows:
-        print("  ".join(cell.ljust(width) for cell, width in zip(row, widths)).rstrip())
+    lines = ["  ".join(cell.ljust(width) for cell, width in zip(row, widths)).rstrip() for row in rows]
     switch = "no switch" if run.switch is None else f"switched after tick {run.switch}"
-    print(f"{verdict(task, run)}, {switch}")
+    console.put("\n".join([*lines, f"{verdict(task, run)}, {switch}\n"]))
 
 
-def print_each(task, shares, lengths, virtual):
+def show_each(task, shares, lengths, virtual):
     own = simulate(task, shares, lengths, virtual)
     last = own.switch if own.switch is not None else len(own.ticks)
     for after in range(last):
         run = simulate(task, shares, lengths, virtual, after)
-        print(f"switch after tick {after}: {verdict(task, run)}")
+        console.put(f"switch after tick {after}: {verdict(task, run)}\n")
     switch = "no switch" if own.switch is None else f"its own switch after tick {own.switch}"
-    print(f"{switch}: {verdict(task, own)}")
+    console.put(f"{switch}: {verdict(task, own)}\n")
+
+
+def number(least, most):
+    """A reader of numbers in a range, for the parser."""
+
+    def read(word):
+        digits = word.lstrip("0") or "0"
+        if not re.fullmatch("[0-9]+", word) or len(digits) > 9 or not least <= int(digits) <= most:
+            raise argparse.ArgumentTypeError(f"expected a number from {least} to {most}, got {sheets.quoted(word)}")
+        return int(digits)
+
+    return read
 
 
 def chosen_task(parser, options):
-    """The task, with shares and lengths that suit it; the parser's error ends the program."""
-    try:
-        sheet = sheets.parse(sheets.read_input(options.file))
-    except sheets.SheetError as error:
-        parser.error(f"{options.file}:{error.place}: {error}")
-    except OSError as error:
-        parser.error(f"{options.file}: {error.strerror}")
+    """The task, with shares and lengths that suit it. What is wrong with these is the parser's error."""
+    sheet, _ = sheets.read_text(options.file, console.read(options.file))
     for fault in sheets.faults(sheet):
-        parser.error(f"{options.file}:{fault.place}: refusal {fault.number}: {fault.cause}")
+        where = sheets.located(options.file, fault.place, True)
+        raise console.Failure(f"{where}: error: refusal {fault.number}: {fault.cause}")
     if not 0 <= options.task < len(sheet.tasks):
         parser.error(f"--task: expected a number below {len(sheet.tasks)}, the tasks, got {options.task}")
     task = sheet.tasks[options.task]
     expected = 1 + task.level
-    if len(options.shares) != expected or min(options.shares) < 1:
-        parser.error(f"--shares: expected {expected}, each at least 1, for a {'high' if task.level else 'low'} task")
-    if len(options.lengths) != len(task.predecessors) or min(options.lengths) < 1:
-        parser.error(f"--lengths: expected {len(task.predecessors)}, one for each node, each at least 1")
+    if len(options.shares) != expected:
+        level = "high" if task.level else "low"
+        parser.error(f"--shares: expected {expected} for a {level} task, got {len(options.shares)}")
+    if len(options.lengths) != len(task.predecessors):
+        nodes = len(task.predecessors)
+        parser.error(f"--lengths: expected {nodes}, one for each node, got {len(options.lengths)}")
     return task
 
 
 def main(arguments=None):
     parser = argparse.ArgumentParser(description=__doc__, formatter_class=argparse.RawDescriptionHelpFormatter)
+    share, length = number(1, sheets.MAX_PROCESSORS), number(1, sheets.MAX_FIGURE)
     parser.add_argument("file", metavar="TEXT")
-    parser.add_argument("--task", type=int, default=0, metavar="I")
-    parser.add_argument("--shares", type=int, nargs="+", required=True, metavar="N")
-    parser.add_argument("--lengths", type=int, nargs="+", required=True, metavar="N")
-    parser.add_argument("--virtual-deadline", type=int, metavar="V")
-    parser.add_argument("--switch-after", type=int, metavar="T")
+    parser.add_argument("--task", type=number(0, sheets.BYTE), default=0, metavar="I")
+    parser.add_argument("--shares", type=share, nargs="+", required=True, metavar="N")
+    parser.add_argument("--lengths", type=length, nargs="+", required=True, metavar="N")
+    parser.add_argument("--virtual-deadline", type=number(1, sheets.MAX_FIGURE), metavar="V")
+    parser.add_argument("--switch-after", type=number(0, LONGEST), metavar="T")
     parser.add_argument("--switch-each", action="store_true")
     options = parser.parse_args(arguments)
     task = chosen_task(parser, options)
     virtual = options.virtual_deadline
     if virtual is None:
         virtual = virtual_deadline(task, options.shares[0])
-    print(budget(task, options.lengths))
+    console.put(budget(task, options.lengths) + "\n")
     if options.switch_each:
-        print_each(task, options.shares, options.lengths, virtual)
+        show_each(task, options.shares, options.lengths, virtual)
     else:
-        print_run(task, simulate(task, options.shares, options.lengths, virtual, options.switch_after))
+        show_run(task, simulate(task, options.shares, options.lengths, virtual, options.switch_after))
     return 0
 
 
 if __name__ == "__main__":
-    sys.exit(main())
+    sys.exit(console.run(main))

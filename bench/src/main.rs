@@ -5,7 +5,6 @@ mod dispatcher;
 mod inputs;
 mod plain;
 mod planner;
-mod proved;
 mod rows;
 mod sheet;
 mod timing;

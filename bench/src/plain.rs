@@ -1,13 +1,10 @@
 //! The plain Rust behind the same signatures as the exported functions, with the same bytes and answer words.
 use crate::dispatcher::{self, State, TaskState, TickAnswer};
 use crate::planner::{self, Share};
-use crate::sheet::{Answer, Refusal, NO_TASK, TASKS};
+use crate::sheet::{Answer, Refusal};
+use dibwunek_tests::harness::boundary::{ENTRY, HEAD, STATE};
+use dibwunek_tests::reference::answers::NO_TASK;
 use std::hint::black_box;
-
-const HEAD: usize = 3;
-const ENTRY: usize = 149;
-/// The bytes of a state.
-pub const STATE: usize = HEAD + TASKS * ENTRY;
 
 const ACCEPTED: u32 = 256 * NO_TASK as u32;
 const SWITCHED: u32 = 65_536;
@@ -42,7 +39,7 @@ fn decoded_entry(bytes: &[u8; ENTRY]) -> TaskState {
         share: Share { typical: bytes[2], critical: bytes[3] },
         alive: bytes[4] != 0,
         deadline: u32_at(bytes, 5),
-        threshold: u32_at(bytes, 9),
+        virtual_deadline: u32_at(bytes, 9),
         age: u32_at(bytes, 13),
         ended: u32_at(bytes, 17),
         masks: std::array::from_fn(|v| u32_at(bytes, 21 + 4 * v)),
@@ -70,7 +67,7 @@ fn decoded(bytes: &[u8]) -> State {
 fn encode_entry(entry: &TaskState, bytes: &mut [u8]) {
     let TaskState { level, nodes, share, alive, .. } = *entry;
     bytes[..5].copy_from_slice(&[level, nodes, share.typical, share.critical, alive.into()]);
-    let times = [entry.deadline, entry.threshold, entry.age, entry.ended];
+    let times = [entry.deadline, entry.virtual_deadline, entry.age, entry.ended];
     for (bytes, number) in bytes[5..].chunks_exact_mut(4).zip(times.iter().chain(&entry.masks)) {
         bytes.copy_from_slice(&number.to_le_bytes());
     }

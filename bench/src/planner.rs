@@ -1,8 +1,11 @@
 //! The planner in plain Rust, written from the specification.
-use crate::sheet::{read, refusal, Answer, Figures, Refusal, Task, TaskSet, HIGH, NO_TASK, TASKS};
+use crate::sheet::{read, refusal, Answer, Figures, Refusal, Task, TaskSet};
+use dibwunek_tests::reference::answers::NO_TASK;
+use dibwunek_tests::reference::dispatcher::HIGH;
+use dibwunek_tests::reference::reader::TASKS;
 
 /// The least critical share at each typical share 1 to 64; M + 1 for none.
-type Row = [u8; 64];
+type Offer = [u8; 64];
 /// The least critical total at each typical total 0 to 64; M + 1 for none.
 type Totals = [u8; 65];
 
@@ -12,18 +15,18 @@ pub struct Share {
     pub critical: u8,
 }
 
-fn row(task: &Task, m: u8) -> Row {
-    let mut row = [m + 1; 64];
+fn offer(task: &Task, m: u8) -> Offer {
+    let mut offer = [m + 1; 64];
     if task.level == HIGH {
         for a in 1..=m {
             if let Some(b) = least_critical(&task.figures, a, m) {
-                row[usize::from(a) - 1] = b;
+                offer[usize::from(a) - 1] = b;
             }
         }
     } else if let Some(a) = low_share(&task.figures, m) {
-        row[usize::from(a) - 1] = 0;
+        offer[usize::from(a) - 1] = 0;
     }
-    row
+    offer
 }
 
 fn low_share(f: &Figures, m: u8) -> Option<u8> {
@@ -45,21 +48,21 @@ fn least_critical(f: &Figures, a: u8, m: u8) -> Option<u8> {
 }
 
 /// The least sum of a task's critical share and the rest's total, over the typical shares 1 to t.
-fn least_sum(row: &Row, rest: &Totals, t: usize) -> u8 {
-    row[..t].iter().zip(rest[..t].iter().rev()).map(|(x, y)| x + y).min().unwrap_or(u8::MAX)
+fn least_sum(offer: &Offer, rest: &Totals, t: usize) -> u8 {
+    offer[..t].iter().zip(rest[..t].iter().rev()).map(|(x, y)| x + y).min().unwrap_or(u8::MAX)
 }
 
-/// Row 8, and the shares of the tasks with these rows. Iterators in place of the index t take more instructions.
+/// Refusal 8, and the shares of the tasks with these offers. Iterators in place of the index t take more instructions.
 #[allow(clippy::needless_range_loop)]
-fn select(rows: &[Row], m: u8) -> Result<[Share; TASKS], Refusal> {
-    let n = rows.len();
+fn select(offers: &[Offer], m: u8) -> Result<[Share; TASKS], Refusal> {
+    let n = offers.len();
     let end = usize::from(m);
     let mut totals = [[m + 1; 65]; TASKS + 1];
     totals[n][0] = 0;
     for i in (0..n).rev() {
         let rest = totals[i + 1];
         for t in 1..=end {
-            totals[i][t] = least_sum(&rows[i], &rest, t).min(m + 1);
+            totals[i][t] = least_sum(&offers[i], &rest, t).min(m + 1);
         }
     }
     let least = totals[0][..=end].iter().copied().min().unwrap_or(m + 1);
@@ -68,26 +71,26 @@ fn select(rows: &[Row], m: u8) -> Result<[Share; TASKS], Refusal> {
     }
     let mut left = totals[0].iter().position(|&total| total == least).unwrap_or(0);
     let mut shares = [Share::default(); TASKS];
-    for (i, row) in rows.iter().enumerate() {
+    for (i, offer) in offers.iter().enumerate() {
         let (total, rest) = (totals[i][left], &totals[i + 1]);
-        let a = (1..=left).find(|&a| row[a - 1] + rest[left - a] == total).unwrap_or(left);
-        shares[i] = Share { typical: a as u8, critical: row[a - 1] };
+        let a = (1..=left).find(|&a| offer[a - 1] + rest[left - a] == total).unwrap_or(left);
+        shares[i] = Share { typical: a as u8, critical: offer[a - 1] };
         left -= a;
     }
     Ok(shares)
 }
 
-/// Rows 7 and 8, and the shares that are chosen.
+/// Refusals 7 and 8, and the shares that are chosen.
 pub fn choose(set: &TaskSet) -> Result<[Share; TASKS], Refusal> {
     let m = set.processors;
-    let mut rows = [[0; 64]; TASKS];
+    let mut offers = [[0; 64]; TASKS];
     for (i, task) in set.tasks().iter().enumerate() {
-        rows[i] = row(task, m);
-        if rows[i].iter().all(|&b| b > m) {
+        offers[i] = offer(task, m);
+        if offers[i].iter().all(|&b| b > m) {
             return Err(refusal(7, i));
         }
     }
-    select(&rows[..usize::from(set.count)], m)
+    select(&offers[..usize::from(set.count)], m)
 }
 
 pub fn virtual_deadline(task: &Task, a: u8) -> u32 {

@@ -1,7 +1,8 @@
 //! The rows of the table: a call on an input, on both sides.
 use crate::inputs::Input;
-use crate::plain::STATE;
-use crate::{plain, proved};
+use crate::plain;
+use dibwunek_tests::harness::boundary::STATE;
+use dibwunek_tests::harness::proved::calls as proved;
 use std::hint::black_box;
 
 type Call = Box<dyn FnMut() -> u32>;

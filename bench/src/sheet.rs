@@ -1,9 +1,7 @@
 //! The reader in plain Rust, written from the specification.
-
-pub const TASKS: usize = 16;
-pub const NODES: usize = 32;
-pub const NO_TASK: u8 = 255;
-pub const HIGH: u8 = 1;
+use dibwunek_tests::reference::answers::NO_TASK;
+use dibwunek_tests::reference::dispatcher::HIGH;
+use dibwunek_tests::reference::reader::{NODES, TASKS};
 
 /// Number and task of a refusal, as in S9.
 #[derive(Clone, Copy, Debug, PartialEq, Eq)]
@@ -47,7 +45,7 @@ impl TaskSet {
     }
 }
 
-/// Rows 1 and 2, then for each task rows 3 to 6.
+/// Refusals 1 and 2, then for each task 3 to 6.
 pub fn read(sheet: &[u8]) -> Result<TaskSet, Refusal> {
     let header = Refusal { number: 1, task: NO_TASK };
     let &[processors @ 1..=64, count @ 1..=16, ref rest @ ..] = sheet else { return Err(header) };

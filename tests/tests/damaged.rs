@@ -1,8 +1,8 @@
 //! Valid sheets cut at every length, made longer, and with bits and bytes changed.
-use dibwunek_tests::agreement::Tally;
-use dibwunek_tests::proved::Answer;
-use dibwunek_tests::random::Random;
-use dibwunek_tests::sheets::{small, valid, Draft, CASE_14};
+use dibwunek_tests::harness::agreement::Tally;
+use dibwunek_tests::makers::random::Random;
+use dibwunek_tests::makers::sheets::{small, valid, Draft, CASE_14};
+use dibwunek_tests::reference::answers::Answer;
 
 /// What the specification gives a valid sheet whose length is not its own.
 fn of_length(length: usize, count: usize) -> Answer {

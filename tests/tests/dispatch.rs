@@ -1,12 +1,12 @@
 //! The proved dispatcher beside the independent one on random states, sound and not: answers, whole states and boards
 //! agree, and a refused call returns an equal state.
-use dibwunek_tests::answers::Reply;
-use dibwunek_tests::boundary::{of_bytes, to_bytes, Dispatcher, Independent};
-use dibwunek_tests::counts::{hold, Counts};
-use dibwunek_tests::dispatcher::State;
-use dibwunek_tests::proved::dispatching::Proved;
-use dibwunek_tests::random::Random;
-use dibwunek_tests::states::{not_running, report, sound, unsound, with_ones, FAULTS};
+use dibwunek_tests::harness::boundary::{of_bytes, to_bytes, Dispatcher, Independent};
+use dibwunek_tests::harness::counts::{hold, Counts};
+use dibwunek_tests::harness::proved::dispatching::Proved;
+use dibwunek_tests::makers::random::Random;
+use dibwunek_tests::makers::states::{not_running, report, sound, unsound, with_ones, FAULTS};
+use dibwunek_tests::reference::answers::Reply;
+use dibwunek_tests::reference::dispatcher::State;
 
 /// Compares the two dispatchers call by call, and counts the answers.
 struct Comparison {
@@ -38,7 +38,7 @@ impl Comparison {
         let proved = Proved.board(state, &mut buffer);
         let reply = Independent.board(state, &mut expected);
         hold(&(proved, &buffer), &(reply, &expected), on);
-        assert!(reply.row() == 0 || buffer == before);
+        assert!(reply.number() == 0 || buffer == before);
         self.count("board", state, (reply, state.to_vec())).0
     }
 
@@ -46,9 +46,9 @@ impl Comparison {
         match reply {
             Reply::Done => self.counts.add(done),
             Reply::Switched(_) => self.counts.add("switched"),
-            Reply::Refused(row, _) => {
+            Reply::Refused(number, _) => {
                 assert!(before == after, "a refused call changed the state {:?}", of_bytes(before));
-                self.counts.add(row);
+                self.counts.add(number);
             }
         }
         (reply, after)

@@ -1,8 +1,8 @@
 //! Sheets with one fault of each kind at each task, and with several: the specification gives each its answer.
-use dibwunek_tests::agreement::Tally;
-use dibwunek_tests::faults::{of_directory, of_header, of_record, one_of_record, twice_of_record, Faulty};
-use dibwunek_tests::random::Random;
-use dibwunek_tests::sheets::{small, valid, Draft};
+use dibwunek_tests::harness::agreement::Tally;
+use dibwunek_tests::makers::faults::{of_directory, of_header, of_record, one_of_record, twice_of_record, Faulty};
+use dibwunek_tests::makers::random::Random;
+use dibwunek_tests::makers::sheets::{small, valid, Draft};
 
 #[test]
 fn single_faults() {
@@ -24,8 +24,8 @@ fn single_faults_of(draft: &Draft, random: &mut Random, tally: &mut Tally) {
         tally.expect(&sheet, answer);
     }
     for task in 0..draft.records.len() {
-        for (row, record) in of_record(&draft.records[task], random) {
-            tally.expect(&draft.with_record(task, record).bytes(), (row, task as u8));
+        for (number, record) in of_record(&draft.records[task], random) {
+            tally.expect(&draft.with_record(task, record).bytes(), (number, task as u8));
         }
     }
 }
@@ -37,8 +37,8 @@ fn two_faults_in_one_task() {
     for count in (1..=16).chain(1..=16) {
         let draft = Draft::of(&small(&mut random, count));
         for task in 0..count {
-            for (row, record) in twice_of_record(&draft.records[task], &mut random) {
-                tally.expect(&draft.with_record(task, record).bytes(), (row, task as u8));
+            for (number, record) in twice_of_record(&draft.records[task], &mut random) {
+                tally.expect(&draft.with_record(task, record).bytes(), (number, task as u8));
             }
         }
     }
@@ -54,13 +54,13 @@ fn faults_in_two_tasks_then_in_the_directory_then_in_the_header() {
         let mut draft = Draft::of(&small(&mut random, count));
         let later = random.within(1..=count - 1);
         let earlier = random.within(0..=later - 1);
-        let mut row = 0;
+        let mut number = 0;
         for task in [later, earlier] {
             let (of, record) = one_of_record(&draft.records[task], &mut random);
-            (row, draft) = (of, draft.with_record(task, record));
+            (number, draft) = (of, draft.with_record(task, record));
         }
         let mut sheet = draft.bytes();
-        tally.expect(&sheet, (row, earlier as u8));
+        tally.expect(&sheet, (number, earlier as u8));
 
         sheet.push(0);
         tally.expect(&sheet, (2, count as u8 - 1));

@@ -1,7 +1,7 @@
 //! Bytes that nobody wrote as a sheet.
-use dibwunek_tests::agreement::Tally;
-use dibwunek_tests::random::Random;
-use dibwunek_tests::sheets::plausible;
+use dibwunek_tests::harness::agreement::Tally;
+use dibwunek_tests::makers::random::Random;
+use dibwunek_tests::makers::sheets::plausible;
 
 #[test]
 fn every_header_of_two_bytes() {

@@ -1,12 +1,12 @@
 //! The proved planner beside the independent one: the answer and every byte of the buffer agree.
-use dibwunek_tests::answers::Reply;
-use dibwunek_tests::counts::{hold, Counts};
-use dibwunek_tests::planner::{self, plan_into};
-use dibwunek_tests::proved::planning;
-use dibwunek_tests::random::Random;
-use dibwunek_tests::reader::{Sheet, Task};
-use dibwunek_tests::sheets::{plausible, valid, Draft, CASE_14};
-use dibwunek_tests::tight;
+use dibwunek_tests::harness::counts::{hold, Counts};
+use dibwunek_tests::harness::proved::planning;
+use dibwunek_tests::makers::random::Random;
+use dibwunek_tests::makers::sheets::{plausible, valid, Draft, CASE_14};
+use dibwunek_tests::makers::tight;
+use dibwunek_tests::reference::answers::Reply;
+use dibwunek_tests::reference::planner::{self, plan_into};
+use dibwunek_tests::reference::reader::{Sheet, Task};
 
 /// Compares the two planners on a sheet and a buffer of random bytes, and gives their answer.
 fn check(sheet: &[u8], length: usize, random: &mut Random, counts: &mut Counts) -> Reply {
@@ -15,7 +15,7 @@ fn check(sheet: &[u8], length: usize, random: &mut Random, counts: &mut Counts) 
     let mut buffer = before;
     let proved = planning::plan(sheet, &mut buffer);
     hold(&(proved, buffer), &(reply, after), || format!("the sheet {sheet:?} and {length} bytes of buffer"));
-    counts.add(format!("{:2}", reply.row()));
+    counts.add(format!("{:2}", reply.number()));
     reply
 }
 
@@ -51,7 +51,7 @@ fn just_enough_processors() {
         for processors in least.saturating_sub(2).max(1)..=64.min(least + 2) {
             let length = near(&mut random, count);
             let reply = check(&bytes(processors, &tasks), length, &mut random, &mut counts);
-            assert_eq!(matches!(reply.row(), 7 | 8), processors < least);
+            assert_eq!(matches!(reply.number(), 7 | 8), processors < least);
         }
     }
     counts.close(OF_PLANNER, 80);
@@ -119,7 +119,7 @@ fn damaged_sheets() {
         let length = near(&mut random, count);
         check(&sheet, length, &mut random, &mut counts);
     }
-    counts.close((0..=8).map(|row| format!("{row:2}")), 10);
+    counts.close((0..=8).map(|number| format!("{number:2}")), 10);
 }
 
 #[test]

@@ -1,9 +1,9 @@
 //! The printing program, run as a process: what it writes is what the specification says of its input.
-use dibwunek_tests::counts::{hold, Counts};
-use dibwunek_tests::planner::{printed, PRINTER_INPUT};
-use dibwunek_tests::random::Random;
-use dibwunek_tests::sheets::{plausible, valid, Draft, CASE_14};
-use dibwunek_tests::tight;
+use dibwunek_tests::harness::counts::{hold, Counts};
+use dibwunek_tests::makers::random::Random;
+use dibwunek_tests::makers::sheets::{plausible, valid, Draft, CASE_14};
+use dibwunek_tests::makers::tight;
+use dibwunek_tests::reference::planner::{printed, PRINTER_INPUT};
 use std::io::{ErrorKind, Write};
 use std::path::Path;
 use std::process::{Command, Stdio};

@@ -1,7 +1,7 @@
 //! Whole lists of calls on the proved dispatcher, from fresh states.
-use dibwunek_tests::boundary::start;
-use dibwunek_tests::proved::dispatching::Proved;
-use dibwunek_tests::suites::{self, Subject};
+use dibwunek_tests::harness::boundary::start;
+use dibwunek_tests::harness::proved::dispatching::Proved;
+use dibwunek_tests::harness::suites::{self, Subject};
 
 const SUBJECT: Subject = Subject { dispatcher: &Proved, start };
 

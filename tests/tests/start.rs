@@ -1,18 +1,18 @@
 //! The proved Start beside the independent one: the answer and every byte of the state agree.
-use dibwunek_tests::answers::Reply;
-use dibwunek_tests::boundary::{self, STATE};
-use dibwunek_tests::counts::{hold, Counts};
-use dibwunek_tests::proved::dispatching::Proved;
-use dibwunek_tests::proved::starting;
-use dibwunek_tests::random::Random;
-use dibwunek_tests::sheets::{plausible, valid, Draft, CASE_14};
-use dibwunek_tests::suites::{self, Subject};
-use dibwunek_tests::tight;
+use dibwunek_tests::harness::boundary::{self, STATE};
+use dibwunek_tests::harness::counts::{hold, Counts};
+use dibwunek_tests::harness::proved::dispatching::Proved;
+use dibwunek_tests::harness::proved::starting;
+use dibwunek_tests::harness::suites::{self, Subject};
+use dibwunek_tests::makers::random::Random;
+use dibwunek_tests::makers::sheets::{plausible, valid, Draft, CASE_14};
+use dibwunek_tests::makers::tight;
+use dibwunek_tests::reference::answers::Reply;
 
 fn check(sheet: &[u8], counts: &mut Counts) {
     let (reply, state) = boundary::start(sheet);
     hold(&starting::start(sheet), &(reply, state), || format!("the sheet {sheet:?}"));
-    counts.add(reply.row());
+    counts.add(reply.number());
 }
 
 #[test]

@@ -1,8 +1,8 @@
 //! Sheets that must be accepted: the answer and the whole task set agree.
-use dibwunek_tests::agreement::Tally;
-use dibwunek_tests::proved;
-use dibwunek_tests::random::Random;
-use dibwunek_tests::sheets::{valid, Draft, CASE_14};
+use dibwunek_tests::harness::agreement::Tally;
+use dibwunek_tests::harness::proved;
+use dibwunek_tests::makers::random::Random;
+use dibwunek_tests::makers::sheets::{valid, Draft, CASE_14};
 
 #[test]
 fn case_14() {

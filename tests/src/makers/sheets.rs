@@ -1,7 +1,6 @@
 //! Makers of sheets: random valid ones, and bytes that look more or less like a sheet.
-use crate::proved::{NODES, TASKS};
-use crate::random::Random;
-use crate::reader::{Figures, Level, Sheet, Task};
+use crate::makers::random::Random;
+use crate::reference::reader::{Figures, Level, Sheet, Task, NODES, TASKS};
 
 /// The largest figure, and the most processors.
 pub const LIMIT: usize = 10_000;
@@ -154,7 +153,7 @@ fn plausible_record(random: &mut Random) -> Vec<u8> {
 #[cfg(test)]
 mod tests {
     use super::*;
-    use crate::reader::read;
+    use crate::reference::reader::read;
 
     #[test]
     fn the_reader_gives_back_what_was_drafted() {

@@ -1,6 +1,6 @@
 //! The answers of the specification's section S9.
 
-/// The cause of a refusal; its value is the row's number.
+/// The cause of a refusal; its value is the number of its clause.
 #[derive(Clone, Copy, Debug, PartialEq, Eq)]
 pub enum Cause {
     Header = 1,
@@ -21,7 +21,10 @@ pub enum Cause {
     BoardBuffer = 16,
 }
 
-/// A refusal, with the task that its row names.
+/// The task of an answer that names none.
+pub const NO_TASK: u8 = 255;
+
+/// A refusal, with the task that it names.
 #[derive(Clone, Copy, Debug, PartialEq, Eq)]
 pub struct Refusal {
     pub cause: Cause,
@@ -33,11 +36,19 @@ impl Refusal {
         Refusal { cause, task: Some(task) }
     }
 
-    /// A refusal by a row that names no task.
+    /// A refusal that names no task.
     pub fn whole(cause: Cause) -> Refusal {
         Refusal { cause, task: None }
     }
+
+    /// Its number and task.
+    pub fn answer(self) -> Answer {
+        (self.cause as u8, self.task.map_or(NO_TASK, |task| task as u8))
+    }
 }
+
+/// Number and task of an answer; accepted is (0, 255).
+pub type Answer = (u8, u8);
 
 /// What a call answers.
 #[derive(Clone, Copy, Debug, PartialEq, Eq, PartialOrd, Ord)]
@@ -46,7 +57,7 @@ pub enum Reply {
     Done,
     /// A tick turned the state critical, because of this task.
     Switched(u8),
-    /// Refused, with the number of the row and its task, 255 where it names none.
+    /// Refused, with its number and its task, 255 where it names none.
     Refused(u8, u8),
 }
 
@@ -61,8 +72,8 @@ impl Reply {
         }
     }
 
-    /// The row of a refusal; 0 where there is none.
-    pub fn row(self) -> usize {
+    /// The number of a refusal; 0 where there is none.
+    pub fn number(self) -> usize {
         match self {
             Reply::Refused(number, _) => number.into(),
             _ => 0,
@@ -71,7 +82,8 @@ impl Reply {
 }
 
 impl From<Refusal> for Reply {
-    fn from(Refusal { cause, task }: Refusal) -> Reply {
-        Reply::Refused(cause as u8, task.map_or(255, |task| task as u8))
+    fn from(refusal: Refusal) -> Reply {
+        let (number, task) = refusal.answer();
+        Reply::Refused(number, task)
     }
 }

@@ -1,6 +1,11 @@
 //! A reader of sheets by S2 and refusals 1 to 6 of the specification.
 //! It shares nothing with the proved one: neither code nor definitions.
-use crate::answers::{Cause, Refusal};
+use crate::reference::answers::{Cause, Refusal};
+
+/// The most tasks of a sheet.
+pub const TASKS: usize = 16;
+/// The most nodes of a task.
+pub const NODES: usize = 32;
 
 /// What a sheet says: M, and the tasks in their order.
 #[derive(Clone, Debug, PartialEq, Eq)]
@@ -39,7 +44,7 @@ struct Pair {
     length: usize,
 }
 
-/// Reads a sheet: row 1; row 2 over all pairs; then per task rows 3, 4, 5, 6.
+/// Reads a sheet: refusal 1; 2 over all pairs; then per task 3, 4, 5, 6.
 pub fn read(sheet: &[u8]) -> Result<Sheet, Refusal> {
     let (processors, pairs) = header(sheet).ok_or(Refusal::whole(Cause::Header))?;
     let tasks = records(sheet, &pairs)?
@@ -114,7 +119,7 @@ fn u16s(bytes: &[u8]) -> impl Iterator<Item = u16> + '_ {
 #[cfg(test)]
 mod tests {
     use super::*;
-    use crate::sheets::CASE_14;
+    use crate::makers::sheets::CASE_14;
 
     fn refused(cause: Cause, task: usize) -> Result<Sheet, Refusal> {
         Err(Refusal::of(cause, task))

@@ -1,13 +1,13 @@
 //! The world around a dispatcher: lists of calls in which jobs run for lengths of the world's choice, made on the
 //! independent dispatcher.
-use crate::answers::Cause;
-use crate::crafts::{Crafted, Kind};
-use crate::dispatcher::{State, HIGH};
-use crate::planner;
-use crate::random::Random;
-use crate::reader::Sheet;
-use crate::sheets::Draft;
-use crate::states;
+use crate::makers::crafts::{Crafted, Kind};
+use crate::makers::random::Random;
+use crate::makers::sheets::Draft;
+use crate::makers::states;
+use crate::reference::answers::Cause;
+use crate::reference::dispatcher::{State, HIGH};
+use crate::reference::planner;
+use crate::reference::reader::Sheet;
 use std::collections::BTreeMap;
 
 /// A call on a state.
@@ -118,7 +118,7 @@ fn reported(random: &mut Random, job: &mut Job, running: &[usize]) -> u32 {
     report
 }
 
-/// A call that the state refuses, of any of the rows 11 to 15 that there is cause for.
+/// A call that the state refuses, of any of the refusals 11 to 15 that there is cause for.
 fn refused_call(random: &mut Random, state: &State) -> Option<Call> {
     let count = usize::from(state.count);
     let task = random.within(0..=count - 1);

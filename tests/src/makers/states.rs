@@ -1,7 +1,7 @@
 //! Makers of states: random sound ones, with noise where nothing is read, and the same with one fault.
-use crate::dispatcher::{nodes, Entry, Fault, Mode, Nodes, State, ENTRIES, NODES};
-use crate::random::Random;
-use crate::sheets::{LIMIT, PROCESSORS};
+use crate::makers::random::Random;
+use crate::makers::sheets::{LIMIT, PROCESSORS};
+use crate::reference::dispatcher::{nodes, Entry, Fault, Mode, Nodes, State, ENTRIES, NODES};
 
 /// A random sound state; what no call reads is noise.
 pub fn sound(random: &mut Random) -> State {

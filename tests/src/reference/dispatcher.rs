@@ -1,13 +1,13 @@
 //! A dispatcher by S7, S8 and refusals 10 to 16 of the specification. Sets of nodes are rows of marks, and a
 //! step makes a whole state out of the one before. It shares nothing with the proved one: neither code nor definitions.
-use crate::answers::{Cause, Refusal};
-use crate::planner::{self, Plan};
-use crate::reader::{Level, Sheet};
+use crate::reference::answers::{Cause, Refusal};
+use crate::reference::planner::{self, Plan};
+use crate::reference::reader::{self, Level, Sheet};
 
 /// The entries of a state.
-pub const ENTRIES: usize = 16;
+pub const ENTRIES: usize = reader::TASKS;
 /// The nodes that an entry has room for.
-pub const NODES: usize = 32;
+pub const NODES: usize = reader::NODES;
 /// A high task's level; a low one's is 0.
 pub const HIGH: u8 = 1;
 
@@ -88,7 +88,7 @@ pub struct Ticked {
     pub switched: Option<usize>,
 }
 
-/// Start: rows 1 to 8, else the fresh state.
+/// Start: refusals 1 to 8, else the fresh state.
 pub fn start(sheet: &[u8]) -> Result<State, Refusal> {
     planner::read_and_plan(sheet).map(|(sheet, plan)| State::fresh(&sheet, &plan))
 }
@@ -208,7 +208,7 @@ impl State {
         entry.own().filter(|&v| entry.is_ready(v)).take(entry.share(self.mode)).collect()
     }
 
-    /// Release: rows 10 to 13, else the state with the job alive.
+    /// Release: refusals 10 to 13, else the state with the job alive.
     pub fn release(&self, task: usize) -> Result<State, Refusal> {
         self.sound()?;
         let entry = self.own().get(task).ok_or(Refusal::whole(Cause::NoSuchTask))?;
@@ -224,7 +224,7 @@ impl State {
         Ok(state)
     }
 
-    /// Tick: rows 10, 14 and 15, else the state after it.
+    /// Tick: refusals 10, 14 and 15, else the state after it.
     pub fn tick(&self, reports: &[u32]) -> Result<Ticked, Refusal> {
         self.sound()?;
         if reports.len() != self.own().len() {
@@ -257,7 +257,7 @@ impl State {
         Ok(Ticked { state, switched })
     }
 
-    /// Board: rows 10 and 16 for a buffer of so many bytes, else what is written to it.
+    /// Board: refusals 10 and 16 for a buffer of so many bytes, else what is written to it.
     pub fn board(&self, length: usize) -> Result<Vec<u8>, Refusal> {
         self.sound()?;
         if length != 2 * usize::from(self.processors) {
@@ -278,7 +278,7 @@ impl State {
 #[cfg(test)]
 mod tests {
     use super::*;
-    use crate::sheets::{Draft, CASE_14};
+    use crate::makers::sheets::{Draft, CASE_14};
 
     /// Task A of S11 alone on two processors, with three nodes that nothing precedes.
     fn three_nodes() -> State {

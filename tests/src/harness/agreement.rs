@@ -1,14 +1,14 @@
 //! Holds the proved reader to the independent one, and counts the answers.
-use crate::answers::Refusal;
-use crate::proved::{self, Answer, TaskSet, FIRST_MASK};
-use crate::random;
-use crate::reader::{self, Level, Sheet};
+use crate::harness::proved::{self, TaskSet, FIRST_MASK};
+use crate::makers::random;
+use crate::reference::answers::{Answer, Refusal, NO_TASK};
+use crate::reference::reader::{self, Level, Sheet};
 
 /// The answer that a reading stands for.
 pub fn answer(reading: &Result<Sheet, Refusal>) -> Answer {
     match reading {
-        Ok(_) => (0, 255),
-        Err(Refusal { cause, task }) => (*cause as u8, task.map_or(255, |task| task as u8)),
+        Ok(_) => (0, NO_TASK),
+        Err(refusal) => refusal.answer(),
     }
 }
 

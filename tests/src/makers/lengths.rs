@@ -1,5 +1,5 @@
 //! Lengths of a job's nodes, which belong to the world: their work and span, and lengths that use budgets up.
-use crate::random::Random;
+use crate::makers::random::Random;
 
 /// Work C and critical-path length L, of lengths or allowed to them.
 #[derive(Clone, Copy, Debug, PartialEq, Eq)]
@@ -96,7 +96,7 @@ fn room(masks: &[u32], lengths: &[u32], budget: Budget, v: usize) -> u32 {
 #[cfg(test)]
 mod tests {
     use super::*;
-    use crate::sheets;
+    use crate::makers::sheets;
 
     /// The longest chain from a node on, each chain looked at by itself.
     fn longest_from(masks: &[u32], lengths: &[u32], v: usize) -> u32 {

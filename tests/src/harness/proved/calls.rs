@@ -1,4 +1,5 @@
-//! Safe wrappers of the exported functions. None of them has a `requires`, so every slice and number may be passed.
+//! Safe wrappers of the exported calls, each as it is: slices and numbers in, the answer's number out. No call has a
+//! `requires`, so every slice and number may be passed.
 
 mod archive {
     extern "C" {

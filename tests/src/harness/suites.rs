@@ -1,15 +1,15 @@
 //! Families of call lists, to be run on any dispatcher.
-use crate::answers::Reply;
-use crate::boundary::{of_bytes, Dispatcher};
-use crate::counts::Counts;
-use crate::crafts::{crafted, crafted_task, exact, sheet_of, Crafted, Kind};
-use crate::dispatcher::Mode;
-use crate::planner;
-use crate::random::Random;
-use crate::reader::{Level, Sheet};
-use crate::replay::run;
-use crate::sheets::{Draft, CASE_14};
-use crate::world::{longest_lasting, story, Manner, Story};
+use crate::harness::boundary::{of_bytes, Dispatcher};
+use crate::harness::counts::Counts;
+use crate::harness::replay::run;
+use crate::makers::crafts::{crafted, crafted_task, exact, sheet_of, Crafted, Kind};
+use crate::makers::random::Random;
+use crate::makers::sheets::{Draft, CASE_14};
+use crate::makers::world::{longest_lasting, story, Manner, Story};
+use crate::reference::answers::Reply;
+use crate::reference::dispatcher::Mode;
+use crate::reference::planner;
+use crate::reference::reader::{Level, Sheet};
 
 /// What lists are run on: a dispatcher, and the Start that gives it its fresh states.
 #[derive(Clone, Copy)]
@@ -180,7 +180,7 @@ fn job_and_neighbour(random: &mut Random) -> (Sheet, Vec<Crafted>) {
 #[cfg(test)]
 mod tests {
     use super::*;
-    use crate::boundary::{start, Independent};
+    use crate::harness::boundary::{start, Independent};
 
     const SUBJECT: Subject = Subject { dispatcher: &Independent, start };
 

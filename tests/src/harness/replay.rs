@@ -1,14 +1,15 @@
 //! Runs a list of calls from Start on a dispatcher, and holds what it answers, returns and shows on its boards to
 //! the model of S10.2 and to what is promised of whole lists: high jobs within their overload budgets end in time,
 //! nothing switches while high jobs keep their nominal ones, and no task runs on more than its share.
-use crate::answers::Reply;
-use crate::boundary::{of_bytes, to_bytes, Dispatcher};
-use crate::counts::{hold, Counts};
-use crate::dispatcher::{Mode, State, Ticked, NODES};
-use crate::lengths::Budget;
-use crate::planner::{self, Plan};
-use crate::reader::{Level, Sheet, Task};
-use crate::world::{Call, Story};
+use crate::harness::boundary::{of_bytes, to_bytes, Dispatcher};
+use crate::harness::counts::{hold, Counts};
+use crate::makers::lengths::Budget;
+use crate::makers::random::seed;
+use crate::makers::world::{Call, Story};
+use crate::reference::answers::Reply;
+use crate::reference::dispatcher::{Mode, State, Ticked, NODES};
+use crate::reference::planner::{self, Plan};
+use crate::reference::reader::{Level, Sheet, Task};
 
 /// What is known of a task's last job. Running nodes are those of the dispatcher's boards.
 struct Watch<'a> {
@@ -94,16 +95,16 @@ pub fn run(dispatcher: &dyn Dispatcher, fresh: Vec<u8>, story: &Story, counts: &
                     Err(refusal) => refusal.into(),
                 };
                 hold(&reply, &expected, || on(place));
-                if reply.row() == 0 {
+                if reply.number() == 0 {
                     replay.tick(reports, &running, reply, &of_bytes(&next), || on(place));
                 }
                 (reply, next)
             }
         };
-        assert!(reply.row() == 0 || next == state, "a refused call changed the state: {}", on(place));
+        assert!(reply.number() == 0 || next == state, "a refused call changed the state: {}", on(place));
         hold(&next, &to_bytes(&model), || on(place));
         replay.counts.add(match (reply, call) {
-            (Reply::Refused(row, _), _) => row.to_string(),
+            (Reply::Refused(number, _), _) => number.to_string(),
             (Reply::Switched(_), _) => "switched".to_string(),
             (Reply::Done, Call::Release(_)) => "released".to_string(),
             (Reply::Done, Call::Tick(_)) => "ran".to_string(),
@@ -163,12 +164,7 @@ impl<'a> Replay<'a> {
             }
             let deadline = u32::from(task.figures.d);
             if watch.ticks == deadline && watch.truthful && watch.keeps_overload {
-                assert!(
-                    entry.all_ended() && !entry.alive,
-                    "seed {}: a high job is late: {}",
-                    crate::random::seed(),
-                    on()
-                );
+                assert!(entry.all_ended() && !entry.alive, "seed {}: a high job is late: {}", seed(), on());
                 self.counts.add("high jobs that were due");
                 let ended = watch.ended.unwrap_or(deadline);
                 if ended + 1 >= deadline {
@@ -181,7 +177,7 @@ impl<'a> Replay<'a> {
         }
         if self.nominal {
             let switched = matches!(reply, Reply::Switched(_)) || after.mode == Mode::Critical;
-            assert!(!switched, "seed {}: switched within nominal budgets: {}", crate::random::seed(), on());
+            assert!(!switched, "seed {}: switched within nominal budgets: {}", seed(), on());
         }
     }
 }

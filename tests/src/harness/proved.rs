@@ -1,20 +1,12 @@
-//! Safe wrappers of the exported functions. None of them has a `requires`, so every slice and number may be passed.
-//! A feature of the package says of each group beyond the reader's that the static library has it.
+//! The proved functions: `calls` as they are exported, the others with answers and states that compare with the reference.
+use crate::reference::answers::Answer;
+use crate::reference::reader::{NODES, TASKS};
 
-#[cfg(feature = "dispatching")]
+pub mod calls;
 pub mod dispatching;
-#[cfg(feature = "planning")]
 pub mod planning;
-#[cfg(feature = "starting")]
 pub mod starting;
 
-/// Number and task of an answer, as in S9; accepted is (0, 255).
-pub type Answer = (u8, u8);
-
-/// The tasks that a task set has room for.
-pub const TASKS: usize = 16;
-/// The nodes that a task has room for.
-pub const NODES: usize = 32;
 /// The field of node 0's mask; the fields before it are level, k, D, CN, LN, CO, LO.
 pub const FIRST_MASK: usize = 7;
 /// The fields of a task.

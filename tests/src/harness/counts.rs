@@ -1,5 +1,5 @@
 //! Counts what a test met, by name, so that it can be printed and asked for.
-use crate::random;
+use crate::makers::random;
 use std::collections::BTreeMap;
 
 pub struct Counts {

@@ -1,12 +1,12 @@
 //! Makers of sheets for whole lists of calls: the lengths of a task's nodes come first, and its figures are what they
 //! need, so that some jobs use the budgets up exactly.
-use crate::dispatcher::NODES;
-use crate::lengths::{filled, Budget, Filling};
-use crate::planner::{self, least_deadline, Pair};
-use crate::random::Random;
-use crate::reader::{Figures, Level, Sheet, Task};
-use crate::sheets::{LIMIT, PROCESSORS};
-use crate::tight::low_figures;
+use crate::makers::lengths::{filled, Budget, Filling};
+use crate::makers::random::Random;
+use crate::makers::sheets::{LIMIT, PROCESSORS};
+use crate::makers::tight::low_figures;
+use crate::reference::dispatcher::NODES;
+use crate::reference::planner::{self, least_deadline, Pair};
+use crate::reference::reader::{Figures, Level, Sheet, Task};
 
 /// A task, and lengths that came first: its figures are their work and span.
 #[derive(Clone, Debug)]

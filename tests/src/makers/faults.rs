@@ -1,8 +1,9 @@
 //! Faulty sheets, each with the answer that the specification gives it. A fault is put into a draft whose other parts hold,
-//! so that one row alone has cause to refuse it.
-use crate::proved::{Answer, NODES};
-use crate::random::Random;
-use crate::sheets::{pair, Draft, LIMIT};
+//! so that one refusal alone has cause.
+use crate::makers::random::Random;
+use crate::makers::sheets::{pair, Draft, LIMIT};
+use crate::reference::answers::Answer;
+use crate::reference::reader::NODES;
 
 /// A sheet, and the answer that it must get.
 pub struct Faulty {
@@ -13,40 +14,40 @@ pub struct Faulty {
 /// A family of faults of one record: all records that come of one fault in it, at least one.
 pub type Family = fn(&[u8], &mut Random) -> Vec<Vec<u8>>;
 
-/// The families by their row, in the order of the rows. Each leaves the rows before it unbroken in a record that kept
+/// The families by their refusal, in the order of the refusals. Each gives no cause to the refusals before it in a record that kept
 /// them, and each but the first leaves a record of the right length.
 pub const FAMILIES: [(u8, Family); 4] = [(3, shapes), (4, figures), (5, masks), (6, not_heavy)];
 
-/// Every single fault of a record, with its row.
+/// Every single fault of a record, with the number of its refusal.
 pub fn of_record(record: &[u8], random: &mut Random) -> Vec<(u8, Vec<u8>)> {
     let mut all = Vec::new();
-    for (row, family) in FAMILIES {
-        all.extend(family(record, random).into_iter().map(|faulty| (row, faulty)));
+    for (number, family) in FAMILIES {
+        all.extend(family(record, random).into_iter().map(|faulty| (number, faulty)));
     }
     all
 }
 
-/// A single fault of a record, with its row; the rows are equally likely.
+/// A single fault of a record, with the number of its refusal; the numbers are equally likely.
 pub fn one_of_record(record: &[u8], random: &mut Random) -> (u8, Vec<u8>) {
-    let (row, family) = *random.pick(&FAMILIES);
+    let (number, family) = *random.pick(&FAMILIES);
     let faulty = family(record, random);
-    (row, random.pick(&faulty).clone())
+    (number, random.pick(&faulty).clone())
 }
 
-/// Records with two faults, of two rows, with the row that comes first.
+/// Records with two faults, of two refusals, with the number that comes first.
 pub fn twice_of_record(record: &[u8], random: &mut Random) -> Vec<(u8, Vec<u8>)> {
     let mut all = Vec::new();
-    for (i, (row, first)) in FAMILIES.into_iter().enumerate() {
+    for (i, (number, first)) in FAMILIES.into_iter().enumerate() {
         for (_, second) in FAMILIES.into_iter().skip(i + 1) {
             let faulty = second(record, random);
             let base = random.pick(&faulty);
-            all.extend(first(base, random).into_iter().map(|twice| (row, twice)));
+            all.extend(first(base, random).into_iter().map(|twice| (number, twice)));
         }
     }
     all
 }
 
-/// Row 1: M or n out of range, and the sheet cut within its directory.
+/// Refusal 1: M or n out of range, and the sheet cut within its directory.
 pub fn of_header(draft: &Draft) -> Vec<Faulty> {
     let sheet = draft.bytes();
     let edits = [(0, 0), (0, 65), (0, 128), (0, 255), (1, 0), (1, 17), (1, 128), (1, 255)];
@@ -59,7 +60,7 @@ pub fn of_header(draft: &Draft) -> Vec<Faulty> {
     out_of_range.chain(cut).map(|sheet| Faulty { sheet, answer: (1, 255) }).collect()
 }
 
-/// Row 2: each pair out of place, and the last end before or past the sheet's. The draft's records are not empty.
+/// Refusal 2: each pair out of place, and the last end before or past the sheet's. The draft's records are not empty.
 pub fn of_directory(draft: &Draft, random: &mut Random) -> Vec<Faulty> {
     let count = draft.records.len();
     let last = count - 1;
@@ -136,7 +137,7 @@ fn first_wrapped(places: &[usize], task: usize, shift: usize) -> Option<usize> {
     })
 }
 
-/// Row 3: level, k or the record's length wrong.
+/// Refusal 3: level, k or the record's length wrong.
 fn shapes(record: &[u8], random: &mut Random) -> Vec<Vec<u8>> {
     let k = record[1];
     let mut all = Vec::new();
@@ -159,7 +160,7 @@ fn shapes(record: &[u8], random: &mut Random) -> Vec<Vec<u8>> {
     all
 }
 
-/// Row 4: each figure out of its range, and each rule broken, alone where the other rules allow it.
+/// Refusal 4: each figure out of its range, and each rule broken, alone where the other rules allow it.
 fn figures(record: &[u8], random: &mut Random) -> Vec<Vec<u8>> {
     let [cn, co, ln] = [CN, CO, LN].map(|place| figure(record, place));
     let mut all = Vec::new();
@@ -265,7 +266,7 @@ const OF_LOW: [fn(usize, &mut Random) -> Four; 4] = [
     },
 ];
 
-/// Row 5: each node's mask with its own bit, or a higher one.
+/// Refusal 5: each node's mask with its own bit, or a higher one.
 fn masks(record: &[u8], random: &mut Random) -> Vec<Vec<u8>> {
     let mut all = Vec::new();
     for v in 0..(record.len() - 12) / 4 {
@@ -277,7 +278,7 @@ fn masks(record: &[u8], random: &mut Random) -> Vec<Vec<u8>> {
     all
 }
 
-/// Row 6: D at CO, and above it where there is room.
+/// Refusal 6: D at CO, and above it where there is room.
 fn not_heavy(record: &[u8], random: &mut Random) -> Vec<Vec<u8>> {
     let co = figure(record, CO);
     [co, random.skewed(co..=LIMIT), LIMIT].map(|d| with_figures(record, &[(D, d)])).to_vec()

@@ -1,8 +1,8 @@
 //! A planner by S4, S5, S6 and refusals 7 to 9 of the specification.
 //! It keeps whole choices, one for each pair of totals that the tasks so far can reach, and shares nothing with the
 //! proved planner: neither code nor method.
-use crate::answers::{Cause, Refusal, Reply};
-use crate::reader::{self, Figures, Level, Sheet, Task};
+use crate::reference::answers::{Cause, Refusal, Reply};
+use crate::reference::reader::{self, Figures, Level, Sheet, Task};
 
 /// A task's share in each state.
 #[derive(Clone, Copy, Debug, PartialEq, Eq, PartialOrd, Ord)]
@@ -30,7 +30,7 @@ pub struct Plan {
 /// The bytes that the printer takes as the sheet.
 pub const PRINTER_INPUT: usize = 4_096;
 
-/// Plans what was read: row 7 over the tasks, then row 8.
+/// Plans what was read: refusal 7 over the tasks, then 8.
 pub fn plan(sheet: &Sheet) -> Result<Plan, Refusal> {
     let most = usize::from(sheet.processors);
     let options: Vec<Vec<Pair>> = sheet.tasks.iter().map(|task| options(task, most)).collect();
@@ -70,8 +70,8 @@ pub fn printed(input: &[u8]) -> String {
     match read_and_plan(sheet) {
         Ok((_, plan)) => plan.lines(),
         Err(refusal) => {
-            let task = refusal.task.unwrap_or(255);
-            format!("refused {} {task}\n", refusal.cause as u8)
+            let (number, task) = refusal.answer();
+            format!("refused {number} {task}\n")
         }
     }
 }
@@ -212,9 +212,9 @@ fn fitting(options: &[Vec<Pair>], most: usize) -> Vec<Choice> {
 #[cfg(test)]
 mod tests {
     use super::*;
-    use crate::random::Random;
-    use crate::sheets::{Draft, CASE_14};
-    use crate::tight;
+    use crate::makers::random::Random;
+    use crate::makers::sheets::{Draft, CASE_14};
+    use crate::makers::tight;
 
     const A: Figures = Figures { d: 45, cn: 9, co: 52, ln: 4, lo: 20 };
     const B: Figures = Figures { d: 54, cn: 11, co: 80, ln: 4, lo: 42 };

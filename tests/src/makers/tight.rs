@@ -1,9 +1,9 @@
 //! Makers of sheets for the planner: figures near the edge of the share test, many tasks alike, and M near the least
 //! that will do.
-use crate::planner::{self, least_deadline, Pair};
-use crate::random::Random;
-use crate::reader::{Figures, Level, Sheet, Task};
-use crate::sheets::{LIMIT, PROCESSORS};
+use crate::makers::random::Random;
+use crate::makers::sheets::{LIMIT, PROCESSORS};
+use crate::reference::planner::{self, least_deadline, Pair};
+use crate::reference::reader::{Figures, Level, Sheet, Task};
 
 /// A random list of so many tasks, with the most processors. Often some of the tasks are alike.
 pub fn sheet(random: &mut Random, count: usize) -> Sheet {

@@ -1,12 +1,12 @@
 //! The byte form in which a state crosses to the exported functions, and the calls on it.
 //! Byte 0 is M, byte 1 n, byte 2 the standing state (0 typical, 1 critical); then sixteen entries of 149 bytes: level, k,
 //! typical share, critical share, alive (0 or 1), then little-endian u32 each: D, V, age, ended, 32 masks.
-use crate::answers::{Refusal, Reply};
-use crate::dispatcher::{self, nodes, set_of, Entry, Mode, State, Ticked, ENTRIES, NODES};
+use crate::reference::answers::{Refusal, Reply};
+use crate::reference::dispatcher::{self, nodes, set_of, Entry, Mode, State, Ticked, ENTRIES, NODES};
 
 /// The bytes before the entries, of an entry, and of a state.
-const HEAD: usize = 3;
-const ENTRY: usize = 5 + 4 * 4 + 4 * NODES;
+pub const HEAD: usize = 3;
+pub const ENTRY: usize = 5 + 4 * 4 + 4 * NODES;
 pub const STATE: usize = HEAD + ENTRIES * ENTRY;
 
 /// The calls on a state. Each gives its answer and the state that it returns.
@@ -103,9 +103,9 @@ pub fn of_bytes(bytes: &[u8]) -> State {
 #[cfg(test)]
 mod tests {
     use super::*;
-    use crate::random::Random;
-    use crate::sheets::CASE_14;
-    use crate::states;
+    use crate::makers::random::Random;
+    use crate::makers::sheets::CASE_14;
+    use crate::makers::states;
 
     #[test]
     fn the_bytes_say_the_whole_state() {
