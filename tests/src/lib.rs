@@ -8,6 +8,7 @@ pub mod crafts;
 pub mod dispatcher;
 pub mod faults;
 pub mod lengths;
+pub mod logs;
 pub mod planner;
 pub mod proved;
 pub mod random;

@@ -6,6 +6,8 @@ pub mod dispatching;
 #[cfg(feature = "planning")]
 pub mod planning;
 #[cfg(feature = "starting")]
+pub mod replaying;
+#[cfg(feature = "starting")]
 pub mod starting;
 
 /// Number and task of an answer, as in S9; accepted is (0, 255).

@@ -2,7 +2,7 @@
 //! the model of S10.2 and to what is promised of whole lists: high jobs within their overload budgets end in time,
 //! nothing switches while high jobs keep their nominal ones, and no task runs on more than its share.
 use crate::answers::Reply;
-use crate::boundary::{of_bytes, to_bytes, Dispatcher};
+use crate::boundary::{of_words, to_words, Dispatcher};
 use crate::counts::{hold, Counts};
 use crate::dispatcher::{Mode, State, Ticked, NODES};
 use crate::lengths::Budget;
@@ -62,11 +62,11 @@ struct Replay<'a> {
 }
 
 /// Runs a story on a dispatcher from the fresh state that Start returned for its sheet.
-pub fn run(dispatcher: &dyn Dispatcher, fresh: Vec<u8>, story: &Story, counts: &mut Counts) {
+pub fn run(dispatcher: &dyn Dispatcher, fresh: Vec<u32>, story: &Story, counts: &mut Counts) {
     let (sheet, plan) = planner::read_and_plan(&story.sheet).expect("a story's sheet is accepted");
     let mut model = State::fresh(&sheet, &plan);
     let on = |place: usize| format!("call {place} of {story:?}");
-    hold(&fresh, &to_bytes(&model), || on(0));
+    hold(&fresh, &to_words(&model), || on(0));
     let watches = sheet.tasks.iter().map(|_| None).collect();
     let mut replay = Replay { sheet, plan, watches, nominal: true, counts };
     let mut state = fresh;
@@ -95,13 +95,14 @@ pub fn run(dispatcher: &dyn Dispatcher, fresh: Vec<u8>, story: &Story, counts: &
                 };
                 hold(&reply, &expected, || on(place));
                 if reply.row() == 0 {
-                    replay.tick(reports, &running, reply, &of_bytes(&next), || on(place));
+                    replay
+                        .tick(reports, &running, reply, &of_words(&next).expect("a line stays a state"), || on(place));
                 }
                 (reply, next)
             }
         };
         assert!(reply.row() == 0 || next == state, "a refused call changed the state: {}", on(place));
-        hold(&next, &to_bytes(&model), || on(place));
+        hold(&next, &to_words(&model), || on(place));
         replay.counts.add(match (reply, call) {
             (Reply::Refused(row, _), _) => row.to_string(),
             (Reply::Switched(_), _) => "switched".to_string(),

@@ -1,46 +1,47 @@
-//! The proved dispatcher, on states in their byte form.
+//! The proved dispatcher, on lines of words.
 use crate::answers::Reply;
-use crate::boundary::{Dispatcher, STATE};
+use crate::boundary::Dispatcher;
 
 extern "C" {
-    fn dibwunek_release(state: *const u8, state_len: usize, task: usize, out: *mut u8, out_len: usize) -> u32;
-    fn dibwunek_tick(
-        state: *const u8,
-        state_len: usize,
-        reports: *const u32,
-        reports_len: usize,
-        out: *mut u8,
-        out_len: usize,
-    ) -> u32;
-    fn dibwunek_board(state: *const u8, state_len: usize, buffer: *mut u8, buffer_len: usize) -> u32;
+    fn dibwunek_state_words() -> usize;
+    fn dibwunek_release(state: *mut u32, state_len: usize, task: usize) -> u32;
+    fn dibwunek_tick(state: *mut u32, state_len: usize, reports: *const u32, reports_len: usize) -> u32;
+    fn dibwunek_board(state: *const u32, state_len: usize, buffer: *mut u8, buffer_len: usize) -> u32;
 }
 
-/// What `out` holds before a call: not what any state's bytes are.
-const UNWRITTEN: u8 = 0xa5;
+/// What stands behind a line and a buffer, and must stay.
+const BEHIND: u32 = 0x5a5a_5a5a;
 
 /// The proved dispatcher.
 pub struct Proved;
 
+/// The words of a state.
+pub fn state_words() -> usize {
+    // SAFETY: it takes nothing and gives a number.
+    unsafe { dibwunek_state_words() }
+}
+
+/// The answer of a call on a copy of a line, and the line that it leaves. What stands behind the line must stay.
+pub fn on_line(line: &[u32], call: impl FnOnce(*mut u32, usize) -> u32) -> (Reply, Vec<u32>) {
+    let mut held = [line, &[BEHIND]].concat();
+    let word = call(held.as_mut_ptr(), line.len());
+    assert_eq!(held.pop(), Some(BEHIND), "a call wrote behind the line");
+    (Reply::of_word(word), held)
+}
+
 impl Dispatcher for Proved {
-    fn release(&self, state: &[u8], task: usize) -> (Reply, Vec<u8>) {
-        let mut out = vec![UNWRITTEN; STATE];
-        // SAFETY: each pointer and length are those of a live slice; `out` is ours alone, and only it is written.
-        let word = unsafe { dibwunek_release(state.as_ptr(), state.len(), task, out.as_mut_ptr(), out.len()) };
-        (Reply::of_word(word), out)
+    fn release(&self, line: &[u32], task: usize) -> (Reply, Vec<u32>) {
+        // SAFETY: each pointer and length are those of a live slice; the line is ours alone, and only it is written.
+        on_line(line, |start, length| unsafe { dibwunek_release(start, length, task) })
     }
 
-    fn tick(&self, state: &[u8], reports: &[u32]) -> (Reply, Vec<u8>) {
-        let mut out = vec![UNWRITTEN; STATE];
-        let (out_start, out_length) = (out.as_mut_ptr(), out.len());
+    fn tick(&self, line: &[u32], reports: &[u32]) -> (Reply, Vec<u32>) {
         // SAFETY: as in `release`.
-        let word = unsafe {
-            dibwunek_tick(state.as_ptr(), state.len(), reports.as_ptr(), reports.len(), out_start, out_length)
-        };
-        (Reply::of_word(word), out)
+        on_line(line, |start, length| unsafe { dibwunek_tick(start, length, reports.as_ptr(), reports.len()) })
     }
 
-    fn board(&self, state: &[u8], buffer: &mut [u8]) -> Reply {
-        // SAFETY: as in `release`, with the buffer for `out`.
-        Reply::of_word(unsafe { dibwunek_board(state.as_ptr(), state.len(), buffer.as_mut_ptr(), buffer.len()) })
+    fn board(&self, line: &[u32], buffer: &mut [u8]) -> Reply {
+        // SAFETY: as in `release`, with the buffer for the line.
+        Reply::of_word(unsafe { dibwunek_board(line.as_ptr(), line.len(), buffer.as_mut_ptr(), buffer.len()) })
     }
 }
