@@ -1,5 +1,5 @@
 //! What the calls are measured on. All of it is fixed: every run has the same inputs.
-use crate::plain::{self, STATE};
+use crate::plain::{self, ENTRY, STATE};
 
 /// The sheet of case 14 (S11.14): A, B, E, M 8.
 #[rustfmt::skip]
@@ -13,19 +13,19 @@ const CASE_14: [u8; 62] = [
 /// A sheet and what follows from it.
 pub struct Input {
     pub name: String,
-    /// Whether it shows growth: then the calls are measured without the byte form only.
+    /// Whether it shows growth: then the calls are measured on states by value only.
     pub growth: bool,
     pub sheet: Vec<u8>,
     pub processors: usize,
     pub count: usize,
     /// Whether Start accepts the sheet. If not, only Plan and Start are measured.
     pub accepted: bool,
-    /// Start's state.
-    pub fresh: Vec<u8>,
+    /// The line of Start's state.
+    pub fresh: Vec<u32>,
     /// The fresh state after a release of every task.
-    pub alive: Vec<u8>,
+    pub alive: Vec<u32>,
     /// That state with every age one tick before its job's threshold.
-    pub late: Vec<u8>,
+    pub late: Vec<u32>,
     /// For each task its lowest running node.
     pub reports: Vec<u32>,
     /// Ticks without a report that the alive state takes before it turns critical.
@@ -58,10 +58,10 @@ fn mask(v: u8) -> u32 {
     }
 }
 
-fn started(sheet: &[u8]) -> (bool, Vec<u8>) {
-    let mut state = vec![0; STATE];
-    let answer = plain::start(sheet, &mut state);
-    (answer == 65_280, state)
+fn started(sheet: &[u8]) -> (bool, Vec<u32>) {
+    let mut line = vec![0; STATE];
+    let answer = plain::start(sheet, &mut line);
+    (answer == 65_280, line)
 }
 
 fn input(name: String, sheet: Vec<u8>) -> Input {
@@ -69,15 +69,13 @@ fn input(name: String, sheet: Vec<u8>) -> Input {
     let (accepted, fresh) = started(&sheet);
     let mut alive = fresh.clone();
     for task in 0..count {
-        let mut next = vec![0; STATE];
-        plain::release(&alive, task, &mut next);
-        alive = next;
+        plain::release(&mut alive, task);
     }
     let mut late = alive.clone();
     let mut ticks = 64;
-    for entry in late[3..].chunks_exact_mut(149).take(count).filter(|entry| entry[0] == 1 && accepted) {
-        let threshold = u32::from_le_bytes(entry[9..13].try_into().expect("four bytes"));
-        entry[13..17].copy_from_slice(&(threshold - 1).to_le_bytes());
+    for entry in late[3..].chunks_exact_mut(ENTRY).take(count).filter(|entry| entry[0] == 1 && accepted) {
+        let threshold = entry[35];
+        entry[38] = threshold - 1;
         ticks = ticks.min(threshold - 1);
     }
     Input {
