@@ -1,5 +1,5 @@
 //! What the calls are measured on: sheets and states of `tests/`. All of it is fixed: every run has the same inputs.
-use dibwunek_tests::harness::boundary::to_bytes;
+use dibwunek_tests::harness::boundary::to_words;
 use dibwunek_tests::makers::sheets::{Draft, CASE_14};
 use dibwunek_tests::reference::dispatcher::{start, State, HIGH};
 use dibwunek_tests::reference::reader::{Figures, Level, Sheet, Task};
@@ -7,19 +7,19 @@ use dibwunek_tests::reference::reader::{Figures, Level, Sheet, Task};
 /// A sheet and what follows from it.
 pub struct Input {
     pub name: String,
-    /// Whether it shows growth: then the calls are measured without the byte form only.
+    /// Whether it shows growth: then the calls are measured on states by value only.
     pub growth: bool,
     pub sheet: Vec<u8>,
     pub processors: usize,
     pub count: usize,
     /// Whether Start accepts the sheet. If not, only Plan and Start are measured.
     pub accepted: bool,
-    /// Start's state.
-    pub fresh: Vec<u8>,
+    /// The line of Start's state.
+    pub fresh: Vec<u32>,
     /// The fresh state after a release of every task.
-    pub alive: Vec<u8>,
+    pub alive: Vec<u32>,
     /// That state with every age one tick before its job's virtual deadline.
-    pub late: Vec<u8>,
+    pub late: Vec<u32>,
     /// For each task its lowest running node.
     pub reports: Vec<u32>,
     /// Ticks without a report that the alive state takes before it turns critical.
@@ -63,9 +63,9 @@ fn input(name: String, sheet: Vec<u8>) -> Input {
         processors,
         count,
         accepted,
-        fresh: to_bytes(&fresh),
-        alive: to_bytes(&alive),
-        late: to_bytes(&late),
+        fresh: to_words(&fresh),
+        alive: to_words(&alive),
+        late: to_words(&late),
         reports: vec![1; count],
         ticks,
     }

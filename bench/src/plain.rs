@@ -1,13 +1,15 @@
-//! The plain Rust behind the same signatures as the exported functions, with the same bytes and answer words.
+//! The plain Rust behind the same signatures as the exported functions, with the same lines and answer words.
 use crate::dispatcher::{self, State, TaskState, TickAnswer};
 use crate::planner::{self, Share};
 use crate::sheet::{Answer, Refusal};
 use dibwunek_tests::harness::boundary::{ENTRY, HEAD, STATE};
 use dibwunek_tests::reference::answers::NO_TASK;
+use dibwunek_tests::reference::reader::NODES;
 use std::hint::black_box;
 
 const ACCEPTED: u32 = 256 * NO_TASK as u32;
 const SWITCHED: u32 = 65_536;
+const NOT_STATE: u32 = 100 + 256 * NO_TASK as u32;
 
 fn refused_word(refused: Refusal) -> u32 {
     u32::from(refused.number) + 256 * u32::from(refused.task)
@@ -28,57 +30,61 @@ fn tick_word(answer: TickAnswer) -> u32 {
     }
 }
 
-fn u32_at(bytes: &[u8], at: usize) -> u32 {
-    u32::from_le_bytes([bytes[at], bytes[at + 1], bytes[at + 2], bytes[at + 3]])
-}
-
-fn decoded_entry(bytes: &[u8; ENTRY]) -> TaskState {
+fn decoded_entry(words: &[u32; ENTRY]) -> TaskState {
+    let mut masks = [0; NODES];
+    masks.copy_from_slice(&words[2..34]);
     TaskState {
-        level: bytes[0],
-        nodes: bytes[1],
-        share: Share { typical: bytes[2], critical: bytes[3] },
-        alive: bytes[4] != 0,
-        deadline: u32_at(bytes, 5),
-        virtual_deadline: u32_at(bytes, 9),
-        age: u32_at(bytes, 13),
-        ended: u32_at(bytes, 17),
-        masks: std::array::from_fn(|v| u32_at(bytes, 21 + 4 * v)),
+        level: words[0] as u8,
+        nodes: words[1] as u8,
+        masks,
+        deadline: words[34],
+        virtual_deadline: words[35],
+        share: Share { typical: words[36] as u8, critical: words[37] as u8 },
+        age: words[38],
+        ended: words[39],
+        alive: words[40] != 0,
     }
 }
 
-/// A state out of its bytes; a byte past the end counts as 0.
-fn decoded(bytes: &[u8]) -> State {
-    let mut padded = [0; STATE];
-    let bytes = match bytes.first_chunk::<STATE>() {
-        Some(whole) => whole,
-        None => {
-            padded[..bytes.len()].copy_from_slice(bytes);
-            &padded
-        }
-    };
-    State {
-        processors: bytes[0],
-        count: bytes[1],
-        critical: bytes[2] != 0,
-        entries: std::array::from_fn(|i| decoded_entry(bytes[HEAD + ENTRY * i..].first_chunk().expect("an entry"))),
-    }
+/// Whether each word of an entry fits its field.
+fn entry_fits(words: &[u32]) -> bool {
+    (words[0] < 256) & (words[1] < 256) & (words[36] < 256) & (words[37] < 256) & (words[40] < 2)
 }
 
-fn encode_entry(entry: &TaskState, bytes: &mut [u8]) {
-    let TaskState { level, nodes, share, alive, .. } = *entry;
-    bytes[..5].copy_from_slice(&[level, nodes, share.typical, share.critical, alive.into()]);
-    let times = [entry.deadline, entry.virtual_deadline, entry.age, entry.ended];
-    for (bytes, number) in bytes[5..].chunks_exact_mut(4).zip(times.iter().chain(&entry.masks)) {
-        bytes.copy_from_slice(&number.to_le_bytes());
+/// The state that a line says, if it is one.
+fn decoded(line: &[u32]) -> Option<State> {
+    let line: &[u32; STATE] = line.try_into().ok()?;
+    let head = (line[0] < 256) & (line[1] < 256) & (line[2] < 2);
+    if !line[HEAD..].chunks_exact(ENTRY).fold(head, |fits, words| fits & entry_fits(words)) {
+        return None;
     }
+    Some(State {
+        processors: line[0] as u8,
+        count: line[1] as u8,
+        critical: line[2] != 0,
+        entries: std::array::from_fn(|i| decoded_entry(line[HEAD + ENTRY * i..].first_chunk().expect("an entry"))),
+    })
 }
 
-/// Stores a state at the front of a buffer; a buffer that is too short is left as it is.
-fn encode(state: &State, out: &mut [u8]) {
-    let Some(out) = out.first_chunk_mut::<STATE>() else { return };
-    out[..HEAD].copy_from_slice(&[state.processors, state.count, state.critical.into()]);
-    for (entry, bytes) in state.entries.iter().zip(out[HEAD..].chunks_exact_mut(ENTRY)) {
-        encode_entry(entry, bytes);
+fn encode_entry(entry: &TaskState, words: &mut [u32]) {
+    words[0] = entry.level.into();
+    words[1] = entry.nodes.into();
+    words[2..34].copy_from_slice(&entry.masks);
+    words[34] = entry.deadline;
+    words[35] = entry.virtual_deadline;
+    words[36] = entry.share.typical.into();
+    words[37] = entry.share.critical.into();
+    words[38] = entry.age;
+    words[39] = entry.ended;
+    words[40] = entry.alive.into();
+}
+
+/// Writes a state over a line of its length.
+fn encode(state: &State, line: &mut [u32]) {
+    let line: &mut [u32; STATE] = line.try_into().expect("a line of a state's length");
+    line[..HEAD].copy_from_slice(&[state.processors.into(), state.count.into(), state.critical.into()]);
+    for (entry, words) in state.entries.iter().zip(line[HEAD..].chunks_exact_mut(ENTRY)) {
+        encode_entry(entry, words);
     }
 }
 
@@ -88,35 +94,47 @@ pub fn plan(sheet: &[u8], buffer: &mut [u8]) -> u32 {
 }
 
 #[inline(never)]
-pub fn start(sheet: &[u8], out: &mut [u8]) -> u32 {
+pub fn start(sheet: &[u8], line: &mut [u32]) -> u32 {
+    if line.len() != STATE {
+        return NOT_STATE;
+    }
     let started = dispatcher::start(sheet);
-    encode(&started.state, out);
+    if started.answer.is_ok() {
+        encode(&started.state, line);
+    }
     word(started.answer)
 }
 
 #[inline(never)]
-pub fn release(state: &[u8], task: usize, out: &mut [u8]) -> u32 {
-    let released = dispatcher::release(decoded(state), task);
-    encode(&released.state, out);
+pub fn release(line: &mut [u32], task: usize) -> u32 {
+    let Some(state) = decoded(line) else { return NOT_STATE };
+    let released = dispatcher::release(state, task);
+    if released.answer.is_ok() {
+        encode(&released.state, line);
+    }
     word(released.answer)
 }
 
 #[inline(never)]
-pub fn tick(state: &[u8], reports: &[u32], out: &mut [u8]) -> u32 {
-    let ticked = dispatcher::tick(decoded(state), reports);
-    encode(&ticked.state, out);
+pub fn tick(line: &mut [u32], reports: &[u32]) -> u32 {
+    let Some(state) = decoded(line) else { return NOT_STATE };
+    let ticked = dispatcher::tick(state, reports);
+    if !matches!(ticked.answer, TickAnswer::Refused(_)) {
+        encode(&ticked.state, line);
+    }
     tick_word(ticked.answer)
 }
 
 #[inline(never)]
-pub fn board(state: &[u8], buffer: &mut [u8]) -> u32 {
-    word(dispatcher::board(decoded(state), buffer).answer)
+pub fn board(line: &[u32], buffer: &mut [u8]) -> u32 {
+    let Some(state) = decoded(line) else { return NOT_STATE };
+    word(dispatcher::board(state, buffer).answer)
 }
 
-/// The answer of the last of `count` ticks with the same reports, the state decoded once.
+/// The answer of the last of `count` ticks with the same reports, the line read once.
 #[inline(never)]
-pub fn tick_many(state: &[u8], reports: &[u32], count: u32) -> u32 {
-    let mut state = decoded(state);
+pub fn tick_many(line: &[u32], reports: &[u32], count: u32) -> u32 {
+    let Some(mut state) = decoded(line) else { return NOT_STATE };
     let mut word = ACCEPTED;
     for _ in 0..count {
         let ticked = dispatcher::tick(state, reports);
@@ -126,10 +144,10 @@ pub fn tick_many(state: &[u8], reports: &[u32], count: u32) -> u32 {
     word
 }
 
-/// The answer of the last of `count` releases, each on the decoded state.
+/// The answer of the last of `count` releases, each on the line's state.
 #[inline(never)]
-pub fn release_many(state: &[u8], task: usize, count: u32) -> u32 {
-    let state = decoded(state);
+pub fn release_many(line: &[u32], task: usize, count: u32) -> u32 {
+    let Some(state) = decoded(line) else { return NOT_STATE };
     let mut last = ACCEPTED;
     for _ in 0..count {
         last = word(dispatcher::release(black_box(&state).clone(), task).answer);
@@ -137,10 +155,10 @@ pub fn release_many(state: &[u8], task: usize, count: u32) -> u32 {
     last
 }
 
-/// The answer of the last of `count` boards of the decoded state, all in the same buffer.
+/// The answer of the last of `count` boards of the line's state, all in the same buffer.
 #[inline(never)]
-pub fn board_many(state: &[u8], buffer: &mut [u8], count: u32) -> u32 {
-    let state = decoded(state);
+pub fn board_many(line: &[u32], buffer: &mut [u8], count: u32) -> u32 {
+    let Some(state) = decoded(line) else { return NOT_STATE };
     let mut last = ACCEPTED;
     for _ in 0..count {
         last = word(dispatcher::board(black_box(&state).clone(), buffer).answer);

@@ -24,12 +24,14 @@ pub struct Row {
     pub times: u32,
 }
 
-type OnBytes = fn(&[u8], &mut [u8]) -> u32;
-type OnReports = fn(&[u8], &[u32], &mut [u8]) -> u32;
-type OnTask = fn(&[u8], usize, &mut [u8]) -> u32;
-type Ticks = fn(&[u8], &[u32], u32) -> u32;
-type Releases = fn(&[u8], usize, u32) -> u32;
-type Boards = fn(&[u8], &mut [u8], u32) -> u32;
+type Plan = fn(&[u8], &mut [u8]) -> u32;
+type Start = fn(&[u8], &mut [u32]) -> u32;
+type Release = fn(&mut [u32], usize) -> u32;
+type Tick = fn(&mut [u32], &[u32]) -> u32;
+type Board = fn(&[u32], &mut [u8]) -> u32;
+type Ticks = fn(&[u32], &[u32], u32) -> u32;
+type Releases = fn(&[u32], usize, u32) -> u32;
+type Boards = fn(&[u32], &mut [u8], u32) -> u32;
 
 /// The same closure over either side's function. A closure owns what its call reads and writes; a buffer is zero at
 /// first and is not cleared again.
@@ -37,45 +39,77 @@ fn pair<F: Copy>(plain: F, proved: F, made: impl Fn(F) -> Call) -> Pair {
     Pair { plain: made(plain), proved: made(proved) }
 }
 
-fn on_bytes(plain: OnBytes, proved: OnBytes, bytes: &[u8], room: usize) -> Pair {
-    pair(plain, proved, |call| {
-        let (bytes, mut out) = (bytes.to_vec(), vec![0; room]);
-        Box::new(move || call(black_box(&bytes), black_box(&mut out)))
+fn plan(input: &Input) -> Pair {
+    pair(plain::plan as Plan, proved::plan, |call| {
+        let (sheet, mut out) = (input.sheet.clone(), vec![0; 6 * input.count]);
+        Box::new(move || call(black_box(&sheet), black_box(&mut out)))
     })
 }
 
-fn tick(state: &[u8], reports: &[u32]) -> Pair {
-    pair(plain::tick as OnReports, proved::tick, |call| {
-        let (state, reports, mut out) = (state.to_vec(), reports.to_vec(), vec![0; STATE]);
-        Box::new(move || call(black_box(&state), black_box(&reports), black_box(&mut out)))
+fn start(input: &Input) -> Pair {
+    pair(plain::start as Start, proved::start, |call| {
+        let (sheet, mut line) = (input.sheet.clone(), vec![0; STATE]);
+        Box::new(move || call(black_box(&sheet), black_box(&mut line)))
     })
 }
 
-fn release(state: &[u8], task: usize) -> Pair {
-    pair(plain::release as OnTask, proved::release, |call| {
-        let (state, mut out) = (state.to_vec(), vec![0; STATE]);
-        Box::new(move || call(black_box(&state), black_box(task), black_box(&mut out)))
+/// A call that changes its line: the line is copied before each call, on both sides alike.
+fn tick(line: &[u32], reports: &[u32]) -> Pair {
+    pair(plain::tick as Tick, proved::tick, |call| {
+        let (before, reports, mut line) = (line.to_vec(), reports.to_vec(), vec![0; STATE]);
+        Box::new(move || {
+            line.copy_from_slice(black_box(&before));
+            call(black_box(&mut line), black_box(&reports))
+        })
+    })
+}
+
+fn release(line: &[u32], task: usize) -> Pair {
+    pair(plain::release as Release, proved::release, |call| {
+        let (before, mut line) = (line.to_vec(), vec![0; STATE]);
+        Box::new(move || {
+            line.copy_from_slice(black_box(&before));
+            call(black_box(&mut line), black_box(task))
+        })
+    })
+}
+
+/// The copy of a line alone, which is subtracted.
+fn copy(line: &[u32]) -> Pair {
+    pair((), (), |()| {
+        let (before, mut line) = (line.to_vec(), vec![0; STATE]);
+        Box::new(move || {
+            line.copy_from_slice(black_box(&before));
+            black_box(&mut line)[0]
+        })
+    })
+}
+
+fn board(input: &Input) -> Pair {
+    pair(plain::board as Board, proved::board, |call| {
+        let (line, mut out) = (input.alive.clone(), vec![0; 2 * input.processors]);
+        Box::new(move || call(black_box(&line), black_box(&mut out)))
     })
 }
 
 fn ticks(input: &Input, count: u32) -> Pair {
     pair(plain::tick_many as Ticks, proved::tick_many, |call| {
-        let (state, reports) = (input.alive.clone(), vec![0; input.count]);
-        Box::new(move || call(black_box(&state), black_box(&reports), black_box(count)))
+        let (line, reports) = (input.alive.clone(), vec![0; input.count]);
+        Box::new(move || call(black_box(&line), black_box(&reports), black_box(count)))
     })
 }
 
 fn releases(input: &Input, count: u32) -> Pair {
     pair(plain::release_many as Releases, proved::release_many, |call| {
-        let (state, task) = (input.fresh.clone(), input.count - 1);
-        Box::new(move || call(black_box(&state), black_box(task), black_box(count)))
+        let (line, task) = (input.fresh.clone(), input.count - 1);
+        Box::new(move || call(black_box(&line), black_box(task), black_box(count)))
     })
 }
 
 fn boards(input: &Input, count: u32) -> Pair {
     pair(plain::board_many as Boards, proved::board_many, |call| {
-        let (state, mut out) = (input.alive.clone(), vec![0; 2 * input.processors]);
-        Box::new(move || call(black_box(&state), black_box(&mut out), black_box(count)))
+        let (line, mut out) = (input.alive.clone(), vec![0; 2 * input.processors]);
+        Box::new(move || call(black_box(&line), black_box(&mut out), black_box(count)))
     })
 }
 
@@ -87,20 +121,18 @@ fn rows_of(input: &Input) -> Vec<Row> {
         times: input.ticks,
         ..row(call, made(input, input.ticks))
     };
-    let mut rows = vec![
-        row("plan", on_bytes(plain::plan, proved::plan, &input.sheet, 6 * input.count)),
-        row("start, bytes", on_bytes(plain::start, proved::start, &input.sheet, STATE)),
-    ];
+    let in_place = |call, whole| Row { base: Some(copy(&input.fresh)), ..row(call, whole) };
+    let mut rows = vec![row("plan", plan(input)), row("start, words", start(input))];
     if input.accepted {
         rows.extend([alone("tick", ticks), alone("release", releases), alone("board", boards)]);
     }
     if input.accepted && !input.growth {
         rows.extend([
-            row("tick, bytes", tick(&input.alive, &input.reports)),
-            row("tick that switches, bytes", tick(&input.late, &vec![0; input.count])),
-            row("release, bytes", release(&input.fresh, input.count - 1)),
-            row("board, bytes", on_bytes(plain::board, proved::board, &input.alive, 2 * input.processors)),
-            row("decoding", ticks(input, 0)),
+            in_place("tick, words", tick(&input.alive, &input.reports)),
+            in_place("tick that switches, words", tick(&input.late, &vec![0; input.count])),
+            in_place("release, words", release(&input.fresh, input.count - 1)),
+            row("board, words", board(input)),
+            row("reading the line", ticks(input, 0)),
         ]);
     }
     rows

@@ -1,9 +1,12 @@
-//! The proved dispatcher beside the independent one on random states, sound and not: answers, whole states and boards
-//! agree, and a refused call returns an equal state.
-use dibwunek_tests::harness::boundary::{of_bytes, to_bytes, Dispatcher, Independent};
+//! The proved dispatcher beside the independent one on random states, sound and not, and on lines that are none: answers,
+//! whole lines and boards agree, and a refused call leaves the line and the buffer.
+use dibwunek_tests::harness::boundary::{bounded, of_words, start_on, to_words, Dispatcher, Independent, STATE};
 use dibwunek_tests::harness::counts::{hold, Counts};
+use dibwunek_tests::harness::proved::calls::state_words;
 use dibwunek_tests::harness::proved::dispatching::Proved;
+use dibwunek_tests::harness::proved::starting;
 use dibwunek_tests::makers::random::Random;
+use dibwunek_tests::makers::sheets::CASE_14;
 use dibwunek_tests::makers::states::{not_running, report, sound, unsound, with_ones, FAULTS};
 use dibwunek_tests::reference::answers::Reply;
 use dibwunek_tests::reference::dispatcher::State;
@@ -18,36 +21,36 @@ impl Comparison {
         Comparison { counts: Counts::new(test) }
     }
 
-    fn release(&mut self, state: &[u8], task: usize) -> (Reply, Vec<u8>) {
-        let on = || format!("Release({task}) of {:?}", of_bytes(state));
-        let step = Proved.release(state, task);
-        hold(&step, &Independent.release(state, task), on);
-        self.count("released", state, step)
+    fn release(&mut self, line: &[u32], task: usize) -> (Reply, Vec<u32>) {
+        let on = || format!("Release({task}) of {:?}", of_words(line));
+        let step = Proved.release(line, task);
+        hold(&step, &Independent.release(line, task), on);
+        self.count("released", line, step)
     }
 
-    fn tick(&mut self, state: &[u8], reports: &[u32]) -> (Reply, Vec<u8>) {
-        let on = || format!("Tick({reports:?}) of {:?}", of_bytes(state));
-        let step = Proved.tick(state, reports);
-        hold(&step, &Independent.tick(state, reports), on);
-        self.count("ran", state, step)
+    fn tick(&mut self, line: &[u32], reports: &[u32]) -> (Reply, Vec<u32>) {
+        let on = || format!("Tick({reports:?}) of {:?}", of_words(line));
+        let step = Proved.tick(line, reports);
+        hold(&step, &Independent.tick(line, reports), on);
+        self.count("ran", line, step)
     }
 
-    fn board(&mut self, state: &[u8], before: &[u8]) -> Reply {
-        let on = || format!("Board with {} bytes of {:?}", before.len(), of_bytes(state));
+    fn board(&mut self, line: &[u32], before: &[u8]) -> Reply {
+        let on = || format!("Board with {} bytes of {:?}", before.len(), of_words(line));
         let (mut buffer, mut expected) = (before.to_vec(), before.to_vec());
-        let proved = Proved.board(state, &mut buffer);
-        let reply = Independent.board(state, &mut expected);
+        let proved = Proved.board(line, &mut buffer);
+        let reply = Independent.board(line, &mut expected);
         hold(&(proved, &buffer), &(reply, &expected), on);
         assert!(reply.number() == 0 || buffer == before);
-        self.count("board", state, (reply, state.to_vec())).0
+        self.count("board", line, (reply, line.to_vec())).0
     }
 
-    fn count(&mut self, done: &str, before: &[u8], (reply, after): (Reply, Vec<u8>)) -> (Reply, Vec<u8>) {
+    fn count(&mut self, done: &str, before: &[u32], (reply, after): (Reply, Vec<u32>)) -> (Reply, Vec<u32>) {
         match reply {
             Reply::Done => self.counts.add(done),
             Reply::Switched(_) => self.counts.add("switched"),
             Reply::Refused(number, _) => {
-                assert!(before == after, "a refused call changed the state {:?}", of_bytes(before));
+                assert!(before == after, "a refused call changed the line {before:?}");
                 self.counts.add(number);
             }
         }
@@ -96,12 +99,16 @@ fn board_length(random: &mut Random, state: &State) -> usize {
 
 /// A random call of each kind on a state.
 fn one_of_each(random: &mut Random, state: &State, comparison: &mut Comparison) {
-    let bytes = to_bytes(state);
+    each_on(random, &to_words(state), state, comparison);
+}
+
+/// A random call of each kind on a line, with arguments for a state.
+fn each_on(random: &mut Random, line: &[u32], state: &State, comparison: &mut Comparison) {
     let task = task_number(random, state);
-    comparison.release(&bytes, task);
-    comparison.tick(&bytes, &reports(random, state));
+    comparison.release(line, task);
+    comparison.tick(line, &reports(random, state));
     let length = board_length(random, state);
-    comparison.board(&bytes, &random.bytes(length));
+    comparison.board(line, &random.bytes(length));
 }
 
 #[test]
@@ -121,25 +128,25 @@ fn every_task_of_a_state() {
     let mut comparison = Comparison::new("every task of a state");
     for _ in 0..150 {
         let state = sound(&mut random);
-        let bytes = to_bytes(&state);
+        let line = to_words(&state);
         let count = usize::from(state.count);
         for task in 0..=17 {
-            comparison.release(&bytes, task);
+            comparison.release(&line, task);
         }
         let idle = vec![0; count];
-        comparison.tick(&bytes, &idle);
+        comparison.tick(&line, &idle);
         for task in 0..count {
             for node in 0..32 {
                 let mut reports = idle.clone();
                 reports[task] = 1 << node;
-                comparison.tick(&bytes, &reports);
+                comparison.tick(&line, &reports);
             }
         }
         for length in 0..=18 {
-            comparison.tick(&bytes, &vec![0; length]);
+            comparison.tick(&line, &vec![0; length]);
         }
         for length in 0..=130 {
-            comparison.board(&bytes, &vec![7; length]);
+            comparison.board(&line, &vec![7; length]);
         }
     }
     comparison.counts.close(["released", "ran", "switched", "board", "11", "12", "13", "14", "15", "16"], 50);
@@ -158,15 +165,15 @@ fn states_unsound_in_one_way() {
     comparison.counts.close(["10"], 3 * 300 * FAULTS.len());
 }
 
-/// Each bit of a state's bytes may be flipped but those that leave no state: of a mark, all but the lowest.
-fn flipped(random: &mut Random, state: &[u8]) -> Vec<u8> {
-    let mut state = state.to_vec();
-    let of_tasks = 3 + 149 * usize::from(state[1]).min(16);
-    let last = *random.pick(&[2, 23, of_tasks - 1, state.len() - 1]);
+/// Any bit of a state's words may be flipped; some leave no state.
+fn flipped(random: &mut Random, line: &[u32]) -> Vec<u32> {
+    let mut line = line.to_vec();
+    let of_tasks = 3 + 41 * (line[1] as usize).min(16);
+    let last = *random.pick(&[2, 45, of_tasks - 1, line.len() - 1]);
     let at = random.within(0..=last);
-    let is_mark = at == 2 || (at >= 3 && (at - 3) % 149 == 4);
-    state[at] ^= 1 << if is_mark { 0 } else { random.within(0..=7) };
-    state
+    let bits = *random.pick(&[1, 7, 31]);
+    line[at] ^= 1 << random.within(0..=bits);
+    line
 }
 
 #[test]
@@ -174,13 +181,69 @@ fn states_with_bits_flipped() {
     let mut random = Random::of_test("bits of states");
     let mut comparison = Comparison::new("states with bits flipped");
     for _ in 0..6_000 {
-        let mut state = to_bytes(&sound(&mut random));
+        let state = sound(&mut random);
+        let mut line = to_words(&state);
         for _ in 0..random.within(1..=3) {
-            state = flipped(&mut random, &state);
+            line = flipped(&mut random, &line);
         }
-        one_of_each(&mut random, &of_bytes(&state), &mut comparison);
+        let seen = of_words(&line).unwrap_or(state);
+        each_on(&mut random, &line, &seen, &mut comparison);
     }
-    comparison.counts.close(["released", "ran", "switched", "board", "10"], 80);
+    comparison.counts.close(["released", "ran", "switched", "board", "10", "100"], 80);
+}
+
+#[test]
+fn words_that_no_field_holds() {
+    let mut random = Random::of_test("words too large");
+    let mut comparison = Comparison::new("words that no field holds");
+    let (bytes, marks) = bounded();
+    let most = bytes.iter().map(|&at| (at, 255)).chain(marks.iter().map(|&at| (at, 1)));
+    for (at, most) in most.clone().cycle().take(4 * most.count()) {
+        let fault = *random.pick(&FAULTS);
+        let state = if random.once_in(2) { sound(&mut random) } else { unsound(&mut random, fault) };
+        let mut line = to_words(&state);
+        line[at] = *random.pick(&[most + 1, most + 2, most + 257, 1 << 16, 1 << 31, u32::MAX]);
+        each_on(&mut random, &line, &state, &mut comparison);
+    }
+    let all = 4 * 3 * (bytes.len() + marks.len());
+    assert_eq!(comparison.counts.of("100"), all);
+    comparison.counts.close(["100"], all);
+}
+
+#[test]
+fn every_word_at_its_largest() {
+    let mut random = Random::of_test("largest words");
+    let mut comparison = Comparison::new("every word at its largest");
+    let (bytes, marks) = bounded();
+    for at in 0..STATE {
+        let state = sound(&mut random);
+        let mut line = to_words(&state);
+        line[at] = match (bytes.contains(&at), marks.contains(&at)) {
+            (true, _) => 255,
+            (_, true) => 1,
+            _ => u32::MAX,
+        };
+        each_on(&mut random, &line, &state, &mut comparison);
+    }
+    assert_eq!(comparison.counts.of("100"), 0);
+    comparison.counts.close(["released", "ran", "board", "10"], 20);
+}
+
+#[test]
+fn lines_of_every_other_length() {
+    assert_eq!(state_words(), STATE);
+    let mut random = Random::of_test("lengths of lines");
+    let mut comparison = Comparison::new("lines of every other length");
+    for length in (0..=2 * STATE).filter(|&length| length != STATE) {
+        let state = sound(&mut random);
+        let mut line = to_words(&state);
+        line.resize(length, 0);
+        each_on(&mut random, &line, &state, &mut comparison);
+        let started = starting::start_on(&CASE_14, &line);
+        hold(&started, &start_on(&CASE_14, &line), || format!("Start on {length} words"));
+        assert_eq!(started, (Reply::Refused(100, 255), line));
+    }
+    comparison.counts.close(["100"], 3 * 2 * STATE);
 }
 
 #[test]
@@ -200,16 +263,16 @@ fn walks() {
     let mut random = Random::of_test("walks");
     let mut comparison = Comparison::new("walks");
     for _ in 0..400 {
-        let mut state = to_bytes(&sound(&mut random));
+        let mut line = to_words(&sound(&mut random));
         for _ in 0..60 {
-            let seen = of_bytes(&state);
+            let seen = of_words(&line).expect("a line stays a state");
             let task = task_number(&mut random, &seen);
-            state = match random.within(0..=3) {
-                0 => comparison.release(&state, task).1,
-                _ => comparison.tick(&state, &reports(&mut random, &seen)).1,
+            line = match random.within(0..=3) {
+                0 => comparison.release(&line, task).1,
+                _ => comparison.tick(&line, &reports(&mut random, &seen)).1,
             };
             let length = board_length(&mut random, &seen);
-            comparison.board(&state, &random.bytes(length));
+            comparison.board(&line, &random.bytes(length));
         }
     }
     assert_eq!(comparison.counts.of("10"), 0);

@@ -1,5 +1,5 @@
-//! The proved Start beside the independent one: the answer and every byte of the state agree.
-use dibwunek_tests::harness::boundary::{self, STATE};
+//! The proved Start beside the independent one: the answer and every word of the line agree.
+use dibwunek_tests::harness::boundary::{self, STATE, UNWRITTEN};
 use dibwunek_tests::harness::counts::{hold, Counts};
 use dibwunek_tests::harness::proved::dispatching::Proved;
 use dibwunek_tests::harness::proved::starting;
@@ -10,8 +10,8 @@ use dibwunek_tests::makers::tight;
 use dibwunek_tests::reference::answers::Reply;
 
 fn check(sheet: &[u8], counts: &mut Counts) {
-    let (reply, state) = boundary::start(sheet);
-    hold(&starting::start(sheet), &(reply, state), || format!("the sheet {sheet:?}"));
+    let (reply, line) = boundary::start(sheet);
+    hold(&starting::start(sheet), &(reply, line), || format!("the sheet {sheet:?}"));
     counts.add(reply.number());
 }
 
@@ -21,7 +21,34 @@ fn case_14() {
     check(&CASE_14, &mut counts);
     assert_eq!(starting::start(&CASE_14).0, Reply::Done);
     let seven = [&[7], &CASE_14[1..]].concat();
-    assert_eq!(starting::start(&seven), (Reply::Refused(8, 255), vec![0; STATE]));
+    assert_eq!(starting::start(&seven), (Reply::Refused(8, 255), vec![UNWRITTEN; STATE]));
+}
+
+/// Whatever stood in the line: words that are no state, and the state of another sheet.
+#[test]
+fn a_refused_start_leaves_the_line() {
+    let mut random = Random::of_test("refused starts");
+    let mut counts = Counts::new("refused starts");
+    let (_, fresh) = starting::start(&CASE_14);
+    for _ in 0..2_000 {
+        let mut line = fresh.clone();
+        for _ in 0..random.within(0..=STATE) {
+            let at = random.within(0..=STATE - 1);
+            line[at] = random.word() as u32;
+        }
+        let mut sheet = plausible(&mut random);
+        if random.once_in(2) {
+            sheet = Draft::of(&tight::sheet(&mut random, 3)).bytes();
+            let at = random.within(0..=sheet.len() - 1);
+            sheet[at] ^= 1 << random.within(0..=7);
+        }
+        let started = starting::start_on(&sheet, &line);
+        hold(&started, &boundary::start_on(&sheet, &line), || format!("the sheet {sheet:?}"));
+        let (reply, after) = started;
+        assert!((reply == Reply::Done) != (after == line), "the sheet {sheet:?}");
+        counts.add(reply.number());
+    }
+    counts.close(0..=8, 2);
 }
 
 #[test]

@@ -5,8 +5,21 @@ use mathlib.Core.Bool.{Bool, true, false}
 use mathlib.Core.List.{List, [], _∷_, _++_, map, List·Memᴰ, List·Memᴰ·head, List·Memᴰ·tail}
 use native.Mathlib.Nat.{le-refl, add-zero, zero-add}
 use native.Mathlib.Omega.{arith}
+use lib.ListN.{length, getD}
 use Rattle.basics.specs.Lists.{range, keep, keptIf, each}
 use Rattle.basics.proofs.Members.{range-within}
+
+-- The numbers of a range.
+pub length-range : (first n : ℕ) → length (range first n) ≡ n
+unfolding range
+length-range first zero = refl
+length-range first (suc n) = ap suc (length-range (suc first) n)
+
+pub getD-range : (first n i d : ℕ) → i < n → getD (range first n) i d ≡ first + i
+unfolding range
+getD-range first zero i d h = absurd (omega arith)
+getD-range first (suc n) zero d h = sym (add-zero first)
+getD-range first (suc n) (suc i) d h = getD-range (suc first) n i d (omega arith) ∙ omega arith
 
 pub range-append : (first m n : ℕ) → range first (m + n) ≡ range first m ++ range (first + m) n
 unfolding range

@@ -1,47 +1,75 @@
--- Numbers and entries read one after the other: cells that are all filled are the whole line.
-use Prim.Native.Nat.{ℕ, zero, suc, _+_, _*_, _≤_, _<_}
-use mathlib.Core.Path.{_≡_, refl, ap, ap₂, _∙_}
+-- Entries read one after the other: cells that are all filled are the whole.
+use Prim.Native.Nat.{ℕ, zero, suc, _+_, _≤_, _<_}
+use mathlib.Core.Path.{_≡_, refl, sym, ap, ap₂, _∙_}
 use mathlib.Core.Bool.{not}
 use mathlib.Core.List.{List, map}
+use native.Mathlib.Nat.{add-zero}
 use native.Mathlib.Omega.{arith}
 use borrow.Author.Tests.{lt-ltb}
 use lib.Dec.{eqb}
-use lib.ListN.{set, replicate}
+use lib.ListN.{getD, take, drop, set, replicate}
+use lib.Seq.{getD-drop, drop-drop}
 use Rattle.basics.specs.Lists.{range, cells, cellsFrom}
-use Rattle.basics.specs.Numbers.{byteAt}
 use Rattle.basics.proofs.Cells.{cells-none, cells-store}
 use Rattle.entries.specs.declared.state.TaskState.{TaskState}
+use Rattle.start.specs.Fresh.{zeroEntry}
 use Rattle.dispatcher.specs.declared.state.State.{State}
-use Rattle.exports.specs.StateBytes.{isSet, entryStart, entryFrom, stateFrom}
+use Rattle.exports.specs.Words.{isSet, entryFrom, entryAt, entryStart, stateFrom}
 
-pub cells-full : {A : Type 0} (f : ℕ → A) (none : A) (first size count : ℕ) → first + size ≤ count →
+cells-full : {A : Type 0} (f : ℕ → A) (none : A) (first size count : ℕ) → first + size ≤ count →
     cellsFrom first size f none count ≡ map f (range first size)
 unfolding cellsFrom range
 cells-full f none first zero count h = refl
 cells-full f none first (suc size) count h =
     rw (lt-ltb first count (omega arith), cells-full f none (suc first) size count (omega arith))
 
-module _ (bytes : List ℕ) where
-  -- The state that the bytes give, with these entries.
+-- The entry by its words' places in the line.
+pub entry-in-place : (line : List ℕ) (at : ℕ) (masks : List ℕ) → masks ≡ take 32 (drop (at + 2) line) →
+    _≡_ {A = TaskState}
+    (record {
+      level = getD line at 0;
+      nodes = getD line (at + 1) 0;
+      predecessors = masks;
+      deadline = getD line (at + 34) 0;
+      «virtual_deadline» = getD line (at + 35) 0;
+      share = record { typical = getD line (at + 36) 0; critical = getD line (at + 37) 0 };
+      age = getD line (at + 38) 0;
+      job = record { ended = getD line (at + 39) 0; alive = not (eqb (getD line (at + 40) 0) 0) };
+    })
+    (entryFrom (drop at line))
+unfolding entryFrom isSet
+entry-in-place line at masks read =
+    rw (
+      read,
+      drop-drop 2 at line,
+      getD-drop at line 0 0,
+      getD-drop at line 1 0,
+      getD-drop at line 34 0,
+      getD-drop at line 35 0,
+      getD-drop at line 36 0,
+      getD-drop at line 37 0,
+      getD-drop at line 38 0,
+      getD-drop at line 39 0,
+      getD-drop at line 40 0,
+      add-zero at,
+    )
+
+module _ (line : List ℕ) where
+  -- The state that the line says, with these entries.
   abbrev stateWith : List TaskState → State
   stateWith entries =
-      record { processors = byteAt bytes 0; count = byteAt bytes 1; critical = isSet (byteAt bytes 2); entries = entries }
+      record { processors = getD line 0 0; count = getD line 1 0; critical = isSet (getD line 2 0); entries = entries }
 
-  -- Entry i.
-  abbrev entryAt : ℕ → TaskState
-  entryAt i = entryFrom bytes (entryStart i)
-
-  -- The same with the first count entries, and entry 0 in the place of the others.
+  -- The same with the first count entries, and zeros in the place of the others.
   unfoldable pub stateBelow : ℕ → State
-  stateBelow count = stateWith (cells 16 entryAt (entryAt 0) count)
+  stateBelow count = stateWith (cells 16 (entryAt line) zeroEntry count)
 
-  pub state-none : (m n mode : ℕ) (e : TaskState) → m ≡ byteAt bytes 0 → n ≡ byteAt bytes 1 → mode ≡ byteAt bytes 2 → e ≡ entryFrom bytes 3 →
-      record { processors = m; count = n; critical = not (eqb mode 0); entries = replicate 16 e } ≡ stateBelow 0
+  pub state-none : (e : TaskState) → e ≡ zeroEntry →
+      record { processors = getD line 0 0; count = getD line 1 0; critical = not (eqb (getD line 2 0) 0); entries = replicate 16 e } ≡ stateBelow 0
   unfolding stateBelow isSet
-  state-none m n mode e first second third none =
-      rw (first, second, third, none, cells-none entryAt (entryAt 0) 0 16 0 (omega arith))
+  state-none e none = rw (none, cells-none (entryAt line) zeroEntry 0 16 0 (omega arith))
 
-  pub state-store : (i : ℕ) (s : State) (e : TaskState) → i < 16 → s ≡ stateBelow i → e ≡ entryFrom bytes (3 + 149 * i) →
+  pub state-store : (i : ℕ) (s : State) (e : TaskState) → i < 16 → s ≡ stateBelow i → e ≡ entryAt line i →
       record { processors = s .processors; count = s .count; critical = s .critical; entries = set (s .entries) i e } ≡ stateBelow (i + 1)
   unfolding stateBelow
   state-store i s e inside so-far next =
@@ -49,8 +77,8 @@ module _ (bytes : List ℕ) where
       (λ (s : State) (e : TaskState). record { processors = s .processors; count = s .count; critical = s .critical; entries = set (s .entries) i e })
       so-far
       next
-      ∙ ap stateWith (cells-store entryAt (entryAt 0) 16 i inside)
+      ∙ ap stateWith (cells-store (entryAt line) zeroEntry 16 i inside)
 
-  pub state-whole : stateBelow 16 ≡ stateFrom bytes
+  pub state-whole : stateBelow 16 ≡ stateFrom line
   unfolding stateBelow stateFrom
-  state-whole = ap stateWith (cells-full entryAt (entryAt 0) 0 16 16 (omega arith))
+  state-whole = ap stateWith (cells-full (entryAt line) zeroEntry 0 16 16 (omega arith))

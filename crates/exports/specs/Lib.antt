@@ -1,5 +1,6 @@
--- In reading order: a reading as numbers, a state as bytes, a tick's answer as a number, calls repeated.
+-- In reading order: a reading as numbers, a state as words, a tick's answer as a number, the calls on lines, calls repeated.
 pub mod Fields
-pub mod StateBytes
+pub mod Words
 pub mod Ticks
+pub mod Calls
 pub mod Repeats

@@ -1,65 +1,67 @@
-// A state out of its bytes.
+// S13.1: a state out of its line.
 ghost use mathlib.Core.Path.{_≡_};
-ghost use Prim.Native.Nat.{_<_};
-ghost use Rattle.exports.specs.StateBytes.{masksFrom, entryFrom, stateFrom};
-use basics::numbers::byte_at;
-use basics::numbers::u32_at;
+ghost use mathlib.Core.Bool.{true};
+ghost use Prim.Native.Nat.{_+_, _≤_};
+ghost use lib.ListN.{length, take, drop};
+ghost use Rattle.exports.specs.Words.{entrySize, entryFrom, stateFrom, entryFits, isState};
+use crate::checking::ENTRY_WORDS;
 use dispatcher::state::State;
 use entries::state::Job;
 use entries::state::TaskState;
 use shares::share::Share;
+use start::fresh::zero_entry;
 
-// The masks of the entry that starts at a place.
-fn masks_from(bytes: &[u8], at: usize) -> [u32; 32]
-    requires { ⌜ at < 65536 ⌝ }
-    ensures { λ r. ⌜ r ≡ masksFrom (now (bytes .entry)) at ⌝ }
+fn masks_from(line: &[u32], at: usize) -> [u32; 32]
+    requires { ⌜ at + 32 ≤ length (now line) ⌝ }
+    ensures { λ r. ⌜ r ≡ take 32 (drop at (now (line .entry))) ⌝ }
 {
     let mut masks = [0u32; 32];
     let mut v: usize = 0;
     while v < 32 {
-        masks[v] = u32_at(bytes, at + 21 + 4 * v);
+        masks[v] = line[at + v];
         v += 1;
     }
     masks
 }
 
-// The entry that starts at a place.
-fn entry_from(bytes: &[u8], at: usize) -> TaskState
-    requires { ⌜ at < 65536 ⌝ }
-    ensures { λ r. ⌜ r ≡ entryFrom (now (bytes .entry)) at ⌝ }
+// The entry that begins at a place.
+fn entry_from(line: &[u32], at: usize) -> TaskState
+    requires { ⌜ (at + entrySize ≤ length (now line)) × (entryFits (drop at (now line)) ≡ true) ⌝ }
+    ensures { λ r. ⌜ r ≡ entryFrom (drop at (now (line .entry))) ⌝ }
 {
     let share = Share {
-        typical: byte_at(bytes, at + 2),
-        critical: byte_at(bytes, at + 3),
+        typical: line[at + 36] as u8,
+        critical: line[at + 37] as u8,
     };
     TaskState {
-        level: byte_at(bytes, at),
-        nodes: byte_at(bytes, at + 1),
-        predecessors: masks_from(bytes, at),
-        deadline: u32_at(bytes, at + 5),
-        virtual_deadline: u32_at(bytes, at + 9),
+        level: line[at] as u8,
+        nodes: line[at + 1] as u8,
+        predecessors: masks_from(line, at + 2),
+        deadline: line[at + 34],
+        virtual_deadline: line[at + 35],
         share,
-        age: u32_at(bytes, at + 13),
+        age: line[at + 38],
         job: Job {
-            ended: u32_at(bytes, at + 17),
-            alive: byte_at(bytes, at + 4) != 0,
+            ended: line[at + 39],
+            alive: line[at + 40] != 0,
         },
     }
 }
 
-// The state that the bytes give; past their end they are zeros.
-pub fn state_from(bytes: &[u8]) -> State
-    ensures { λ r. ⌜ r ≡ stateFrom (now (bytes .entry)) ⌝ }
+// S13.1: the state that a line says.
+pub fn state_from(line: &[u32]) -> State
+    requires { ⌜ isState (now line) ≡ true ⌝ }
+    ensures { λ r. ⌜ r ≡ stateFrom (now (line .entry)) ⌝ }
 {
     let mut state = State {
-        processors: byte_at(bytes, 0),
-        count: byte_at(bytes, 1),
-        critical: byte_at(bytes, 2) != 0,
-        entries: [entry_from(bytes, 3); 16],
+        processors: line[0] as u8,
+        count: line[1] as u8,
+        critical: line[2] != 0,
+        entries: [zero_entry(); 16],
     };
     let mut i: usize = 0;
     while i < 16 {
-        state.entries[i] = entry_from(bytes, 3 + 149 * i);
+        state.entries[i] = entry_from(line, 3 + ENTRY_WORDS * i);
         i += 1;
     }
     state

@@ -1,22 +1,23 @@
-// The calls of S8, on states as bytes.
+// S13.3: the calls of S8, each on a line that holds the state.
 ghost use mathlib.Core.Path.{_≡_};
-ghost use lib.ListN.{length};
-ghost use Rattle.dispatcher.specs.Calls.{releaseOf, tickOf};
-ghost use Rattle.dispatcher.specs.Board.{boardedOf, boardOf};
-ghost use Rattle.start.specs.Start.{startOf};
-ghost use Rattle.exports.specs.Fields.{answerWord};
-ghost use Rattle.exports.specs.StateBytes.{stateFrom, stored};
+ghost use Rattle.exports.specs.Calls.{startCall, releaseCall, tickCall, boardCall, StartTaken};
 ghost use Rattle.exports.specs.Ticks.{tickWord};
+use crate::checking::STATE_WORDS;
+use crate::checking::is_state;
 use crate::decoding::state_from;
 use crate::encoding::write_state;
 use crate::fields::answer_word;
 use dispatcher::tick::TickAnswer;
+use sheet::answer::Answer;
 
 pub const ACCEPTED: u32 = 65280;
 
 const SWITCH: u32 = 65536;
 
-// S8.7: a tick's answer as a number.
+// S13.5: number 100, task 255.
+pub const NOT_STATE: u32 = 65380;
+
+// S13.4: a tick's answer as a word.
 pub fn tick_word(a: TickAnswer) -> u32
     ensures { λ r. ⌜ r ≡ tickWord a ⌝ }
 {
@@ -27,55 +28,74 @@ pub fn tick_word(a: TickAnswer) -> u32
     }
 }
 
-// S8.1: Start's answer; its state goes to `out`.
+// S8.1: Start. A refused sheet leaves the line as it was; the line's own words are not read. S13.8: what an accepted one leaves is a state.
 #[no_mangle]
-pub extern "C" fn dibwunek_start(sheet: &[u8], out: &mut [u8]) -> u32
-    ensures answered { λ r. ⌜ r ≡ answerWord (startOf (now (sheet .entry)) .answer) ⌝ }
-    ensures written { λ _. ⌜ now (out .exit) ≡ stored (startOf (now (sheet .entry)) .state) (now (out .entry)) ⌝ }
+pub extern "C" fn dibwunek_start(sheet: &[u8], state: &mut [u32]) -> u32
+    ensures answered { λ r. ⌜ r ≡ startCall (now (sheet .entry)) (now (state .entry)) .word ⌝ }
+    ensures written { λ _. ⌜ now (state .exit) ≡ startCall (now (sheet .entry)) (now (state .entry)) .left ⌝ }
+    ensures taken { λ _. ⌜ StartTaken (now (sheet .entry)) (now (state .entry)) (now (state .exit)) ⌝ }
 {
+    if state.len() != STATE_WORDS {
+        return NOT_STATE;
+    }
     let started = start::start(sheet);
-    let after = started.state;
     let answer = started.answer;
-    write_state(after, out);
-    answer_word(answer)
+    if let Answer::Refused(_, _) = answer {
+        return answer_word(answer);
+    }
+    let fresh = started.state;
+    write_state(state, fresh);
+    ACCEPTED
 }
 
-// S8.4: Release's answer; the state that it returns goes to `out`.
+// S8.4: Release.
 #[no_mangle]
-pub extern "C" fn dibwunek_release(state: &[u8], task: usize, out: &mut [u8]) -> u32
-    ensures answered { λ r. ⌜ r ≡ answerWord (releaseOf (stateFrom (now (state .entry))) task .answer) ⌝ }
-    ensures written { λ _. ⌜ now (out .exit) ≡ stored (releaseOf (stateFrom (now (state .entry))) task .state) (now (out .entry)) ⌝ }
+pub extern "C" fn dibwunek_release(state: &mut [u32], task: usize) -> u32
+    ensures answered { λ r. ⌜ r ≡ releaseCall (now (state .entry)) task .word ⌝ }
+    ensures written { λ _. ⌜ now (state .exit) ≡ releaseCall (now (state .entry)) task .left ⌝ }
 {
-    let before = state_from(state);
-    let released = dispatcher::release::release(before, task);
-    let after = released.state;
+    if !is_state(state) {
+        return NOT_STATE;
+    }
+    let released = dispatcher::release::release(state_from(state), task);
     let answer = released.answer;
-    write_state(after, out);
-    answer_word(answer)
+    let Answer::Accepted = answer else {
+        return answer_word(answer);
+    };
+    let after = released.state;
+    write_state(state, after);
+    ACCEPTED
 }
 
-// S8.5: Tick's answer; the state that it returns goes to `out`.
+// S8.5: Tick.
 #[no_mangle]
-pub extern "C" fn dibwunek_tick(state: &[u8], reports: &[u32], out: &mut [u8]) -> u32
-    ensures answered { λ r. ⌜ r ≡ tickWord (tickOf (stateFrom (now (state .entry))) (now (reports .entry)) .answer) ⌝ }
-    ensures written { λ _. ⌜ now (out .exit) ≡ stored (tickOf (stateFrom (now (state .entry))) (now (reports .entry)) .state) (now (out .entry)) ⌝ }
+pub extern "C" fn dibwunek_tick(state: &mut [u32], reports: &[u32]) -> u32
+    ensures answered { λ r. ⌜ r ≡ tickCall (now (state .entry)) (now (reports .entry)) .word ⌝ }
+    ensures written { λ _. ⌜ now (state .exit) ≡ tickCall (now (state .entry)) (now (reports .entry)) .left ⌝ }
 {
-    let before = state_from(state);
-    let ticked = dispatcher::tick::tick(before, reports);
-    let after = ticked.state;
+    if !is_state(state) {
+        return NOT_STATE;
+    }
+    let ticked = dispatcher::tick::tick(state_from(state), reports);
     let answer = ticked.answer;
-    write_state(after, out);
+    if let TickAnswer::Refused(_, _) = answer {
+        return tick_word(answer);
+    }
+    let after = ticked.state;
+    write_state(state, after);
     tick_word(answer)
 }
 
-// S8.8: Board's answer; the board goes to the buffer.
+// S8.8: Board.
 #[no_mangle]
-pub extern "C" fn dibwunek_board(state: &[u8], buffer: &mut [u8]) -> u32
-    ensures answered { λ r. ⌜ r ≡ answerWord (boardedOf (stateFrom (now (state .entry))) (length (now (buffer .entry))) .answer) ⌝ }
-    ensures written { λ _. ⌜ now (buffer .exit) ≡ boardOf (stateFrom (now (state .entry))) (now (buffer .entry)) ⌝ }
+pub extern "C" fn dibwunek_board(state: &[u32], buffer: &mut [u8]) -> u32
+    ensures answered { λ r. ⌜ r ≡ boardCall (now (state .entry)) (now (buffer .entry)) .word ⌝ }
+    ensures written { λ _. ⌜ now (buffer .exit) ≡ boardCall (now (state .entry)) (now (buffer .entry)) .left ⌝ }
 {
-    let before = state_from(state);
-    let boarded = dispatcher::board::board(before, buffer);
+    if !is_state(state) {
+        return NOT_STATE;
+    }
+    let boarded = dispatcher::board::board(state_from(state), buffer);
     let answer = boarded.answer;
     answer_word(answer)
 }

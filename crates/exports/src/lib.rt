@@ -1,9 +1,11 @@
-// What the tests written in Rust call: functions over slices and numbers. Not part of the image.
+// What a controller's C or Rust code links: the calls on lines of words, buffers and numbers (S13). Beside them what the tests and the
+// benchmarks call.
+mod checking;
 mod decoding;
 pub mod dispatching;
 mod encoding;
 mod fields;
-mod numbers;
 pub mod planning;
 pub mod reading;
 pub mod repeating;
+pub mod replaying;

@@ -1,22 +1,21 @@
-// Calls of the dispatcher made a number of times, with the state decoded once, for the benchmarks.
+// Calls of the dispatcher made a number of times, with the line read once, for the benchmarks.
 ghost use mathlib.Core.Path.{_≡_};
-ghost use lib.ListN.{length};
-ghost use Rattle.dispatcher.specs.Calls.{releaseOf};
-ghost use Rattle.dispatcher.specs.Board.{boardedOf};
-ghost use Rattle.exports.specs.Fields.{answerWord};
-ghost use Rattle.exports.specs.StateBytes.{stateFrom};
-ghost use Rattle.exports.specs.Ticks.{acceptedWord};
-ghost use Rattle.exports.specs.Repeats.{ticksWord, lastWord, boardsOf};
+ghost use Rattle.exports.specs.Repeats.{ticksCall, releasesCall, boardsCall};
+use crate::checking::is_state;
 use crate::decoding::state_from;
 use crate::dispatching::ACCEPTED;
+use crate::dispatching::NOT_STATE;
 use crate::dispatching::tick_word;
 use crate::fields::answer_word;
 
 // The answer of the last of `count` ticks with the same reports, each on the state that the one before returned.
 #[no_mangle]
-pub extern "C" fn dibwunek_tick_many(state: &[u8], reports: &[u32], count: u32) -> u32
-    ensures { λ r. ⌜ r ≡ ticksWord count acceptedWord (stateFrom (now (state .entry))) (now (reports .entry)) ⌝ }
+pub extern "C" fn dibwunek_tick_many(state: &[u32], reports: &[u32], count: u32) -> u32
+    ensures { λ r. ⌜ r ≡ ticksCall count (now (state .entry)) (now (reports .entry)) .word ⌝ }
 {
+    if !is_state(state) {
+        return NOT_STATE;
+    }
     let mut s = state_from(state);
     let mut word = ACCEPTED;
     let mut i: u32 = 0;
@@ -30,11 +29,14 @@ pub extern "C" fn dibwunek_tick_many(state: &[u8], reports: &[u32], count: u32) 
     word
 }
 
-// The answer of the last of `count` releases of a task, each on the decoded state.
+// The answer of the last of `count` releases of a task, each on the state of the line.
 #[no_mangle]
-pub extern "C" fn dibwunek_release_many(state: &[u8], task: usize, count: u32) -> u32
-    ensures { λ r. ⌜ r ≡ lastWord count (answerWord (releaseOf (stateFrom (now (state .entry))) task .answer)) ⌝ }
+pub extern "C" fn dibwunek_release_many(state: &[u32], task: usize, count: u32) -> u32
+    ensures { λ r. ⌜ r ≡ releasesCall count (now (state .entry)) task .word ⌝ }
 {
+    if !is_state(state) {
+        return NOT_STATE;
+    }
     let before = state_from(state);
     let mut word = ACCEPTED;
     let mut i: u32 = 0;
@@ -47,12 +49,15 @@ pub extern "C" fn dibwunek_release_many(state: &[u8], task: usize, count: u32) -
     word
 }
 
-// The answer of the last of `count` boards of the decoded state, all in the same buffer.
+// The answer of the last of `count` boards of the line's state, all in the same buffer.
 #[no_mangle]
-pub extern "C" fn dibwunek_board_many(state: &[u8], buffer: &mut [u8], count: u32) -> u32
-    ensures answered { λ r. ⌜ r ≡ lastWord count (answerWord (boardedOf (stateFrom (now (state .entry))) (length (now (buffer .entry))) .answer)) ⌝ }
-    ensures written { λ _. ⌜ now (buffer .exit) ≡ boardsOf count (stateFrom (now (state .entry))) (now (buffer .entry)) ⌝ }
+pub extern "C" fn dibwunek_board_many(state: &[u32], buffer: &mut [u8], count: u32) -> u32
+    ensures answered { λ r. ⌜ r ≡ boardsCall count (now (state .entry)) (now (buffer .entry)) .word ⌝ }
+    ensures written { λ _. ⌜ now (buffer .exit) ≡ boardsCall count (now (state .entry)) (now (buffer .entry)) .left ⌝ }
 {
+    if !is_state(state) {
+        return NOT_STATE;
+    }
     let before = state_from(state);
     let mut word = ACCEPTED;
     let mut i: u32 = 0;

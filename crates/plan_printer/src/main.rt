@@ -12,13 +12,19 @@ fn print_plan() {
     let mut text = [0u8; 416];
     let len = write_plan(&sheet[..n], &mut text);
     if !io::write_all(STDOUT_FILENO, &text[..len]) {
-        io::write_all(STDERR_FILENO, b"plan_printer: the plan could not be written\n");
+        io::write_all(
+            STDERR_FILENO,
+            b"plan_printer: the plan could not be written\n",
+        );
     }
 }
 
 fn main() {
     if 1 < os::arg_count() {
-        io::write_all(STDERR_FILENO, b"plan_printer: no argument is read; the sheet comes on standard input\n");
+        io::write_all(
+            STDERR_FILENO,
+            b"plan_printer: no argument is read; the sheet comes on standard input\n",
+        );
         return;
     }
     print_plan();

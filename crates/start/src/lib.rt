@@ -13,7 +13,7 @@ use reader::read;
 use sheet::answer::Answer;
 use sheet::task::TaskSet;
 
-mod fresh;
+pub mod fresh;
 
 // Start's answer beside the state: a fresh one, or zeros where it was refused.
 pub struct Started {

@@ -1,13 +1,14 @@
 //! Runs a list of calls from Start on a dispatcher, and holds what it answers, returns and shows on its boards to
 //! the model of S10.2 and to what is promised of whole lists: high jobs within their overload budgets end in time,
 //! nothing switches while high jobs keep their nominal ones, and no task runs on more than its share.
-use crate::harness::boundary::{of_bytes, to_bytes, Dispatcher};
+use crate::harness::boundary::{of_words, to_words, Dispatcher};
 use crate::harness::counts::{hold, Counts};
 use crate::makers::lengths::Budget;
 use crate::makers::random::seed;
-use crate::makers::world::{Call, Story};
+use crate::makers::world::Story;
 use crate::reference::answers::Reply;
 use crate::reference::dispatcher::{Mode, State, Ticked, NODES};
+use crate::reference::logs::Call;
 use crate::reference::planner::{self, Plan};
 use crate::reference::reader::{Level, Sheet, Task};
 
@@ -63,11 +64,11 @@ struct Replay<'a> {
 }
 
 /// Runs a story on a dispatcher from the fresh state that Start returned for its sheet.
-pub fn run(dispatcher: &dyn Dispatcher, fresh: Vec<u8>, story: &Story, counts: &mut Counts) {
+pub fn run(dispatcher: &dyn Dispatcher, fresh: Vec<u32>, story: &Story, counts: &mut Counts) {
     let (sheet, plan) = planner::read_and_plan(&story.sheet).expect("a story's sheet is accepted");
     let mut model = State::fresh(&sheet, &plan);
     let on = |place: usize| format!("call {place} of {story:?}");
-    hold(&fresh, &to_bytes(&model), || on(0));
+    hold(&fresh, &to_words(&model), || on(0));
     let watches = sheet.tasks.iter().map(|_| None).collect();
     let mut replay = Replay { sheet, plan, watches, nominal: true, counts };
     let mut state = fresh;
@@ -96,13 +97,14 @@ pub fn run(dispatcher: &dyn Dispatcher, fresh: Vec<u8>, story: &Story, counts: &
                 };
                 hold(&reply, &expected, || on(place));
                 if reply.number() == 0 {
-                    replay.tick(reports, &running, reply, &of_bytes(&next), || on(place));
+                    replay
+                        .tick(reports, &running, reply, &of_words(&next).expect("a line stays a state"), || on(place));
                 }
                 (reply, next)
             }
         };
         assert!(reply.number() == 0 || next == state, "a refused call changed the state: {}", on(place));
-        hold(&next, &to_bytes(&model), || on(place));
+        hold(&next, &to_words(&model), || on(place));
         replay.counts.add(match (reply, call) {
             (Reply::Refused(number, _), _) => number.to_string(),
             (Reply::Switched(_), _) => "switched".to_string(),

@@ -1,5 +1,5 @@
 //! Families of call lists, to be run on any dispatcher.
-use crate::harness::boundary::{of_bytes, Dispatcher};
+use crate::harness::boundary::{of_words, Dispatcher};
 use crate::harness::counts::Counts;
 use crate::harness::replay::run;
 use crate::makers::crafts::{crafted, crafted_task, exact, sheet_of, Crafted, Kind};
@@ -15,7 +15,7 @@ use crate::reference::reader::{Level, Sheet};
 #[derive(Clone, Copy)]
 pub struct Subject<'a> {
     pub dispatcher: &'a dyn Dispatcher,
-    pub start: fn(&[u8]) -> (Reply, Vec<u8>),
+    pub start: fn(&[u8]) -> (Reply, Vec<u32>),
 }
 
 impl Subject<'_> {
@@ -27,7 +27,7 @@ impl Subject<'_> {
 }
 
 /// A random list over a random sheet: kinds of high jobs, and whether they may lie. Low jobs do as they please.
-fn any_story(random: &mut Random, high: &[Kind], liars: bool, scale: usize) -> Story {
+pub fn any_story(random: &mut Random, high: &[Kind], liars: bool, scale: usize) -> Story {
     let count = *random.pick(&[1, 1, 2, 2, 3, 4, 5, 8, 16]);
     let (sheet, tasks) = crafted(random, count, scale);
     let longest = sheet.tasks.iter().map(|task| usize::from(task.figures.d)).max().unwrap_or(0);
@@ -105,7 +105,7 @@ pub fn case_13(subject: Subject) {
             replies.push(reply);
             state = next;
         }
-        (replies, of_bytes(&state))
+        (replies, of_words(&state).expect("a line stays a state"))
     };
     let (replies, state) = run([4, 3, 2]);
     assert_eq!(replies, [Reply::Done; 9]);

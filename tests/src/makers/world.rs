@@ -6,16 +6,10 @@ use crate::makers::sheets::Draft;
 use crate::makers::states;
 use crate::reference::answers::Cause;
 use crate::reference::dispatcher::{State, HIGH};
+use crate::reference::logs::Call;
 use crate::reference::planner;
 use crate::reference::reader::Sheet;
 use std::collections::BTreeMap;
-
-/// A call on a state.
-#[derive(Clone, Debug, PartialEq, Eq)]
-pub enum Call {
-    Release(usize),
-    Tick(Vec<u32>),
-}
 
 /// A list of calls from Start, and the lengths of the nodes of each job that it begins.
 #[derive(Clone, Debug)]

@@ -1,6 +1,6 @@
 //! The answers of the specification's section S9.
 
-/// The cause of a refusal; its value is the number of its clause.
+/// The cause of a refusal; its value is the number of its clause, or one of the interface's own.
 #[derive(Clone, Copy, Debug, PartialEq, Eq)]
 pub enum Cause {
     Header = 1,
@@ -19,6 +19,8 @@ pub enum Cause {
     ReportCount = 14,
     NotRunning = 15,
     BoardBuffer = 16,
+    /// A line that is no state (S13.5).
+    NoState = 100,
 }
 
 /// The task of an answer that names none.
@@ -66,7 +68,7 @@ impl Reply {
     pub fn of_word(word: u32) -> Reply {
         match word.to_le_bytes() {
             [0, 255, 0, 0] => Reply::Done,
-            [number @ 1..=16, task, 0, 0] => Reply::Refused(number, task),
+            [number @ (1..=16 | 100), task, 0, 0] => Reply::Refused(number, task),
             [0, task @ 0..=15, 1, 0] => Reply::Switched(task),
             _ => panic!("{word} is not the number of an answer"),
         }

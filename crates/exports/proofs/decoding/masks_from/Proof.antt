@@ -1,75 +1,60 @@
--- `exports::decoding::masks_from` meets its contract. The loop's invariant: the cells hold the masks passed. The measure is the masks
+-- `exports::decoding::masks_from` meets its contract. The loop's invariant: the masks passed are the line's. The measure is the masks
 -- left. Assumes nothing.
-use Prim.Native.Nat.{ℕ, _+_, _*_, _-_, _≤_}
-use mathlib.Core.Path.{_≡_, sym, ap₂, ap, _∙_}
-use mathlib.Core.List.{List}
+use Prim.Native.Nat.{_+_, _-_, _≤_}
+use mathlib.Core.Path.{_≡_, refl, sym, _∙_}
 use native.Mathlib.Omega.{arith}
-use lib.ListN.{set}
 use denote.Ref.{now}
-use borrow.Author.Needs.{needs}
-use Rattle.basics.specs.Lists.{cells}
-use Rattle.basics.specs.Numbers.{u32At}
-use Rattle.basics.proofs.Cells.{cells-none, cells-store}
-use Rattle.exports.specs.StateBytes.{masksFrom}
-use Rattle.exports.proofs.Decoded.{cells-full}
+use lib.ListN.{length, getD, take, drop, length-set}
+use lib.Seq.{take-all}
+use Rattle.exports.proofs.Stored.{read-next}
 use Rattle.exports.proofs.decoding.masks_from.Statement.{statement}
 use Rattle.exports.proofs.decoding.masks_from.Tie as tie
 
--- The masks of the nodes below v, and zeros.
-masksBelow : List ℕ → ℕ → ℕ → List ℕ
-masksBelow bytes at v = cells 32 (λ v. u32At bytes (at + 21 + 4 * v)) 0 v
-
 abbrev Inv-loop : tie.InvT-loop
-Inv-loop bytes at masks₀ v₀ masks v = (v ≤ 32) × (masks ≡ masksBelow bytes at v)
+Inv-loop line at masks₀ v₀ masks v = (v ≤ 32) × (length masks ≡ 32) × (take v masks ≡ take v (drop at line))
 
 abbrev μ-loop : tie.MeasureT-loop
-μ-loop bytes at masks₀ v₀ masks v = 32 - v
+μ-loop line at masks₀ v₀ masks v = 32 - v
 
 loop-holds : tie.Need-loop-holds Inv-loop μ-loop
-unfolding masksBelow
-loop-holds c = (omega arith, sym (cells-none (λ v. u32At (now (c .before .args .bytes)) (c .before .args .at + 21 + 4 * v)) 0 0 32 0 (omega arith)))
+loop-holds c = (omega arith, refl, refl)
 
-add-u32-at : tie.Need-add-u32-at Inv-loop μ-loop
-add-u32-at c = search needs
-
-mul-u32-at : tie.Need-mul-u32-at Inv-loop μ-loop
-mul-u32-at c = search needs
-
-add-u32-at-2 : tie.Need-add-u32-at-2 Inv-loop μ-loop
-add-u32-at-2 c = search needs
-
-u32-at-requires : tie.Need-u32-at-requires Inv-loop μ-loop
-u32-at-requires c κs = search needs
+add-masks : tie.Need-add-masks Inv-loop μ-loop
+add-masks c = omega arith
 
 mul-masks : tie.Need-mul-masks Inv-loop μ-loop
-mul-masks c = search needs
+mul-masks c = omega arith
+
+shared-slice-read-masks : tie.Need-shared-slice-read-masks Inv-loop μ-loop
+shared-slice-read-masks c = omega arith
+
+mul-masks-2 : tie.Need-mul-masks-2 Inv-loop μ-loop
+mul-masks-2 c = omega arith
 
 array-write-masks : tie.Need-array-write-masks Inv-loop μ-loop
-array-write-masks c = search needs
+array-write-masks c = omega arith
 
 add-v : tie.Need-add-v Inv-loop μ-loop
-add-v c = search needs
+add-v c = omega arith
 
 loop-less : tie.Need-loop-less Inv-loop μ-loop
-loop-less c = search needs
+loop-less c = omega arith
 
 loop-again : tie.Need-loop-again Inv-loop μ-loop
-unfolding masksBelow
 loop-again c =
-    let args = c .before .before .before .before .args in
+    let args = c .before .before .before .args in
     let loop = c .before .before .loop in (
       omega arith,
-      ap₂ (λ (l : List ℕ) (x : ℕ). set l (loop .v) x) (loop .inv .1) (c .u32-at .ensures)
-          ∙ cells-store (λ v. u32At (now (args .bytes)) (args .at + 21 + 4 * v)) 0 32 (loop .v) (omega arith),
+      length-set (loop .masks) (loop .v) (getD (now (args .line)) (args .at + loop .v) 0) ∙ loop .inv .1,
+      read-next (loop .masks) (now (args .line)) (args .at) (loop .v) (omega arith) (omega arith) (loop .inv .2),
     )
 
 returns : tie.Need-returns Inv-loop μ-loop
-unfolding masksBelow masksFrom
 returns c =
-    let args = c .before .before .before .args in
-    let all : c .before .loop .v ≡ 32 = omega arith in
-    c .before .loop .inv .1 ∙ ap (masksBelow (now (args .bytes)) (args .at)) all
-    ∙ cells-full (λ v. u32At (now (args .bytes)) (args .at + 21 + 4 * v)) 0 0 32 32 (omega arith)
+    let args = c .before .before .args in
+    let loop = c .before .loop in
+    let all : loop .v ≡ 32 = omega arith in
+    sym (take-all 32 (loop .masks) (omega arith)) ∙ (rw all at (loop .inv .2))
 
 pub masks-from-spec : {M : Type 1} → statement M
 masks-from-spec =
@@ -78,11 +63,10 @@ masks-from-spec =
     Inv-loop
     μ-loop
     loop-holds
-    add-u32-at
-    mul-u32-at
-    add-u32-at-2
-    u32-at-requires
+    add-masks
     mul-masks
+    shared-slice-read-masks
+    mul-masks-2
     array-write-masks
     add-v
     loop-less

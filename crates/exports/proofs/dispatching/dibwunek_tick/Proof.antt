@@ -1,45 +1,81 @@
--- `exports::dispatching::dibwunek_tick` meets its contract by what `state_from`, `tick` and `write_state` ensure. Assumes nothing.
-use mathlib.Core.Path.{ap, _∙_}
+-- `exports::dispatching::dibwunek_tick` meets its contract: no state, a refused tick, an accepted one. Assumes nothing.
+use mathlib.Core.Path.{_≡_, sym, _∙_}
+use mathlib.Core.Bool.{true}
+use borrow.Author.Tests.{not-true, not-false}
 use denote.Ref.{now}
-use Rattle.dispatcher.specs.declared.tick.Ticked.{Ticked}
-use Rattle.dispatcher.specs.declared.state.State.{State}
-use Rattle.dispatcher.specs.Calls.{tickOf}
-use Rattle.exports.specs.StateBytes.{stored}
-use Rattle.exports.specs.Ticks.{tickWord}
+use Rattle.exports.specs.Words.{isState}
+use Rattle.exports.proofs.Lines.{state-line}
+use Rattle.exports.proofs.Called.{says-none, tick-none, tick-refused, tick-accepted}
 use borrow.Author.Needs.{needs}
 use Rattle.exports.proofs.dispatching.dibwunek_tick.Statement.{statement}
 use Rattle.exports.proofs.dispatching.dibwunek_tick.Tie as tie
 
-state-from-requires : tie.Need-state-from-requires
-state-from-requires c κs = search needs
-
-tick-requires : tie.Need-tick-requires
-tick-requires c κs = search needs
-
-write-state-requires : tie.Need-write-state-requires
-write-state-requires c κs = search needs
-
-tick-word-requires : tie.Need-tick-word-requires
-tick-word-requires c κs = search needs
+is-state-requires : tie.Need-is-state-requires
+is-state-requires c κs = search needs
 
 same-length : tie.Need-same-length
 same-length c = search needs
 
 returns : tie.Need-returns
 returns c =
-    let args = c .before .before .before .before .before .before .before .before .before .before .before .args in
-    let ticked = c .before .before .before .before .before .before .tick .ensures .0 ∙ ap (λ (s : State). tickOf s (now (args .reports))) (c .before .before .before .before .before .before .before .state-from .ensures) in (
-      c .tick-word .ensures ∙ ap (λ (r : Ticked). tickWord (r .answer)) ticked,
-      c .before .before .before .write-state .ensures ∙ ap (λ (r : Ticked). stored (r .state) (now (args .out))) ticked,
-    )
+    let args = c .before .before .before .before .before .args in
+    let none = sym (c .before .is-state .ensures) ∙ not-true _ (c .if1 .taken) in
+    says-none (now (args .state)) (tick-none (now (args .state)) (now (args .reports)) none)
+
+-- Past the first test the line is a state.
+is : (c : tie.Else1) → isState (now (c .before .before .before .before .before .args .state)) ≡ true
+is c = sym (c .before .is-state .ensures) ∙ not-false _ (c .if1 .left)
+
+state-from-requires : tie.Need-state-from-requires
+state-from-requires c κs = is (c .before)
+
+tick-requires : tie.Need-tick-requires
+tick-requires c κs = search needs
+
+enum-told : tie.Need-enum-told
+enum-told c = search needs
+
+tick-word-requires : tie.Need-tick-word-requires
+tick-word-requires c κs = search needs
+
+same-length-2 : tie.Need-same-length-2
+same-length-2 c = search needs
+
+returns-2 : tie.Need-returns-2
+returns-2 c =
+    let at = c .before .before .before .before .before .before in
+    let args = at .before .before .before .before .before .args in
+    tick-refused (now (args .state)) (now (args .reports)) (is at) _ (c .before .before .before .before .state-from .ensures) _ (c .before .before .before .tick .ensures .0) _ (c .tick-word .ensures) (c .before .enum-told .given .1)
+
+write-state-requires : tie.Need-write-state-requires
+write-state-requires c κs = state-line _ (is (c .before .before .before .before .before .before)) .long
+
+tick-word-requires-2 : tie.Need-tick-word-requires-2
+tick-word-requires-2 c κs = search needs
+
+same-length-3 : tie.Need-same-length-3
+same-length-3 c = search needs
+
+returns-3 : tie.Need-returns-3
+returns-3 c =
+    let at = c .before .before .before .before .before .before .before .before .before .before in
+    let args = at .before .before .before .before .before .args in
+    tick-accepted (now (args .state)) (now (args .reports)) (is at) _ (c .before .before .before .before .before .before .before .before .state-from .ensures) _ (c .before .before .before .before .before .before .before .tick .ensures .0) _ _ (c .tick-word2 .ensures) (c .before .before .before .write-state .ensures .1)
 
 pub dibwunek-tick-spec : {M : Type 1} → statement M
 dibwunek-tick-spec =
     tie.close
     (tie.spec
+    is-state-requires
+    same-length
+    returns
     state-from-requires
     tick-requires
-    write-state-requires
+    enum-told
     tick-word-requires
-    same-length
-    returns)
+    same-length-2
+    returns-2
+    write-state-requires
+    tick-word-requires-2
+    same-length-3
+    returns-3)

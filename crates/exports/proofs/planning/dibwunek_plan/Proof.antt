@@ -1,6 +1,7 @@
 -- `exports::planning::dibwunek_plan` meets its contract by what `plan` ensures. Assumes nothing.
 use mathlib.Core.Path.{_∙_, ap}
 use Rattle.exports.specs.Fields.{answerWord}
+use Rattle.exports.specs.Calls.{planCall}
 use borrow.Author.Needs.{needs}
 use Rattle.exports.proofs.planning.dibwunek_plan.Statement.{statement}
 use Rattle.exports.proofs.planning.dibwunek_plan.Tie as tie
@@ -15,6 +16,7 @@ same-length : tie.Need-same-length
 same-length c = search needs
 
 returns : tie.Need-returns
+unfolding planCall
 returns c = let plan = c .before .before .before .plan .ensures in (c .answer-word .ensures ∙ ap answerWord (plan .0), plan .1 .1)
 
 pub dibwunek-plan-spec : {M : Type 1} → statement M

@@ -24,6 +24,6 @@ unfolding shapeLawful
 returns c = rw (c .bytes-before-masks .ensures .0, c .before .is-within .ensures, c .before .before .is-lawful .ensures)
 
 pub shape-lawful-spec : {M : Type 1} → statement M
-shape-lawful-spec = 
+shape-lawful-spec =
     tie.close
     (tie.spec is-lawful-requires is-within-requires bytes-before-masks-requires mul-result add-result returns)
