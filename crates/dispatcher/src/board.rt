@@ -64,7 +64,7 @@ fn put_tasks(buffer: &mut [u8], state: State)
     let mut i: u8 = 0;
     while i < n {
         let e = state.entries[i as usize];
-        let grant = share_in(e, state.critical);
+        let grant = share_in(e.share, state.critical);
         put_nodes(buffer, at, i, running(e, grant));
         at += 2 * (grant as usize);
         i += 1;

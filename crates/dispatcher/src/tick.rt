@@ -101,9 +101,9 @@ pub fn tick(state: State, reports: &[u32]) -> Ticked
             return refused(state, NOT_SOUND, NO_TASK);
         }
         let report = reports[i as usize];
-        let grant = share_in(e, state.critical);
-        let wrong = !nodes::is_within(report, running(e, grant));
         let after = ticked(e, report);
+        let grant = share_in(e.share, state.critical);
+        let wrong = !nodes::is_within(report, running(e, grant));
         pass = passed(pass, i, e.share, wrong, is_late(after));
         next.entries[i as usize] = after;
         i += 1;

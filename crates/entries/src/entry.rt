@@ -8,6 +8,7 @@ ghost use Rattle.shares.specs.Totals.{shareIn};
 ghost use Rattle.model.specs.Row.{isSubset, allEnded, ready, runningSet, releasedRow, tickedRow, isLate, survives, switchedRow};
 ghost use Rattle.entries.specs.Entry.{fixedOf, rowOf, withRow};
 use crate::state::TaskState;
+use shares::share::Share;
 use sheet::level::is_high;
 
 // S8.5: whether all nodes have ended.
@@ -54,13 +55,13 @@ fn ready(e: TaskState) -> u32
 }
 
 // S8.3: the share that the mode allows.
-pub fn share_in(e: TaskState, critical: bool) -> u8
-    ensures { λ r. ⌜ r ≡ shareIn critical (e .share) ⌝ }
+pub fn share_in(share: Share, critical: bool) -> u8
+    ensures { λ r. ⌜ r ≡ shareIn critical share ⌝ }
 {
     if critical {
-        e.share.critical
+        share.critical
     } else {
-        e.share.typical
+        share.typical
     }
 }
 

@@ -145,17 +145,17 @@ mul-report c = omega (arith, few (c .before .before .before .before .before .bef
 shared-slice-read-report : tie.Need-shared-slice-read-report Inv-loop μ-loop
 shared-slice-read-report c = omega (arith, same (c .before .before .before .before .before .before .before))
 
+ticked-requires : tie.Need-ticked-requires Inv-loop μ-loop
+ticked-requires c κs = rw (untouched (c .before .before .before)) (few-nodes _ (sound (c .before)))
+
 share-in-requires : tie.Need-share-in-requires Inv-loop μ-loop
 share-in-requires c κs = search needs
 
 running-requires : tie.Need-running-requires Inv-loop μ-loop
-running-requires c κs = rw (untouched (c .before .before .before .before)) (few-nodes _ (sound (c .before .before)))
+running-requires c κs = rw (untouched (c .before .before .before .before .before)) (few-nodes _ (sound (c .before .before .before)))
 
 is-within-requires : tie.Need-is-within-requires Inv-loop μ-loop
 is-within-requires c κs = search needs
-
-ticked-requires : tie.Need-ticked-requires Inv-loop μ-loop
-ticked-requires c κs = rw (untouched (c .before .before .before .before .before .before)) (few-nodes _ (sound (c .before .before .before .before)))
 
 is-late-requires : tie.Need-is-late-requires Inv-loop μ-loop
 is-late-requires c κs = search needs
@@ -193,9 +193,9 @@ loop-again c =
     let reports = now (args .reports) in
     let report = getD reports (loop .i) 0 in
     let e = entryAt s (loop .i) in
-    let stored : c .before .before .ticked .result ≡ withRow e (tickedRow (rowOf e) report) =
-    c .before .before .ticked .ensures ∙ ap (λ (x : TaskState). withRow x (tickedRow (rowOf x) report)) (untouched turn) in
-    let late : c .before .is-late .result ≡ isLate (rowOf (c .before .before .ticked .result)) = c .before .is-late .ensures in
+    let stored : c .before .before .before .before .before .ticked .result ≡ withRow e (tickedRow (rowOf e) report) =
+    c .before .before .before .before .before .ticked .ensures ∙ ap (λ (x : TaskState). withRow x (tickedRow (rowOf x) report)) (untouched turn) in
+    let late : c .before .is-late .result ≡ isLate (rowOf (c .before .before .before .before .before .ticked .result)) = c .before .is-late .ensures in
     let read = getD (loop .next .entries) (loop .i) noEntry in
     let typicals : c .passed .result .typical ≡ loop .pass .typical + read .share .typical = c .passed .ensures .0 in
     let criticals : c .passed .result .critical ≡ loop .pass .critical + read .share .critical = c .passed .ensures .1 .0 in
@@ -203,17 +203,17 @@ loop-again c =
     typicals ∙ ap (λ (x : TaskState). loop .pass .typical + x .share .typical) (untouched turn) in
     let critical : c .passed .result .critical ≡ loop .pass .critical + e .share .critical =
     criticals ∙ ap (λ (x : TaskState). loop .pass .critical + x .share .critical) (untouched turn) in
-    let grant : c .before .before .before .before .before .share-in .result ≡ granted (modelOf s) (loop .i) =
-    c .before .before .before .before .before .share-in .ensures
+    let grant : c .before .before .before .before .share-in .result ≡ granted (modelOf s) (loop .i) =
+    c .before .before .before .before .share-in .ensures
     ∙ ap (λ (x : TaskState). shareIn (s .critical) (x .share)) (untouched turn)
     ∙ sym (granted-entry s (long at) (loop .i) (omega arith)) in
-    let inside : c .before .before .before .is-within .result ≡ isSubset report (runningSet (granted (modelOf s) (loop .i)) (rowOf e)) =
-    c .before .before .before .is-within .ensures
-    ∙ ap (isWithin 32 report) (c .before .before .before .before .running .ensures ∙ ap₂ (λ (n : ℕ) (x : TaskState). runningSet n (rowOf x)) grant (untouched turn))
+    let inside : c .before .before .is-within .result ≡ isSubset report (runningSet (granted (modelOf s) (loop .i)) (rowOf e)) =
+    c .before .before .is-within .ensures
+    ∙ ap (isWithin 32 report) (c .before .before .before .running .ensures ∙ ap₂ (λ (n : ℕ) (x : TaskState). runningSet n (rowOf x)) grant (untouched turn))
     ∙ within-subset report _ (omega (arith, c .before .before .before .before .before .before .shared-slice-known2 .given (loop .i))) in (
       omega arith,
-      scanned-more s reports (long at) (loop .i) _ _ _ _ (loop .next) _ _ _ _ (not (c .before .before .before .is-within .result)) (c .before .is-late .result)
-          (c .before .before .ticked .result)
+      scanned-more s reports (long at) (loop .i) _ _ _ _ (loop .next) _ _ _ _ (not (c .before .before .is-within .result)) (c .before .is-late .result)
+          (c .before .before .before .before .before .ticked .result)
           (loop .inv .1)
           (same at)
           (omega arith)
@@ -322,10 +322,10 @@ tick-spec =
     cast-report
     mul-report
     shared-slice-read-report
+    ticked-requires
     share-in-requires
     running-requires
     is-within-requires
-    ticked-requires
     is-late-requires
     passed-requires
     cast-after

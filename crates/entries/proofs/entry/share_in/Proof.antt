@@ -1,14 +1,11 @@
 -- `entries::entry::share_in` meets its contract, by the mode. Assumes nothing.
-use Rattle.entries.specs.Entry.{fixedOf}
 use Rattle.entries.proofs.entry.share_in.Statement.{statement}
 use Rattle.entries.proofs.entry.share_in.Tie as tie
 
 returns : tie.Need-returns
-unfolding fixedOf
 returns c = rw (c .if1 .taken)
 
 returns-2 : tie.Need-returns-2
-unfolding fixedOf
 returns-2 c = rw (c .if1 .left)
 
 pub share-in-spec : {M : Type 1} → statement M
