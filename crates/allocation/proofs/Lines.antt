@@ -13,7 +13,6 @@ use Rattle.basics.proofs.Cells.{cells-none, cells-store}
 use Rattle.shares.specs.declared.share.Share.{Share}
 use Rattle.shares.specs.Row.{tabulate}
 use Rattle.shares.proofs.Rows.{tabulate-at, tabulate-length, tabulated}
-use Rattle.allocation.specs.declared.rows.Row.{Row}
 use Rattle.allocation.specs.declared.selection.Totals.{Totals}
 use Rattle.shares.specs.Totals.{noProcessors}
 use Rattle.allocation.specs.Allocation.{sixteen}
@@ -86,21 +85,21 @@ totals-more M row rows =
     (λ t inside. with-same M row (entryAt (totalsOf M rows)) (leastTotal M rows) t (λ x below. entry-totals M rows x (omega arith)))
 
 -- The first n rows.
-module _ (n : ℕ) (rows : List Row) (there : n ≤ length rows) where
+module _ (n : ℕ) (rows : List (List ℕ)) (there : n ≤ length rows) where
   pub rows-length : length (rowsUpTo n rows) ≡ n
   unfolding rowsUpTo
-  rows-length = length-map (take n rows) (λ row. cellAt (row .cells)) ∙ length-take-le n rows there
+  rows-length = length-map (take n rows) cellAt ∙ length-take-le n rows there
 
   -- The row of task i before those after it.
-  pub rows-open : (i : ℕ) → i < n → drop i (rowsUpTo n rows) ≡ cellAt (getD rows i missingRow .cells) ∷ drop (i + 1) (rowsUpTo n rows)
+  pub rows-open : (i : ℕ) → i < n → drop i (rowsUpTo n rows) ≡ cellAt (getD rows i missingRow) ∷ drop (i + 1) (rowsUpTo n rows)
   unfolding rowsUpTo
   rows-open i inside =
-      let within : i < length (map (λ (row : Row). cellAt (row .cells)) (take n rows)) = omega (arith, rows-length) in
-      drop-cons (map (λ (row : Row). cellAt (row .cells)) (take n rows)) i (cellAt []) within
+      let within : i < length (map cellAt (take n rows)) = omega (arith, rows-length) in
+      drop-cons (map cellAt (take n rows)) i (cellAt []) within
       ∙ rw (add-one i)
-      (ap (λ (row : ℕ → ℕ). row ∷ drop (suc i) (map (λ (r : Row). cellAt (r .cells)) (take n rows)))
-      (List·getD-map (λ (row : Row). cellAt (row .cells)) (take n rows) i missingRow
-      ∙ ap (λ (row : Row). cellAt (row .cells)) (getD-take n rows i missingRow inside)))
+      (ap (λ (row : ℕ → ℕ). row ∷ drop (suc i) (map cellAt (take n rows)))
+      (List·getD-map cellAt (take n rows) i missingRow
+      ∙ ap cellAt (getD-take n rows i missingRow inside)))
 
 -- The totals of the last k tasks.
 abbrev pub line : ℕ → List (ℕ → ℕ) → ℕ → ℕ → Totals
@@ -142,17 +141,17 @@ module _ (M n : ℕ) (rows : List (ℕ → ℕ)) (all-there : length rows ≡ n)
   lines-last = refl
 
 -- The line that the loop stores, from the row of the task and the line before.
-pub line-more : (M n : ℕ) (rows : List Row) → n ≤ length rows → (k : ℕ) → k < n →
-    tabulate (totalWith M (cellAt (getD rows (n - 1 - k) missingRow .cells)) (entryAt (line M (rowsUpTo n rows) n k .cells))) 0 65
+pub line-more : (M n : ℕ) (rows : List (List ℕ)) → n ≤ length rows → (k : ℕ) → k < n →
+    tabulate (totalWith M (cellAt (getD rows (n - 1 - k) missingRow)) (entryAt (line M (rowsUpTo n rows) n k .cells))) 0 65
     ≡ line M (rowsUpTo n rows) n (k + 1) .cells
 line-more M n rows there k inside =
     let place : n - 1 - k ≡ n - (k + 1) = omega arith in
     let next : n - (k + 1) + 1 ≡ n - k = omega arith in
     rw place
-    (totals-more M (cellAt (getD rows (n - (k + 1)) missingRow .cells)) (drop (n - k) (rowsUpTo n rows))
+    (totals-more M (cellAt (getD rows (n - (k + 1)) missingRow)) (drop (n - k) (rowsUpTo n rows))
     ∙ ap (totalsOf M)
     (sym (rows-open n rows there (n - (k + 1)) (omega arith)
-    ∙ ap (λ (x : ℕ). cellAt (getD rows (n - (k + 1)) missingRow .cells) ∷ drop x (rowsUpTo n rows)) next)))
+    ∙ ap (λ (x : ℕ). cellAt (getD rows (n - (k + 1)) missingRow) ∷ drop x (rowsUpTo n rows)) next)))
 
 -- What the selection reads off the lines of n tasks.
 module _ (M n : ℕ) (rows : List (ℕ → ℕ)) (all-there : length rows ≡ n) (few : n ≤ 16) where

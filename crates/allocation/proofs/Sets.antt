@@ -25,7 +25,6 @@ use Rattle.shares.specs.Row.{tabulate, criticalAt, rowOf}
 use Rattle.shares.proofs.Levels.{critical-within}
 use Rattle.shares.proofs.Rows.{row-at}
 use Rattle.allocation.specs.declared.choice.Chosen.{Chosen}
-use Rattle.allocation.specs.declared.rows.Row.{Row}
 use Rattle.allocation.specs.Choice.{optionsOf, choices, fits, leastOf, fitting, chosen}
 use Rattle.shares.specs.Totals.{noProcessors}
 use Rattle.allocation.specs.Allocation.{noShare, tasksOf, chosenFor, shareAnswer, choiceAnswer, choiceOf}
@@ -142,22 +141,22 @@ module _ (set : TaskSet) (lawful : LawfulSet set) where
   there : set .count ≤ length (set .tasks)
   there = let long = lawful .all-there in let few = lawful .few-tasks in omega arith
 
-  rows-there : set .count ≤ length (rowsOf set)
+  pub rows-there : set .count ≤ length (rowsOf set)
   unfolding rowsOf
   rows-there =
       let few = lawful .few-tasks in
-      let long : length (rowsOf set) ≡ 16 = cells-length (λ i. record { cells = rowOf (set .processors) (taskIn set i) }) zeroRow 0 16 (set .count) in
+      let long : length (rowsOf set) ≡ 16 = cells-length (λ i. rowOf (set .processors) (taskIn set i)) zeroRow 0 16 (set .count) in
       omega arith
 
   -- The row of task i.
-  pub rows-at : (i : ℕ) → i < set .count → getD (rowsOf set) i missingRow ≡ record { cells = rowOf (set .processors) (taskIn set i) }
+  pub rows-at : (i : ℕ) → i < set .count → getD (rowsOf set) i missingRow ≡ rowOf (set .processors) (taskIn set i)
   unfolding rowsOf
   rows-at i inside =
       let few = lawful .few-tasks in
-      cells-at (λ j. record { cells = rowOf (set .processors) (taskIn set j) }) zeroRow 16 (set .count) i missingRow (omega arith) inside
+      cells-at (λ j. rowOf (set .processors) (taskIn set j)) zeroRow 16 (set .count) i missingRow (omega arith) inside
 
   row-at-task : (i : ℕ) → i < set .count →
-      RowOf (set .processors) (optionsOf (set .processors) (taskIn set i)) (cellAt (getD (rowsOf set) i missingRow .cells))
+      RowOf (set .processors) (optionsOf (set .processors) (taskIn set i)) (cellAt (getD (rowsOf set) i missingRow))
   row-at-task i inside =
       rw (rows-at i inside) (row-rows (set .processors) (taskIn set i) (lawful .few-processors) (lawful .lawful i inside))
 
@@ -188,7 +187,7 @@ module _ (set : TaskSet) (lawful : LawfulSet set) where
   unfolding rowAnswer shareAnswer
   answer-same i inside =
       ap (λ (t : Bool). refusedIf t noShare i)
-      (ap (λ (row : Row). offersNone (set .processors) (row .cells)) (rows-at i inside)
+      (ap (λ (row : List ℕ). offersNone (set .processors) row) (rows-at i inside)
       ∙ offers-empty (set .processors) (taskIn set i) (lawful .few-processors) (lawful .lawful i inside))
 
   pub answers-same : firstOver (rowAnswer (set .processors) (rowsOf set)) 0 (set .count) ≡ firstOver (shareAnswer set) 0 (set .count)
@@ -223,7 +222,7 @@ module _ (set : TaskSet) (lawful : LawfulSet set) where
       ∙ least-of-none
 
   -- The answers of `choose`, by the rows.
-  module _ (rows : List Row) (of-set : rows ≡ rowsOf set) where
+  module _ (rows : List (List ℕ)) (of-set : rows ≡ rowsOf set) where
     answers-are : firstOver (shareAnswer set) 0 (set .count) ≡ firstOver (rowAnswer (set .processors) rows) 0 (set .count)
     answers-are = rw of-set (sym answers-same)
 

@@ -11,7 +11,6 @@ use Rattle.sheet.specs.Answers.{noTask}
 use Rattle.basics.specs.Lists.{cells}
 use Rattle.basics.proofs.Cells.{cells-store}
 use Rattle.shares.specs.declared.share.Share.{Share}
-use Rattle.allocation.specs.declared.rows.Row.{Row}
 use Rattle.allocation.specs.declared.selection.Totals.{Totals}
 use Rattle.shares.specs.Totals.{noProcessors}
 use Rattle.allocation.specs.Allocation.{noFit, sixteen}
@@ -39,7 +38,7 @@ module _ (M : ℕ) (rows : List (ℕ → ℕ)) where
   selection-some within shares e = rw (select-within within, e)
 
 -- Before the walk: the best typical total is read off the line of all tasks.
-module _ (M n : ℕ) (rows : List Row) (there : n ≤ length rows) (few : n ≤ 16) (small : M ≤ 64)
+module _ (M n : ℕ) (rows : List (List ℕ)) (there : n ≤ length rows) (few : n ≤ 16) (small : M ≤ 64)
     (all : List Totals) (lines : all ≡ lastTotals M (rowsUpTo n rows) n) where
   whole-is : getD all n missingTotals .cells ≡ totalsOf M (rowsUpTo n rows)
   whole-is = rw lines (whole-line M n (rowsUpTo n rows) (rows-length n rows there) few)
@@ -52,31 +51,31 @@ module _ (M n : ℕ) (rows : List Row) (there : n ≤ length rows) (few : n ≤ 
   total-is t to = rw whole-is (entry-totals M (rowsUpTo n rows) t (omega arith))
 
 -- What the walk has at task i, where the tasks from i on have `left` typical processors and task i takes a of them.
-pub record Step (M n : ℕ) (rows : List Row) (i left a : ℕ) (shares : List Share) : Type 0 where
+pub record Step (M n : ℕ) (rows : List (List ℕ)) (i left a : ℕ) (shares : List Share) : Type 0 where
   pub from : 1 ≤ a
   pub to : a ≤ left
   pub within : leastTotal M (drop (i + 1) (rowsUpTo n rows)) (left - a) ≤ M
   pub rest : drop (i + 1) shares ≡ sharesAt M (drop (i + 1) (rowsUpTo n rows)) (left - a)
   pub store : set (cells 16 (λ j. getD shares j noProcessors) noProcessors i) i
-      (record { typical = a; critical = getD (getD rows i missingRow .cells) (a - 1) 0 })
+      (record { typical = a; critical = getD (getD rows i missingRow) (a - 1) 0 })
       ≡ cells 16 (λ j. getD shares j noProcessors) noProcessors (i + 1)
 
-module _ (M n : ℕ) (rows : List Row) (there : n ≤ length rows) (few : n ≤ 16) (small : M ≤ 64)
+module _ (M n : ℕ) (rows : List (List ℕ)) (there : n ≤ length rows) (few : n ≤ 16) (small : M ≤ 64)
     (i left : ℕ) (inside : i < n) (left-to : left ≤ M) (within : leastTotal M (drop i (rowsUpTo n rows)) left ≤ M) where
-  here : leastTotal M (cellAt (getD rows i missingRow .cells) ∷ drop (i + 1) (rowsUpTo n rows)) left ≤ M
+  here : leastTotal M (cellAt (getD rows i missingRow) ∷ drop (i + 1) (rowsUpTo n rows)) left ≤ M
   here = rw (rows-open n rows there i inside) at within
 
   pub walk-some : 1 ≤ left
   walk-some =
-      step-some M (cellAt (getD rows i missingRow .cells)) (drop (i + 1) (rowsUpTo n rows)) left _ (omega arith) here refl
+      step-some M (cellAt (getD rows i missingRow)) (drop (i + 1) (rowsUpTo n rows)) left _ (omega arith) here refl
 
   module _ (all : List Totals) (lines : all ≡ lastTotals M (rowsUpTo n rows) n) (a : ℕ)
-      (best : a ≡ bestShare (cellAt (getD rows i missingRow .cells)) (entryAt (getD all (n - 1 - i) missingTotals .cells)) left)
+      (best : a ≡ bestShare (cellAt (getD rows i missingRow)) (entryAt (getD all (n - 1 - i) missingTotals .cells)) left)
       (shares : List Share) (from : drop i shares ≡ sharesAt M (drop i (rowsUpTo n rows)) left) where
-    best-is : a ≡ bestShare (cellAt (getD rows i missingRow .cells)) (entryAt (totalsOf M (drop (i + 1) (rowsUpTo n rows)))) left
+    best-is : a ≡ bestShare (cellAt (getD rows i missingRow)) (entryAt (totalsOf M (drop (i + 1) (rowsUpTo n rows)))) left
     best-is = rw (lines, rest-line M n (rowsUpTo n rows) (rows-length n rows there) few i inside) at best
 
-    opened : drop i shares ≡ offered (cellAt (getD rows i missingRow .cells)) a ∷ sharesAt M (drop (i + 1) (rowsUpTo n rows)) (left - a)
+    opened : drop i shares ≡ offered (cellAt (getD rows i missingRow)) a ∷ sharesAt M (drop (i + 1) (rowsUpTo n rows)) (left - a)
     opened =
         from ∙ ap (λ (r : List (ℕ → ℕ)). sharesAt M r left) (rows-open n rows there i inside)
         ∙ step-shares M _ (drop (i + 1) (rowsUpTo n rows)) left a (omega arith) here best-is
@@ -96,7 +95,7 @@ module _ (M n : ℕ) (rows : List Row) (there : n ≤ length rows) (few : n ≤ 
         }
 
 -- After the walk.
-pub walk-done : (M n : ℕ) (rows : List Row) → n ≤ length rows → (i : ℕ) → i ≡ n →
+pub walk-done : (M n : ℕ) (rows : List (List ℕ)) → n ≤ length rows → (i : ℕ) → i ≡ n →
     cells 16 (λ j. getD (sharesAt M (rowsUpTo n rows) (bestTotal M (rowsUpTo n rows))) j noProcessors) noProcessors i
     ≡ sixteen (sharesAt M (rowsUpTo n rows) (bestTotal M (rowsUpTo n rows)))
 walk-done M n rows there i done =

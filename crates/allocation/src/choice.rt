@@ -4,7 +4,7 @@ ghost use Rattle.sheet.specs.Answers.{numberOf, taskOf, Says};
 ghost use Rattle.allocation.specs.Lawful.{LawfulSet};
 ghost use Rattle.allocation.specs.Allocation.{choiceOf};
 use crate::rows::offers_none;
-use crate::rows::rows_of;
+use crate::rows::put_rows;
 use crate::selection::select;
 use shares::share::Share;
 use sheet::answer::Answer;
@@ -26,11 +26,11 @@ pub fn choose(set: TaskSet) -> Chosen
 {
     let n = set.count;
     let m = set.processors;
-    let rows = rows_of(set);
+    let mut rows = [[0u8; 64]; 16];
+    put_rows(set, &mut rows);
     let mut i: u8 = 0;
     while i < n {
-        let row = rows[i as usize];
-        let cells = row.cells;
+        let cells = rows[i as usize];
         if offers_none(cells, m) {
             return Chosen {
                 answer: Answer::Refused(NO_SHARE, i),
@@ -42,5 +42,5 @@ pub fn choose(set: TaskSet) -> Chosen
         }
         i += 1;
     }
-    select(rows, n, m)
+    select(&rows, n, m)
 }

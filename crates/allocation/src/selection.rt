@@ -2,10 +2,10 @@
 ghost use mathlib.Core.Path.{_≡_};
 ghost use mathlib.Core.List.{[]};
 ghost use Prim.Native.Nat.{_+_, _≤_, min};
+ghost use lib.ListN.{length};
 ghost use Rattle.shares.specs.Row.{tabulate};
 ghost use Rattle.allocation.specs.means.Selection.{cellAt, entryAt, leastFrom, bestShare, sumAt, totalWith, totalsOf, rowsUpTo, lastTotals, selectionOf};
 use crate::choice::Chosen;
-use crate::rows::Row;
 use shares::share::Share;
 use sheet::answer::Answer;
 use sheet::answer::NO_TASK;
@@ -86,9 +86,9 @@ fn no_totals(m: u8) -> [u8; 65]
 }
 
 // The totals of the last k of n tasks, for each k.
-fn last_totals(rows: [Row; 16], n: u8, m: u8) -> [Totals; 17]
-    requires { ⌜ (n ≤ 16) × (m ≤ 64) ⌝ }
-    ensures { λ r. ⌜ r ≡ lastTotals m (rowsUpTo n rows) n ⌝ }
+fn last_totals(rows: &[[u8; 64]; 16], n: u8, m: u8) -> [Totals; 17]
+    requires { ⌜ (n ≤ 16) × (m ≤ 64) × (n ≤ length (now rows)) ⌝ }
+    ensures { λ r. ⌜ r ≡ lastTotals m (rowsUpTo n (now (rows .entry))) n ⌝ }
 {
     let count = n as usize;
     let mut all = [Totals {
@@ -98,10 +98,9 @@ fn last_totals(rows: [Row; 16], n: u8, m: u8) -> [Totals; 17]
     while k < count {
         let row = rows[count - 1 - k];
         let rest = all[k];
-        let row_cells = row.cells;
         let rest_cells = rest.cells;
         all[k + 1] = Totals {
-            cells: totals_with(row_cells, rest_cells, m),
+            cells: totals_with(row, rest_cells, m),
         };
         k += 1;
     }
@@ -125,9 +124,9 @@ fn first_least(totals: [u8; 65], m: u8) -> u8
 }
 
 // Refusal 8 and the shares of n tasks with these rows.
-pub fn select(rows: [Row; 16], n: u8, m: u8) -> Chosen
-    requires { ⌜ (n ≤ 16) × (m ≤ 64) ⌝ }
-    ensures { λ r. ⌜ r ≡ selectionOf m (rowsUpTo n rows) ⌝ }
+pub fn select(rows: &[[u8; 64]; 16], n: u8, m: u8) -> Chosen
+    requires { ⌜ (n ≤ 16) × (m ≤ 64) × (n ≤ length (now rows)) ⌝ }
+    ensures { λ r. ⌜ r ≡ selectionOf m (rowsUpTo n (now (rows .entry))) ⌝ }
 {
     let count = n as usize;
     let all = last_totals(rows, n, m);
@@ -148,13 +147,12 @@ pub fn select(rows: [Row; 16], n: u8, m: u8) -> Chosen
     while i < count {
         let row = rows[i];
         let rest = all[count - 1 - i];
-        let row_cells = row.cells;
         let rest_cells = rest.cells;
-        let best = best_share(&row_cells, &rest_cells, left);
+        let best = best_share(&row, &rest_cells, left);
         let a = best.share;
         shares[i] = Share {
             typical: a,
-            critical: row_cells[a as usize - 1],
+            critical: row[a as usize - 1],
         };
         left -= a;
         i += 1;

@@ -3,7 +3,7 @@
 use Prim.Native.Nat.{ℕ, zero, suc, _+_, _-_, _*_, _/_, _%_, _^_, _≤_, _<_}
 use mathlib.Core.Bool.{Bool, true, false, cond, and-eq-true-iff}
 use mathlib.Core.List.{List, [], _∷_, _++_}
-use mathlib.Core.Path.{_≡_, refl, ap, _∙_}
+use mathlib.Core.Path.{_≡_, refl, sym, ap, _∙_}
 use native.Mathlib.Nat.{div-lt-self, pow-suc, one-le-pow}
 use native.Mathlib.Omega.{arith}
 use lib.Dec.{ltb}
@@ -21,7 +21,8 @@ tenth n h = div-lt-self (omega arith) (omega arith)
 same-digits : (k j n : ℕ) → n ≤ k → n ≤ j → digitsWithin k n ≡ digitsWithin j n
 unfolding digitsWithin
 same-digits zero zero n h g = refl
-same-digits zero (suc j) n h g = rw (lt-ltb n 10 (omega arith))
+same-digits zero (suc j) n h g =
+    sym (ap (λ (t : Bool). cond t (digit n ∷ []) (digitsWithin j (n / 10) ++ digit (n % 10) ∷ [])) (lt-ltb n 10 (omega arith)))
 same-digits (suc k) zero n h g = rw (lt-ltb n 10 (omega arith))
 same-digits (suc k) (suc j) n h g =
     go (ltb n 10) refl (λ l. same-digits k j (n / 10) (omega arith) (omega arith))

@@ -8,7 +8,6 @@ use lib.Dec.{leb, ltb, eqb}
 use lib.ListN.{getD, drop, take, replicate}
 use Rattle.shares.specs.declared.share.Share.{Share}
 use Rattle.shares.specs.Row.{tabulate, rowOf}
-use Rattle.allocation.specs.declared.rows.Row.{Row}
 use Rattle.allocation.specs.declared.choice.Chosen.{Chosen}
 use Rattle.allocation.specs.declared.selection.Totals.{Totals}
 use Rattle.basics.specs.Lists.{all, isNone, cells}
@@ -79,28 +78,28 @@ selected M rows =
     cond (leb (leastTotal M rows (bestTotal M rows)) M) (some (sharesAt M rows (bestTotal M rows))) none
 
 -- A row of zeros: what stands in the place of a task that is not there.
-abbrev pub zeroRow : Row
-zeroRow = record { cells = replicate 64 0 }
+abbrev pub zeroRow : List ℕ
+zeroRow = replicate 64 0
 
 -- S4.4: the rows of the tasks of a set.
-unfoldable pub rowsOf : TaskSet → List Row
-rowsOf set = cells 16 (λ i. record { cells = rowOf (set .processors) (taskIn set i) }) zeroRow (set .count)
+unfoldable pub rowsOf : TaskSet → List (List ℕ)
+rowsOf set = cells 16 (λ i. rowOf (set .processors) (taskIn set i)) zeroRow (set .count)
 
 -- S9.7: whether a row offers nothing within M.
 unfoldable pub offersNone : ℕ → List ℕ → Bool
 offersNone M row = all (λ b. ltb M b) row
 
 -- What stands for a row where a list has none.
-abbrev pub missingRow : Row
-missingRow = record { cells = [] }
+abbrev pub missingRow : List ℕ
+missingRow = []
 
 -- S9.7: refusal 7 of task i, by its row.
-unfoldable pub rowAnswer : ℕ → List Row → ℕ → Answer
-rowAnswer M rows i = refusedIf (offersNone M (getD rows i missingRow .cells)) noShare i
+unfoldable pub rowAnswer : ℕ → List (List ℕ) → ℕ → Answer
+rowAnswer M rows i = refusedIf (offersNone M (getD rows i missingRow)) noShare i
 
 -- The first n rows, as functions of the typical share.
-unfoldable pub rowsUpTo : ℕ → List Row → List (ℕ → ℕ)
-rowsUpTo n rows = map (λ row. cellAt (row .cells)) (take n rows)
+unfoldable pub rowsUpTo : ℕ → List (List ℕ) → List (ℕ → ℕ)
+rowsUpTo n rows = map cellAt (take n rows)
 
 -- The totals of the last k tasks, for each k up to the number n of rows.
 unfoldable pub lastTotals : ℕ → List (ℕ → ℕ) → ℕ → List Totals

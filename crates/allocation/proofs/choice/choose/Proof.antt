@@ -11,7 +11,7 @@ use Rattle.sheet.proofs.Said.{with-said}
 use Rattle.allocation.specs.declared.choice.Chosen.{Chosen}
 use Rattle.allocation.specs.Allocation.{noShare}
 use Rattle.allocation.specs.means.Selection.{rowAnswer}
-use Rattle.allocation.proofs.Sets.{choice-refused, choice-selected}
+use Rattle.allocation.proofs.Sets.{rows-there, choice-refused, choice-selected}
 use Rattle.allocation.proofs.choice.choose.Statement.{statement}
 use Rattle.allocation.proofs.choice.choose.Tie as tie
 
@@ -21,22 +21,22 @@ Inv-loop n m rows i₀ i = (i ≤ n) × (firstOver (rowAnswer m rows) i (n - i) 
 abbrev μ-loop : tie.MeasureT-loop
 μ-loop n m rows i₀ i = n - i
 
-rows-of-requires : tie.Need-rows-of-requires Inv-loop μ-loop
-rows-of-requires c κs = search needs
+put-rows-requires : tie.Need-put-rows-requires Inv-loop μ-loop
+put-rows-requires c κs = search needs
 
 loop-holds : tie.Need-loop-holds Inv-loop μ-loop
 loop-holds c =
-    let set = c .before .args .set in
-    (omega arith, over-all (rowAnswer (set .processors) (c .rows-of .result)) (set .count))
+    let set = c .before .before .args .set in
+    (omega arith, over-all (rowAnswer (set .processors) (c .put-rows .last .1 .0)) (set .count))
 
-cast-row : tie.Need-cast-row Inv-loop μ-loop
-cast-row c = search needs
+cast-cells : tie.Need-cast-cells Inv-loop μ-loop
+cast-cells c = search needs
 
-mul-row : tie.Need-mul-row Inv-loop μ-loop
-mul-row c = search needs
+mul-cells : tie.Need-mul-cells Inv-loop μ-loop
+mul-cells c = search needs
 
-array-copy-out-row : tie.Need-array-copy-out-row Inv-loop μ-loop
-array-copy-out-row c = search needs
+array-copy-out-cells : tie.Need-array-copy-out-cells Inv-loop μ-loop
+array-copy-out-cells c = search needs
 
 offers-none-requires : tie.Need-offers-none-requires Inv-loop μ-loop
 offers-none-requires c κs = search needs
@@ -44,13 +44,13 @@ offers-none-requires c κs = search needs
 returns : tie.Need-returns Inv-loop μ-loop
 unfolding rowAnswer
 returns c =
-    let at = c .before .before .before .before .before in
-    let start = at .before .before in
+    let at = c .before .before .before .before in
+    let start = at .before .before .before in
     let set = start .args .set in
     let refused = ap (λ (t : Bool). refusedIf t noShare (at .loop .i)) (sym (c .before .offers-none .ensures) ∙ c .if1 .taken) in
     with-said (λ (r : Chosen). r .answer)
-    (choice-refused set (start .pre) _ (at .before .rows-of .ensures) noShare (at .loop .i)
-    (sym (at .loop .inv .1) ∙ over-stop (rowAnswer (set .processors) (at .before .rows-of .result)) (at .loop .i) (set .count) (omega arith) refused))
+    (choice-refused set (start .pre) _ (at .before .put-rows .ensures) noShare (at .loop .i)
+    (sym (at .loop .inv .1) ∙ over-stop (rowAnswer (set .processors) (at .before .put-rows .last .1 .0)) (at .loop .i) (set .count) (omega arith) refused))
 
 add-i : tie.Need-add-i Inv-loop μ-loop
 add-i c = search needs
@@ -61,25 +61,31 @@ loop-less c = search needs
 loop-again : tie.Need-loop-again Inv-loop μ-loop
 unfolding rowAnswer
 loop-again c =
-    let at = c .before .before .before .before .before in
-    let set = at .before .before .args .set in
+    let at = c .before .before .before .before in
+    let set = at .before .before .before .args .set in
     let accepted = ap (λ (t : Bool). refusedIf t noShare (at .loop .i)) (sym (c .before .offers-none .ensures) ∙ c .if1 .left) in (
       omega arith,
-      over-next (rowAnswer (set .processors) (at .before .rows-of .result)) (at .loop .i) (set .count) (omega arith) accepted
+      over-next (rowAnswer (set .processors) (at .before .put-rows .last .1 .0)) (at .loop .i) (set .count) (omega arith) accepted
           ∙ at .loop .inv .1,
     )
 
 select-requires : tie.Need-select-requires Inv-loop μ-loop
-select-requires c κs = search needs
+select-requires c κs =
+    let start = c .before .before .before .before .before in
+    let lawful = start .pre in (
+      lawful .few-tasks,
+      lawful .few-processors,
+      rw (c .before .before .before .put-rows .ensures) (rows-there (start .args .set) lawful),
+    )
 
 returns-2 : tie.Need-returns-2 Inv-loop μ-loop
 returns-2 c =
-    let at = c .before .before in
-    let start = at .before .before in
+    let at = c .before .before .before in
+    let start = at .before .before .before in
     let set = start .args .set in
     with-said (λ (r : Chosen). r .answer)
-    (choice-selected set (start .pre) _ (at .before .rows-of .ensures) (c .select .result)
-    (sym (at .loop .inv .1) ∙ over-end (rowAnswer (set .processors) (at .before .rows-of .result)) (at .loop .i) (set .count) (omega arith))
+    (choice-selected set (start .pre) _ (at .before .put-rows .ensures) (c .select .result)
+    (sym (at .loop .inv .1) ∙ over-end (rowAnswer (set .processors) (at .before .put-rows .last .1 .0)) (at .loop .i) (set .count) (omega arith))
     (c .select .ensures))
 
 pub choose-spec : {M : Type 1} → statement M
@@ -88,11 +94,11 @@ choose-spec =
     (tie.spec
     Inv-loop
     μ-loop
-    rows-of-requires
+    put-rows-requires
     loop-holds
-    cast-row
-    mul-row
-    array-copy-out-row
+    cast-cells
+    mul-cells
+    array-copy-out-cells
     offers-none-requires
     returns
     add-i

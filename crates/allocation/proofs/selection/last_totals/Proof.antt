@@ -10,14 +10,15 @@ use Prim.Native.Nat.{ℕ, _+_, _-_, _≤_}
 use mathlib.Core.Path.{_≡_, ap, _∙_}
 use mathlib.Core.List.{List}
 use native.Mathlib.Omega.{arith}
+use denote.Ref.{now}
 use Rattle.allocation.proofs.selection.last_totals.Statement.{statement}
 use Rattle.allocation.proofs.selection.last_totals.Tie as tie
 
 abbrev Inv-loop : tie.InvT-loop
-Inv-loop n m rows count all₀ k₀ all k = (k ≤ n) × (all ≡ lines m (rowsUpTo n rows) n k)
+Inv-loop rows n m count all₀ k₀ all k = (k ≤ n) × (all ≡ lines m (rowsUpTo n rows) n k)
 
 abbrev μ-loop : tie.MeasureT-loop
-μ-loop n m rows count all₀ k₀ all k = n - k
+μ-loop rows n m count all₀ k₀ all k = n - k
 
 no-totals-requires : tie.Need-no-totals-requires Inv-loop μ-loop
 no-totals-requires c κs = search needs
@@ -27,7 +28,7 @@ loop-holds c =
     let args = c .before .args in (
       omega arith,
       ap (λ (x : List ℕ). replicate 17 (record { cells = x })) (c .no-totals .ensures)
-          ∙ lines-start (args .m) (args .n) (rowsUpTo (args .n) (args .t1)) (rows-length (args .n) (args .t1) (omega arith)),
+          ∙ lines-start (args .m) (args .n) (rowsUpTo (args .n) (now (args .rows))) (rows-length (args .n) (now (args .rows)) (omega arith)),
     )
 
 sub-row : tie.Need-sub-row Inv-loop μ-loop
@@ -39,8 +40,8 @@ sub-row-2 c = omega arith
 mul-row : tie.Need-mul-row Inv-loop μ-loop
 mul-row c = omega arith
 
-array-copy-out-row : tie.Need-array-copy-out-row Inv-loop μ-loop
-array-copy-out-row c = omega arith
+element-copy-out-row : tie.Need-element-copy-out-row Inv-loop μ-loop
+element-copy-out-row c = omega arith
 
 mul-rest : tie.Need-mul-rest Inv-loop μ-loop
 mul-rest c = omega arith
@@ -68,16 +69,16 @@ loop-less c = omega arith
 
 loop-again : tie.Need-loop-again Inv-loop μ-loop
 loop-again c =
-    let args = c .before .before .before .before .before .before .before .before .args in
-    let loop = c .before .before .before .before .before .before .loop in
-    let rows = rowsUpTo (args .n) (args .t1) in
-    let long = rows-length (args .n) (args .t1) (omega arith) in
-    let with = totalWith (args .m) (cellAt (getD (args .t1) (args .n - 1 - loop .k) missingRow .cells)) in
+    let args = c .before .before .before .before .before .before .before .args in
+    let loop = c .before .before .before .before .before .loop in
+    let rows = rowsUpTo (args .n) (now (args .rows)) in
+    let long = rows-length (args .n) (now (args .rows)) (omega arith) in
+    let with = totalWith (args .m) (cellAt (getD (now (args .rows)) (args .n - 1 - loop .k) missingRow)) in
     let stored : c .totals-with .result ≡ line (args .m) rows (args .n) (loop .k + 1) .cells =
     c .totals-with .ensures
     ∙ ap (λ (l : List Totals). tabulate (with (entryAt (getD l (loop .k) missingTotals .cells))) 0 65) (loop .inv .1)
     ∙ ap (λ (x : Totals). tabulate (with (entryAt (x .cells))) 0 65) (lines-at (args .m) (args .n) rows long (loop .k) (loop .k) (omega arith) (omega arith))
-    ∙ line-more (args .m) (args .n) (args .t1) (omega arith) (loop .k) (omega arith) in (
+    ∙ line-more (args .m) (args .n) (now (args .rows)) (omega arith) (loop .k) (omega arith) in (
       omega arith,
       ap (λ (x : List ℕ). set (loop .all) (loop .k + 1) (record { cells = x })) stored
           ∙ ap (λ (l : List Totals). set l (loop .k + 1) (line (args .m) rows (args .n) (loop .k + 1))) (loop .inv .1)
@@ -88,10 +89,10 @@ returns : tie.Need-returns Inv-loop μ-loop
 returns c =
     let args = c .before .before .before .args in
     let loop = c .before .loop in
-    let rows = rowsUpTo (args .n) (args .t1) in
+    let rows = rowsUpTo (args .n) (now (args .rows)) in
     let done : loop .k ≡ args .n = omega arith in
     loop .inv .1 ∙ ap (lines (args .m) rows (args .n)) done
-    ∙ lines-last (args .m) (args .n) rows (rows-length (args .n) (args .t1) (omega arith))
+    ∙ lines-last (args .m) (args .n) rows (rows-length (args .n) (now (args .rows)) (omega arith))
 
 pub last-totals-spec : {M : Type 1} → statement M
 last-totals-spec =
@@ -104,7 +105,7 @@ last-totals-spec =
     sub-row
     sub-row-2
     mul-row
-    array-copy-out-row
+    element-copy-out-row
     mul-rest
     array-copy-out-rest
     totals-with-requires

@@ -8,20 +8,20 @@ use Prim.Native.Nat.{ℕ, _-_, _≤_, _<_}
 use mathlib.Core.Path.{_≡_, refl, sym, ap, _∙_}
 use mathlib.Core.List.{List}
 use native.Mathlib.Omega.{arith}
+use denote.Ref.{now}
 use lib.ListN.{getD, drop}
 use Rattle.shares.specs.declared.share.Share.{Share}
-use Rattle.allocation.specs.declared.rows.Row.{Row}
 use Rattle.shares.specs.Totals.{noProcessors}
 use Rattle.allocation.specs.means.Selection.{rowsUpTo, leastTotal, sharesAt, bestTotal}
 use Rattle.allocation.proofs.selection.select.Statement.{statement}
 use Rattle.allocation.proofs.selection.select.Tie as tie
 
 -- The shares of all tasks.
-abbrev whole : ℕ → ℕ → List Row → List Share
+abbrev whole : ℕ → ℕ → List (List ℕ) → List Share
 whole m n rows = sharesAt m (rowsUpTo n rows) (bestTotal m (rowsUpTo n rows))
 
 abbrev Inv-loop : tie.InvT-loop
-Inv-loop n m rows count all left₀ shares₀ i₀ left shares i =
+Inv-loop rows n m count all left₀ shares₀ i₀ left shares i =
     (i ≤ n)
     × (left ≤ m)
     × (leastTotal m (drop i (rowsUpTo n rows)) left ≤ m)
@@ -29,7 +29,7 @@ Inv-loop n m rows count all left₀ shares₀ i₀ left shares i =
     × (shares ≡ cells 16 (λ j. getD (whole m n rows) j noProcessors) noProcessors i)
 
 abbrev μ-loop : tie.MeasureT-loop
-μ-loop n m rows count all left₀ shares₀ i₀ left shares i = n - i
+μ-loop rows n m count all left₀ shares₀ i₀ left shares i = n - i
 
 last-totals-requires : tie.Need-last-totals-requires Inv-loop μ-loop
 last-totals-requires c κs = search needs
@@ -50,25 +50,25 @@ cast-if1 c = omega arith
 found : (c : tie.After-first-least Inv-loop μ-loop) →
     c .first-least .result
     ≡ bestTotal (c .before .before .before .before .args .m)
-    (rowsUpTo (c .before .before .before .before .args .n) (c .before .before .before .before .args .t1))
+    (rowsUpTo (c .before .before .before .before .args .n) (c .before .before .before .before .args .rows .now))
 found c =
     let args = c .before .before .before .before .args in
     c .first-least .ensures
-    ∙ first-is (args .m) (args .n) (args .t1) (omega arith) (omega arith) (omega arith) _ (c .before .before .before .last-totals .ensures)
+    ∙ first-is (args .m) (args .n) (now (args .rows)) (omega arith) (omega arith) (omega arith) _ (c .before .before .before .last-totals .ensures)
 
 found-to : (c : tie.After-first-least Inv-loop μ-loop) → c .first-least .result ≤ c .before .before .before .before .args .m
 found-to c =
     let args = c .before .before .before .before .args in
-    rw (found c) (best-total-within (args .m) (rowsUpTo (args .n) (args .t1)))
+    rw (found c) (best-total-within (args .m) (rowsUpTo (args .n) (now (args .rows))))
 
 found-total : (c : tie.After-first-least Inv-loop μ-loop) →
     getD (getD (c .before .before .before .last-totals .result) (c .before .before .before .before .args .n) missingTotals .cells)
     (c .first-least .result) 0
     ≡ leastTotal (c .before .before .before .before .args .m)
-    (rowsUpTo (c .before .before .before .before .args .n) (c .before .before .before .before .args .t1)) (c .first-least .result)
+    (rowsUpTo (c .before .before .before .before .args .n) (c .before .before .before .before .args .rows .now)) (c .first-least .result)
 found-total c =
     let args = c .before .before .before .before .args in
-    total-is (args .m) (args .n) (args .t1) (omega arith) (omega arith) (omega arith) _ (c .before .before .before .last-totals .ensures)
+    total-is (args .m) (args .n) (now (args .rows)) (omega arith) (omega arith) (omega arith) _ (c .before .before .before .last-totals .ensures)
     (c .first-least .result) (found-to c)
 
 array-read-if1 : tie.Need-array-read-if1 Inv-loop μ-loop
@@ -77,7 +77,7 @@ array-read-if1 c = omega (arith, found-to c)
 returns : tie.Need-returns Inv-loop μ-loop
 returns c =
     let args = c .before .before .before .before .before .args in
-    let rows = rowsUpTo (args .n) (args .t1) in
+    let rows = rowsUpTo (args .n) (now (args .rows)) in
     let past : args .m < leastTotal (args .m) rows (c .before .first-least .result) = omega (arith, found-total (c .before)) in
     selection-none (args .m) rows (rw (← found (c .before)) past)
 
@@ -85,7 +85,7 @@ loop-holds : tie.Need-loop-holds Inv-loop μ-loop
 unfolding cellsFrom
 loop-holds c =
     let args = c .before .before .before .before .before .args in
-    let rows = rowsUpTo (args .n) (args .t1) in (
+    let rows = rowsUpTo (args .n) (now (args .rows)) in (
       omega arith,
       found-to (c .before),
       omega (arith, found-total (c .before)),
@@ -96,8 +96,8 @@ loop-holds c =
 mul-row : tie.Need-mul-row Inv-loop μ-loop
 mul-row c = omega arith
 
-array-copy-out-row : tie.Need-array-copy-out-row Inv-loop μ-loop
-array-copy-out-row c = omega arith
+element-copy-out-row : tie.Need-element-copy-out-row Inv-loop μ-loop
+element-copy-out-row c = omega arith
 
 sub-rest : tie.Need-sub-rest Inv-loop μ-loop
 sub-rest c = omega arith
@@ -113,31 +113,31 @@ array-copy-out-rest c = omega arith
 
 best-share-requires : tie.Need-best-share-requires Inv-loop μ-loop
 best-share-requires c κs =
-    let args = c .before .before .before .before .before .before .before .before .before .before .before .before .before .args in
-    let loop = c .before .before .before .before .before .before .before .loop in (
-      walk-some (args .m) (args .n) (args .t1) (omega arith) (omega arith) (omega arith) (loop .i) (loop .left) (omega arith)
+    let args = c .before .before .before .before .before .before .before .before .before .before .before .before .args in
+    let loop = c .before .before .before .before .before .before .loop in (
+      walk-some (args .m) (args .n) (now (args .rows)) (omega arith) (omega arith) (omega arith) (loop .i) (loop .left) (omega arith)
           (omega arith) (loop .inv .2),
       omega arith,
     )
 
 -- The step that the walk takes there.
 step : (c : tie.After-best-share Inv-loop μ-loop) →
-    Step (c .before .before .before .before .before .before .before .before .before .before .before .before .before .before .args .m) (c .before .before .before .before .before .before .before .before .before .before .before .before .before .before .args .n) (c .before .before .before .before .before .before .before .before .before .before .before .before .before .before .args .t1) (c .before .before .before .before .before .before .before .before .loop .i) (c .before .before .before .before .before .before .before .before .loop .left)
-    (c .best-share .result .share) (whole (c .before .before .before .before .before .before .before .before .before .before .before .before .before .before .args .m) (c .before .before .before .before .before .before .before .before .before .before .before .before .before .before .args .n) (c .before .before .before .before .before .before .before .before .before .before .before .before .before .before .args .t1))
+    Step (c .before .before .before .before .before .before .before .before .before .before .before .before .before .args .m) (c .before .before .before .before .before .before .before .before .before .before .before .before .before .args .n) (c .before .before .before .before .before .before .before .before .before .before .before .before .before .args .rows .now) (c .before .before .before .before .before .before .before .loop .i) (c .before .before .before .before .before .before .before .loop .left)
+    (c .best-share .result .share) (whole (c .before .before .before .before .before .before .before .before .before .before .before .before .before .args .m) (c .before .before .before .before .before .before .before .before .before .before .before .before .before .args .n) (c .before .before .before .before .before .before .before .before .before .before .before .before .before .args .rows .now))
 step c =
-    let args = c .before .before .before .before .before .before .before .before .before .before .before .before .before .before .args in
-    let loop = c .before .before .before .before .before .before .before .before .loop in
-    walk-step (args .m) (args .n) (args .t1) (omega arith) (omega arith) (omega arith) (loop .i) (loop .left) (omega arith)
-    (omega arith) (loop .inv .2) _ (c .before .before .before .before .before .before .before .before .before .before .before .before .before .last-totals .ensures) _ (c .best-share .ensures .0) _ (loop .inv .3)
+    let args = c .before .before .before .before .before .before .before .before .before .before .before .before .before .args in
+    let loop = c .before .before .before .before .before .before .before .loop in
+    walk-step (args .m) (args .n) (now (args .rows)) (omega arith) (omega arith) (omega arith) (loop .i) (loop .left) (omega arith)
+    (omega arith) (loop .inv .2) _ (c .before .before .before .before .before .before .before .before .before .before .before .before .last-totals .ensures) _ (c .best-share .ensures .0) _ (loop .inv .3)
 
-cast-t33 : tie.Need-cast-t33 Inv-loop μ-loop
-cast-t33 c = omega (arith, step c .to)
+cast-t30 : tie.Need-cast-t30 Inv-loop μ-loop
+cast-t30 c = omega (arith, step c .to)
 
-sub-t37 : tie.Need-sub-t37 Inv-loop μ-loop
-sub-t37 c = step c .from
+sub-t34 : tie.Need-sub-t34 Inv-loop μ-loop
+sub-t34 c = step c .from
 
-array-read-t46 : tie.Need-array-read-t46 Inv-loop μ-loop
-array-read-t46 c = omega (arith, step c .to)
+array-read-t43 : tie.Need-array-read-t43 Inv-loop μ-loop
+array-read-t43 c = omega (arith, step c .to)
 
 mul-shares : tie.Need-mul-shares Inv-loop μ-loop
 mul-shares c = omega arith
@@ -156,7 +156,7 @@ loop-less c = omega arith
 
 loop-again : tie.Need-loop-again Inv-loop μ-loop
 loop-again c =
-    let loop = c .before .before .before .before .before .before .before .before .loop in
+    let loop = c .before .before .before .before .before .before .before .loop in
     let next = step c in
     (omega arith, omega arith, next .within, next .rest, rw (loop .inv .4) (next .store))
 
@@ -165,9 +165,9 @@ returns-2 c =
     let args = c .before .before .before .before .before .before .before .args in
     let loop = c .before .loop in
     let first = c .before .before .before in
-    selection-some (args .m) (rowsUpTo (args .n) (args .t1))
+    selection-some (args .m) (rowsUpTo (args .n) (now (args .rows)))
     (rw (← found first, ← found-total first) (c .before .before .if1 .left)) (loop .shares)
-    (loop .inv .4 ∙ walk-done (args .m) (args .n) (args .t1) (omega arith) (loop .i) (omega arith))
+    (loop .inv .4 ∙ walk-done (args .m) (args .n) (now (args .rows)) (omega arith) (loop .i) (omega arith))
 
 pub select-spec : {M : Type 1} → statement M
 select-spec =
@@ -184,15 +184,15 @@ select-spec =
     returns
     loop-holds
     mul-row
-    array-copy-out-row
+    element-copy-out-row
     sub-rest
     sub-rest-2
     mul-rest
     array-copy-out-rest
     best-share-requires
-    cast-t33
-    sub-t37
-    array-read-t46
+    cast-t30
+    sub-t34
+    array-read-t43
     mul-shares
     array-set-from-shares
     sub-left

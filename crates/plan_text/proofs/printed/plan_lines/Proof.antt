@@ -55,14 +55,20 @@ add-i c = search needs
 loop-less : tie.Need-loop-less Inv-loop μ-loop
 loop-less c = search needs
 
-loop-again : tie.Need-loop-again Inv-loop μ-loop
+-- The numbers of the task's line.
+fields-are : (c : tie.After-fields-of Inv-loop μ-loop) →
+    let loop = c .before .before .before .loop in
+    c .fields-of .result ≡ fieldsOf (loop .i) (allocationAt (c .before .before .before .before .before .args .t2) (loop .i))
 unfolding allocationAt
+fields-are c = c .fields-of .ensures
+
+loop-again : tie.Need-loop-again Inv-loop μ-loop
 loop-again c =
     let args = c .before .before .before .before .before .before .before .args in
     let loop = c .before .before .before .before .before .loop in
     let fields = fieldsOf (loop .i) (allocationAt (args .t2) (loop .i)) in (
       omega arith,
-      rw (c .with-line .ensures, c .before .before .fields-of .ensures, with-both (loop .text) (line fields) (linesFrom (args .n) (args .t2) (loop .i + 1)), ← lines-step (args .n) (args .t2) (loop .i) (omega arith))
+      rw (c .with-line .ensures, fields-are (c .before .before), with-both (loop .text) (line fields) (linesFrom (args .n) (args .t2) (loop .i + 1)), ← lines-step (args .n) (args .t2) (loop .i) (omega arith))
           (loop .inv .1),
     )
 

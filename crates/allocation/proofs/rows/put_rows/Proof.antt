@@ -1,29 +1,29 @@
--- `rows::rows_of` meets its contract. The loop's invariant: the rows of the tasks passed stand in their cells. The measure is
+-- `rows::put_rows` meets its contract. The loop's invariant: the rows of the tasks passed stand in their cells. The measure is
 -- the tasks left.
 use Rattle.basics.proofs.Cells.{cells-store}
 use borrow.Author.Needs.{needs}
 use Rattle.basics.specs.Lists.{cellsFrom, cells}
 use Rattle.sheet.specs.Format.{taskIn}
 use Prim.Native.Nat.{_-_, _≤_}
-use mathlib.Core.Path.{_≡_, refl}
+use mathlib.Core.Path.{_≡_}
 use native.Mathlib.Omega.{arith}
 use Rattle.shares.specs.Row.{rowOf}
 use Rattle.allocation.specs.means.Selection.{rowsOf, zeroRow}
-use Rattle.allocation.proofs.rows.rows_of.Statement.{statement}
-use Rattle.allocation.proofs.rows.rows_of.Tie as tie
+use Rattle.allocation.proofs.rows.put_rows.Statement.{statement}
+use Rattle.allocation.proofs.rows.put_rows.Tie as tie
 
 abbrev Inv-loop : tie.InvT-loop
-Inv-loop set m n rows₀ i₀ rows i = (i ≤ n) × (rows ≡ cells 16 (λ j. record { cells = rowOf m (taskIn set j) }) zeroRow i)
+Inv-loop rows₀ set m n i₀ rows i = (i ≤ n) × (rows ≡ cells 16 (λ j. rowOf m (taskIn set j)) zeroRow i)
 
 abbrev μ-loop : tie.MeasureT-loop
-μ-loop set m n rows₀ i₀ rows i = n - i
+μ-loop rows₀ set m n i₀ rows i = n - i
 
 cast-n : tie.Need-cast-n Inv-loop μ-loop
 cast-n c = search needs
 
 loop-holds : tie.Need-loop-holds Inv-loop μ-loop
 unfolding cellsFrom
-loop-holds c = (omega arith, refl)
+loop-holds c = (omega arith, c .pre .2)
 
 mul-task : tie.Need-mul-task Inv-loop μ-loop
 mul-task c = search needs
@@ -34,11 +34,11 @@ element-copy-out-task c = search needs
 row-requires : tie.Need-row-requires Inv-loop μ-loop
 row-requires c κs = search needs
 
-mul-rows : tie.Need-mul-rows Inv-loop μ-loop
-mul-rows c = search needs
+mul-t10 : tie.Need-mul-t10 Inv-loop μ-loop
+mul-t10 c = search needs
 
-array-set-from-rows : tie.Need-array-set-from-rows Inv-loop μ-loop
-array-set-from-rows c = search needs
+element-set-from-rows : tie.Need-element-set-from-rows Inv-loop μ-loop
+element-set-from-rows c = search needs
 
 add-i : tie.Need-add-i Inv-loop μ-loop
 add-i c = search needs
@@ -53,7 +53,7 @@ loop-again c =
     let loop = c .before .before .before .loop in (
       omega arith,
       rw (loop .inv .1)
-          (rw (c .row .ensures) (cells-store (λ j. record { cells = rowOf (start .args .t1 .processors) (taskIn (start .args .t1) j) }) zeroRow 16 (loop .i) (omega arith))),
+          (rw (c .row .ensures) (cells-store (λ j. rowOf (start .args .t1 .processors) (taskIn (start .args .t1) j)) zeroRow 16 (loop .i) (omega arith))),
     )
 
 returns : tie.Need-returns Inv-loop μ-loop
@@ -63,8 +63,8 @@ returns c =
     let all : loop .i ≡ c .before .before .args .t1 .count = omega arith in
     rw all at (loop .inv .1)
 
-pub rows-of-spec : {M : Type 1} → statement M
-rows-of-spec =
+pub put-rows-spec : {M : Type 1} → statement M
+put-rows-spec =
     tie.close
     (tie.spec
     Inv-loop
@@ -74,8 +74,8 @@ rows-of-spec =
     mul-task
     element-copy-out-task
     row-requires
-    mul-rows
-    array-set-from-rows
+    mul-t10
+    element-set-from-rows
     add-i
     loop-less
     loop-again
