@@ -8,7 +8,6 @@ use Rattle.sheet.specs.Answers.{numberOf, taskOf}
 use Rattle.sheet.specs.Format.{byteAt, processorsOf, countOf}
 use Rattle.reader.specs.Reading.{headerLawful, headerAnswer, answerOf, readOf}
 use Rattle.sheet.specs.declared.task.Task.{Task}
-use Rattle.shares.specs.declared.share.Share.{Share}
 use Rattle.allocation.specs.declared.allocate.Allocation.{Allocation}
 use Rattle.allocation.specs.Allocation.{allocationAnswer}
 use Rattle.start.specs.Fresh.{freshEntry, zeroEntry}
