@@ -8,7 +8,7 @@ use mathlib.Core.Path.{_≡_, refl, sym, ap, ap₂, _∙_}
 use native.Mathlib.Decide.{decLt}
 use native.Mathlib.Omega.{arith}
 use lib.Dec.{ltb}
-use lib.ListN.{length, getD, take, set, replicate, length-replicate}
+use lib.ListN.{length, getD, take, set, replicate}
 use lib.Seq.{ext-getD, getD-take, length-take-le}
 use borrow.Author.Tests.{le-ltb}
 use Rattle.sheet.specs.declared.answer.Answer.{Answer}
@@ -20,7 +20,6 @@ use Rattle.reader.specs.Reading.{readOf}
 use Rattle.shares.specs.declared.share.Share.{Share}
 use Rattle.shares.specs.Totals.{noProcessors, shareAt, shareTotal}
 use Rattle.allocation.specs.declared.allocate.Allocation.{Allocation}
-use Rattle.allocation.specs.declared.allocate.Allocated.{Allocated}
 use Rattle.allocation.specs.Blocks.{offsetIn, lengthIn, BlocksInOrder}
 use Rattle.allocation.specs.Lawful.{LawfulSet}
 use Rattle.allocation.specs.Allocation.{tasksOf, chosenFor, choiceAnswer, sharesOf, sixteen, allocationOf, noAllocation, allocationsOf, allocationAt, allocationAnswer, allocatedWith, allocatedOf}

@@ -9,7 +9,6 @@ use Rattle.basics.specs.Numbers.{byteAt}
 use Rattle.sheet.specs.Format.{processorsOf, countOf}
 use Rattle.reader.specs.Reading.{headerLawful, headerAnswer, answerOf, readOf}
 use Rattle.sheet.specs.declared.task.Task.{Task}
-use Rattle.shares.specs.declared.share.Share.{Share}
 use Rattle.allocation.specs.declared.allocate.Allocation.{Allocation}
 use Rattle.allocation.specs.Allocation.{allocationAnswer}
 use Rattle.start.specs.Fresh.{freshEntry, zeroEntry}

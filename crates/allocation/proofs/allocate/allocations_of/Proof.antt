@@ -2,12 +2,15 @@
 -- the next blocks begin where theirs end. The measure is the tasks left.
 use Prim.Native.Nat.{_-_, _≤_, _+_}
 use mathlib.Core.Bool.{true, false}
+use mathlib.Core.List.{List}
 use mathlib.Core.Path.{_≡_, sym, ap, _∙_}
 use native.Mathlib.Omega.{arith}
+use lib.ListN.{set}
 use borrow.Author.Needs.{needs}
 use Rattle.basics.specs.Lists.{cells}
 use Rattle.sheet.specs.Format.{taskIn}
 use Rattle.shares.specs.Totals.{shareAt}
+use Rattle.allocation.specs.declared.allocate.Allocation.{Allocation}
 use Rattle.allocation.specs.Blocks.{offsetIn, lengthIn}
 use Rattle.allocation.specs.Allocation.{allocationOf, noAllocation, allocationsOf}
 use Rattle.allocation.proofs.Blocks.{offset-first, offset-next}
@@ -105,8 +108,19 @@ add-i c = search needs
 loop-less : tie.Need-loop-less Inv-loop μ-loop
 loop-less c = search needs
 
-loop-again : tie.Need-loop-again Inv-loop μ-loop
+-- What is fixed for the task.
+fixed : (c : tie.After-virtual-of Inv-loop μ-loop) →
+    let args = c .before .before .before .before .before .before .args in
+    let loop = c .before .before .before .before .loop in
+    record { share = shareAt (args .t2) (loop .i); offset = record { typical = loop .typical; critical = loop .critical }; «virtual_deadline» = c .virtual-of .result }
+    ≡ allocationOf (args .t1) (args .t2) (loop .i)
 unfolding shareAt allocationOf taskIn
+fixed c =
+    let loop = c .before .before .before .before .loop in
+    rw (loop .inv .1, loop .inv .2, c .virtual-of .ensures)
+
+loop-again : tie.Need-loop-again Inv-loop μ-loop
+unfolding shareAt
 loop-again c =
     let start = c .before .before .before .before .before .before .before .before in
     let loop = c .before .before .before .before .before .before .loop in
@@ -114,8 +128,9 @@ loop-again c =
       omega arith,
       typical-next (c .before),
       critical-next (c .before),
-      rw (loop .inv .1, loop .inv .2, loop .inv .3, c .before .before .virtual-of .ensures)
-          (allocations-store (start .args .t1) (start .args .t2) (loop .i) (omega arith)),
+      ap (λ (a : Allocation). set (loop .allocations) (loop .i) a) (fixed (c .before .before))
+          ∙ ap (λ (l : List Allocation). set l (loop .i) (allocationOf (start .args .t1) (start .args .t2) (loop .i))) (loop .inv .3)
+          ∙ allocations-store (start .args .t1) (start .args .t2) (loop .i) (omega arith),
     )
 
 returns : tie.Need-returns Inv-loop μ-loop

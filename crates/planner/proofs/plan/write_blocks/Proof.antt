@@ -1,16 +1,14 @@
 -- `plan::write_blocks` meets its contract. The loop's invariant: the blocks of the tasks passed are written. The measure is the
 -- tasks left.
 use borrow.Author.Needs.{needs}
-use Prim.Native.Nat.{ℕ, _+_, _-_, _*_, _≤_}
+use Prim.Native.Nat.{ℕ, _-_, _≤_}
 use mathlib.Core.Path.{_≡_, refl, ap, _∙_}
-use mathlib.Core.List.{List, [], _∷_}
 use native.Mathlib.Omega.{arith}
 use lib.ListN.{length}
 use lib.Seq.{sets}
 use denote.Ref.{now}
-use Rattle.shares.specs.Totals.{shareIn}
 use Rattle.allocation.specs.Allocation.{allocationAt}
-use Rattle.planner.specs.Plan.{beginIn, blockBytes}
+use Rattle.planner.specs.Plan.{blockBytes}
 use Rattle.planner.proofs.Parts.{blocks-none, blocks-more}
 use Rattle.planner.proofs.plan.write_blocks.Statement.{statement}
 use Rattle.planner.proofs.plan.write_blocks.Tie as tie

@@ -1,15 +1,13 @@
 -- `plan::write_virtuals` meets its contract. The loop's invariant: the virtual deadlines of the tasks passed are written. The
 -- measure is the tasks left.
-use borrow.Author.Needs.{needs}
-use Prim.Native.Nat.{ℕ, _+_, _-_, _*_, _≤_, _<_}
+use Prim.Native.Nat.{ℕ, _-_, _≤_}
 use mathlib.Core.Path.{_≡_, refl, ap, _∙_}
-use mathlib.Core.List.{List}
 use native.Mathlib.Omega.{arith}
 use lib.ListN.{length}
 use lib.Seq.{sets}
 use denote.Ref.{now}
 use Rattle.allocation.specs.Allocation.{allocationAt}
-use Rattle.planner.specs.Plan.{virtualBytes, wordBytes}
+use Rattle.planner.specs.Plan.{virtualBytes}
 use Rattle.planner.proofs.Parts.{virtuals-none, virtuals-more}
 use Rattle.planner.proofs.plan.write_virtuals.Statement.{statement}
 use Rattle.planner.proofs.plan.write_virtuals.Tie as tie
