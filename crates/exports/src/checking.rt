@@ -7,7 +7,7 @@ ghost use Rattle.exports.specs.Words.{entrySize, entryStart, stateSize, 
 
 pub const ENTRY_WORDS: usize = 41;
 
-pub const STATE_WORDS: usize = 659;
+pub const STATE_WORDS: usize = 3 + 16 * ENTRY_WORDS;
 
 // S13.1: the words of a state.
 #[no_mangle]
