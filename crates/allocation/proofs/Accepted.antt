@@ -37,16 +37,16 @@ rule-kept true number task e = refl
 rule-kept false number task e = absurd (let z : _≡_ {A = ℕ} 0 1 = cc in omega arith)
 
 -- A cause that lets all tasks pass lets each pass.
-pub over-accepted : (row : ℕ → Answer) (first count i : ℕ) → firstOver row first count ≡ Accepted → first ≤ i → i < first + count → row i ≡ Accepted
+pub over-accepted : (offer : ℕ → Answer) (first count i : ℕ) → firstOver offer first count ≡ Accepted → first ≤ i → i < first + count → offer i ≡ Accepted
 unfolding firstOver
-over-accepted row first zero i e from to = absurd (omega arith)
-over-accepted row first (suc count) i e from to =
-    let both = both-accepted (row first) (firstOver row (suc first) count) e in
-    go (over-accepted row (suc first) count i (both .1)) (both .0) (decLt first i)
+over-accepted offer first zero i e from to = absurd (omega arith)
+over-accepted offer first (suc count) i e from to =
+    let both = both-accepted (offer first) (firstOver offer (suc first) count) e in
+    go (over-accepted offer (suc first) count i (both .1)) (both .0) (decLt first i)
   where
-    go : (suc first ≤ i → i < suc first + count → row i ≡ Accepted) → row first ≡ Accepted → Dec (first < i) → row i ≡ Accepted
+    go : (suc first ≤ i → i < suc first + count → offer i ≡ Accepted) → offer first ≡ Accepted → Dec (first < i) → offer i ≡ Accepted
     go rest here (yes later) = rest later (omega arith)
-    go rest here (no not-later) = let same : i ≡ first = omega arith in ap row same ∙ here
+    go rest here (no not-later) = let same : i ≡ first = omega arith in ap offer same ∙ here
 
 module _ (s : List ℕ) where
   read-answer : readOf s .answer ≡ answerOf s

@@ -1,4 +1,4 @@
--- The cells of rows and totals: a row's cells one after the other, and what tabulated numbers say.
+-- The cells of offers and totals: an offer's cells one after the other, and what tabulated numbers say.
 use Prim.Native.Nat.{ℕ, zero, suc, _+_, _≤_, _<_}
 use mathlib.Core.Path.{_≡_, refl, sym, ap, _∙_}
 use mathlib.Core.Bool.{Bool, true, false, _&&_}
@@ -10,24 +10,24 @@ use lib.Dec.{ltb, leb}
 use lib.ListN.{length, getD, drop, drop-of-length-le}
 use lib.Seq.{drop-cons}
 use borrow.Author.Tests.{lt-ltb, le-ltb, leb-true, leb-false}
-use Rattle.shares.specs.Row.{tabulate}
+use Rattle.shares.specs.Offer.{tabulate}
 use Rattle.allocation.specs.means.Selection.{offersNone}
 
-module _ (M : ℕ) (row : List ℕ) (i : ℕ) (inside : i < length row) where
-  offers-open : offersNone M (drop i row) ≡ ltb M (getD row i 0) && offersNone M (drop (i + 1) row)
+module _ (M : ℕ) (offer : List ℕ) (i : ℕ) (inside : i < length offer) where
+  offers-open : offersNone M (drop i offer) ≡ ltb M (getD offer i 0) && offersNone M (drop (i + 1) offer)
   unfolding offersNone
-  offers-open = rw (drop-cons row i 0, add-one i)
+  offers-open = rw (drop-cons offer i 0, add-one i)
 
   -- A cell past M leaves it to the next ones.
-  pub offers-on : M < getD row i 0 → offersNone M (drop (i + 1) row) ≡ offersNone M (drop i row)
-  offers-on past = sym (offers-open ∙ ap (λ (t : Bool). t && offersNone M (drop (i + 1) row)) (lt-ltb M (getD row i 0) past))
+  pub offers-on : M < getD offer i 0 → offersNone M (drop (i + 1) offer) ≡ offersNone M (drop i offer)
+  offers-on past = sym (offers-open ∙ ap (λ (t : Bool). t && offersNone M (drop (i + 1) offer)) (lt-ltb M (getD offer i 0) past))
 
-  pub offers-stop : getD row i 0 ≤ M → offersNone M (drop i row) ≡ false
-  offers-stop within = offers-open ∙ ap (λ (t : Bool). t && offersNone M (drop (i + 1) row)) (le-ltb M (getD row i 0) within)
+  pub offers-stop : getD offer i 0 ≤ M → offersNone M (drop i offer) ≡ false
+  offers-stop within = offers-open ∙ ap (λ (t : Bool). t && offersNone M (drop (i + 1) offer)) (le-ltb M (getD offer i 0) within)
 
-pub offers-end : (M : ℕ) (row : List ℕ) (i : ℕ) → length row ≤ i → offersNone M (drop i row) ≡ true
+pub offers-end : (M : ℕ) (offer : List ℕ) (i : ℕ) → length offer ≤ i → offersNone M (drop i offer) ≡ true
 unfolding offersNone
-offers-end M row i done = rw (drop-of-length-le row done)
+offers-end M offer i done = rw (drop-of-length-le offer done)
 
 -- The members of tabulated numbers.
 pub tabulate-from : (g : ℕ → ℕ) (k n x : ℕ) → List·Memᴰ x (tabulate g k n) → (a : ℕ) × ((k ≤ a) × (x ≡ g a))

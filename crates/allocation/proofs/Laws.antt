@@ -28,7 +28,7 @@ use Rattle.allocation.specs.Lawful.{LawfulSet}
 use Rattle.basics.proofs.Members.{keep-has, keep-from, none-empty}
 use Rattle.allocation.proofs.Ranks.{no-later-both, rank-same, least-member, least-first, least-none, least-of-none}
 use Rattle.allocation.proofs.Lawfulness.{figures-kept}
-use Rattle.allocation.proofs.Offers.{low-from, high-from, options-low, options-high, row-of}
+use Rattle.allocation.proofs.Options.{low-from, high-from, options-low, options-high, offer-of}
 use Rattle.allocation.proofs.Sets.{fitting-takes, fitting-option, takes-length}
 
 module _ (M : ℕ) (tasks : List Task) where
@@ -131,7 +131,7 @@ module _ (set : TaskSet) (lawful : LawfulSet set) (choice : List Share) (chosen-
 
     pub chosen-positive : 1 ≤ lengthIn false choice i
     unfolding lengthIn
-    chosen-positive = row-of (set .processors) (taskIn set i) (lawful .lawful i inside) .positive (getD choice i noProcessors) chosen-option
+    chosen-positive = offer-of (set .processors) (taskIn set i) (lawful .lawful i inside) .positive (getD choice i noProcessors) chosen-option
 
     -- The virtual deadline is at most the deadline.
     pub chosen-virtual : virtualOf (taskIn set i) (lengthIn false choice i) ≤ taskIn set i .figures .deadline

@@ -4,7 +4,7 @@ pub mod Ranks
 pub mod Firsts
 pub mod Optimal
 pub mod Lawfulness
-pub mod Offers
+pub mod Options
 pub mod Cells
 pub mod Lines
 pub mod Walk

@@ -11,12 +11,12 @@ use borrow.Author.Tests.{lt-ltb}
 use Rattle.basics.specs.Lists.{cells, cellsFrom}
 use Rattle.basics.proofs.Cells.{cells-none, cells-store}
 use Rattle.shares.specs.declared.share.Share.{Share}
-use Rattle.shares.specs.Row.{tabulate}
-use Rattle.shares.proofs.Rows.{tabulate-at, tabulate-length, tabulated}
+use Rattle.shares.specs.Offer.{tabulate}
+use Rattle.shares.proofs.Offers.{tabulate-at, tabulate-length, tabulated}
 use Rattle.allocation.specs.declared.selection.Totals.{Totals}
 use Rattle.shares.specs.Totals.{noProcessors}
 use Rattle.allocation.specs.Allocation.{sixteen}
-use Rattle.allocation.specs.means.Selection.{cellAt, entryAt, leastFrom, sumAt, bestShare, totalWith, leastTotal, totalsOf, offered, sharesAt, bestTotal, missingRow, rowsUpTo, lastTotals}
+use Rattle.allocation.specs.means.Selection.{cellAt, entryAt, leastFrom, sumAt, bestShare, totalWith, leastTotal, totalsOf, offered, sharesAt, bestTotal, missingOffer, offersUpTo, lastTotals}
 use Rattle.allocation.proofs.Firsts.{least-same, least-to}
 use Rattle.allocation.proofs.Optimal.{best-from, best-to, with-positive, with-best, with-none, with-past, with-some}
 
@@ -47,170 +47,170 @@ tabulate-same g h n same =
     tabulate-at g 0 n i inside ∙ ap g e ∙ same i inside ∙ ap h (sym e))
 
 -- What totals say.
-pub entry-totals : (M : ℕ) (rows : List (ℕ → ℕ)) (t : ℕ) → t ≤ 64 → entryAt (totalsOf M rows) t ≡ leastTotal M rows t
+pub entry-totals : (M : ℕ) (offers : List (ℕ → ℕ)) (t : ℕ) → t ≤ 64 → entryAt (totalsOf M offers) t ≡ leastTotal M offers t
 unfolding entryAt totalsOf
-entry-totals M rows t within =
+entry-totals M offers t within =
     let e : 0 + t ≡ t = omega arith in
-    tabulate-at (leastTotal M rows) 0 65 t (omega arith) ∙ ap (leastTotal M rows) e
+    tabulate-at (leastTotal M offers) 0 65 t (omega arith) ∙ ap (leastTotal M offers) e
 
 -- Totals that agree below t give one best share, and one total.
-module _ (M : ℕ) (row rest rest′ : ℕ → ℕ) (t : ℕ) (same : (x : ℕ) → x < t → rest x ≡ rest′ x) where
-  sum-same : (a : ℕ) → 1 ≤ a → a ≤ t → sumAt row rest t a ≡ sumAt row rest′ t a
+module _ (M : ℕ) (offer rest rest′ : ℕ → ℕ) (t : ℕ) (same : (x : ℕ) → x < t → rest x ≡ rest′ x) where
+  sum-same : (a : ℕ) → 1 ≤ a → a ≤ t → sumAt offer rest t a ≡ sumAt offer rest′ t a
   unfolding sumAt
-  sum-same a from to = ap (λ (x : ℕ). row a + x) (same (t - a) (omega arith))
+  sum-same a from to = ap (λ (x : ℕ). offer a + x) (same (t - a) (omega arith))
 
-  pub best-same : 1 ≤ t → bestShare row rest t ≡ bestShare row rest′ t
+  pub best-same : 1 ≤ t → bestShare offer rest t ≡ bestShare offer rest′ t
   unfolding bestShare
-  best-same one = least-same (sumAt row rest t) (sumAt row rest′ t) 1 (t - 1) (λ a from to. sum-same a from (omega arith))
+  best-same one = least-same (sumAt offer rest t) (sumAt offer rest′ t) 1 (t - 1) (λ a from to. sum-same a from (omega arith))
 
-  with-same : totalWith M row rest t ≡ totalWith M row rest′ t
+  with-same : totalWith M offer rest t ≡ totalWith M offer rest′ t
   with-same = go (decLe 1 t) (decLe t M)
     where
-      go : Dec (1 ≤ t) → Dec (t ≤ M) → totalWith M row rest t ≡ totalWith M row rest′ t
+      go : Dec (1 ≤ t) → Dec (t ≤ M) → totalWith M offer rest t ≡ totalWith M offer rest′ t
       go (yes one) (yes to) =
-          with-some M row rest t one to
+          with-some M offer rest t one to
           ∙ ap (λ (x : ℕ). min x (M + 1))
-          (sum-same (bestShare row rest t) (best-from M row rest t) (best-to M row rest t one)
-          ∙ ap (sumAt row rest′ t) (best-same one))
-          ∙ sym (with-some M row rest′ t one to)
-      go (yes one) (no past) = with-past M row rest t (omega arith) ∙ sym (with-past M row rest′ t (omega arith))
-      go (no zero-left) _ = with-none M row rest t (omega arith) ∙ sym (with-none M row rest′ t (omega arith))
+          (sum-same (bestShare offer rest t) (best-from M offer rest t) (best-to M offer rest t one)
+          ∙ ap (sumAt offer rest′ t) (best-same one))
+          ∙ sym (with-some M offer rest′ t one to)
+      go (yes one) (no past) = with-past M offer rest t (omega arith) ∙ sym (with-past M offer rest′ t (omega arith))
+      go (no zero-left) _ = with-none M offer rest t (omega arith) ∙ sym (with-none M offer rest′ t (omega arith))
 
 -- The totals of one task more.
-pub totals-more : (M : ℕ) (row : ℕ → ℕ) (rows : List (ℕ → ℕ)) →
-    tabulate (totalWith M row (entryAt (totalsOf M rows))) 0 65 ≡ totalsOf M (row ∷ rows)
+pub totals-more : (M : ℕ) (offer : ℕ → ℕ) (offers : List (ℕ → ℕ)) →
+    tabulate (totalWith M offer (entryAt (totalsOf M offers))) 0 65 ≡ totalsOf M (offer ∷ offers)
 unfolding totalsOf leastTotal
-totals-more M row rows =
-    tabulate-same (totalWith M row (entryAt (totalsOf M rows))) (totalWith M row (leastTotal M rows)) 65
-    (λ t inside. with-same M row (entryAt (totalsOf M rows)) (leastTotal M rows) t (λ x below. entry-totals M rows x (omega arith)))
+totals-more M offer offers =
+    tabulate-same (totalWith M offer (entryAt (totalsOf M offers))) (totalWith M offer (leastTotal M offers)) 65
+    (λ t inside. with-same M offer (entryAt (totalsOf M offers)) (leastTotal M offers) t (λ x below. entry-totals M offers x (omega arith)))
 
--- The first n rows.
-module _ (n : ℕ) (rows : List (List ℕ)) (there : n ≤ length rows) where
-  pub rows-length : length (rowsUpTo n rows) ≡ n
-  unfolding rowsUpTo
-  rows-length = length-map (take n rows) cellAt ∙ length-take-le n rows there
+-- The first n offers.
+module _ (n : ℕ) (offers : List (List ℕ)) (there : n ≤ length offers) where
+  pub offers-length : length (offersUpTo n offers) ≡ n
+  unfolding offersUpTo
+  offers-length = length-map (take n offers) cellAt ∙ length-take-le n offers there
 
-  -- The row of task i before those after it.
-  pub rows-open : (i : ℕ) → i < n → drop i (rowsUpTo n rows) ≡ cellAt (getD rows i missingRow) ∷ drop (i + 1) (rowsUpTo n rows)
-  unfolding rowsUpTo
-  rows-open i inside =
-      let within : i < length (map cellAt (take n rows)) = omega (arith, rows-length) in
-      drop-cons (map cellAt (take n rows)) i (cellAt []) within
+  -- The offer of task i before those after it.
+  pub offers-open : (i : ℕ) → i < n → drop i (offersUpTo n offers) ≡ cellAt (getD offers i missingOffer) ∷ drop (i + 1) (offersUpTo n offers)
+  unfolding offersUpTo
+  offers-open i inside =
+      let within : i < length (map cellAt (take n offers)) = omega (arith, offers-length) in
+      drop-cons (map cellAt (take n offers)) i (cellAt []) within
       ∙ rw (add-one i)
-      (ap (λ (row : ℕ → ℕ). row ∷ drop (suc i) (map cellAt (take n rows)))
-      (List·getD-map cellAt (take n rows) i missingRow
-      ∙ ap cellAt (getD-take n rows i missingRow inside)))
+      (ap (λ (offer : ℕ → ℕ). offer ∷ drop (suc i) (map cellAt (take n offers)))
+      (List·getD-map cellAt (take n offers) i missingOffer
+      ∙ ap cellAt (getD-take n offers i missingOffer inside)))
 
 -- The totals of the last k tasks.
 abbrev pub line : ℕ → List (ℕ → ℕ) → ℕ → ℕ → Totals
-line M rows n k = record { cells = totalsOf M (drop (n - k) rows) }
+line M offers n k = record { cells = totalsOf M (drop (n - k) offers) }
 
 abbrev pub no-line : ℕ → Totals
 no-line M = record { cells = totalsOf M [] }
 
 -- The lines of up to k tasks are filled.
 unfoldable pub lines : ℕ → List (ℕ → ℕ) → ℕ → ℕ → List Totals
-lines M rows n k = cells 17 (line M rows n) (no-line M) (k + 1)
+lines M offers n k = cells 17 (line M offers n) (no-line M) (k + 1)
 
 abbrev pub missingTotals : Totals
 missingTotals = record { cells = [] }
 
-module _ (M n : ℕ) (rows : List (ℕ → ℕ)) (all-there : length rows ≡ n) where
-  last-line : drop (n - 0) rows ≡ []
+module _ (M n : ℕ) (offers : List (ℕ → ℕ)) (all-there : length offers ≡ n) where
+  last-line : drop (n - 0) offers ≡ []
   last-line =
-      let past : length rows ≤ n - 0 = omega arith in
-      drop-of-length-le rows past
+      let past : length offers ≤ n - 0 = omega arith in
+      drop-of-length-le offers past
 
-  pub lines-start : replicate 17 (no-line M) ≡ lines M rows n 0
+  pub lines-start : replicate 17 (no-line M) ≡ lines M offers n 0
   unfolding lines
   lines-start =
       ap (λ (x : Totals). set (replicate 17 (no-line M)) 0 x) (ap (λ (r : List (ℕ → ℕ)). record { cells = totalsOf M r }) (sym last-line))
-      ∙ ap (λ (l : List Totals). set l 0 (line M rows n 0)) (sym (cells-none (line M rows n) (no-line M) 0 17 0 (omega arith)))
-      ∙ cells-store (line M rows n) (no-line M) 17 0 (omega arith)
+      ∙ ap (λ (l : List Totals). set l 0 (line M offers n 0)) (sym (cells-none (line M offers n) (no-line M) 0 17 0 (omega arith)))
+      ∙ cells-store (line M offers n) (no-line M) 17 0 (omega arith)
 
-  pub lines-at : (k j : ℕ) → j ≤ k → j < 17 → getD (lines M rows n k) j missingTotals ≡ line M rows n j
+  pub lines-at : (k j : ℕ) → j ≤ k → j < 17 → getD (lines M offers n k) j missingTotals ≡ line M offers n j
   unfolding lines
-  lines-at k j from inside = cells-at (line M rows n) (no-line M) 17 (k + 1) j missingTotals inside (omega arith)
+  lines-at k j from inside = cells-at (line M offers n) (no-line M) 17 (k + 1) j missingTotals inside (omega arith)
 
-  pub lines-store : (k : ℕ) → k + 1 < 17 → set (lines M rows n k) (k + 1) (line M rows n (k + 1)) ≡ lines M rows n (k + 1)
+  pub lines-store : (k : ℕ) → k + 1 < 17 → set (lines M offers n k) (k + 1) (line M offers n (k + 1)) ≡ lines M offers n (k + 1)
   unfolding lines
-  lines-store k inside = cells-store (line M rows n) (no-line M) 17 (k + 1) inside
+  lines-store k inside = cells-store (line M offers n) (no-line M) 17 (k + 1) inside
 
-  pub lines-last : lines M rows n n ≡ lastTotals M rows n
+  pub lines-last : lines M offers n n ≡ lastTotals M offers n
   unfolding lines lastTotals
   lines-last = refl
 
--- The line that the loop stores, from the row of the task and the line before.
-pub line-more : (M n : ℕ) (rows : List (List ℕ)) → n ≤ length rows → (k : ℕ) → k < n →
-    tabulate (totalWith M (cellAt (getD rows (n - 1 - k) missingRow)) (entryAt (line M (rowsUpTo n rows) n k .cells))) 0 65
-    ≡ line M (rowsUpTo n rows) n (k + 1) .cells
-line-more M n rows there k inside =
+-- The line that the loop stores, from the offer of the task and the line before.
+pub line-more : (M n : ℕ) (offers : List (List ℕ)) → n ≤ length offers → (k : ℕ) → k < n →
+    tabulate (totalWith M (cellAt (getD offers (n - 1 - k) missingOffer)) (entryAt (line M (offersUpTo n offers) n k .cells))) 0 65
+    ≡ line M (offersUpTo n offers) n (k + 1) .cells
+line-more M n offers there k inside =
     let place : n - 1 - k ≡ n - (k + 1) = omega arith in
     let next : n - (k + 1) + 1 ≡ n - k = omega arith in
     rw place
-    (totals-more M (cellAt (getD rows (n - (k + 1)) missingRow)) (drop (n - k) (rowsUpTo n rows))
+    (totals-more M (cellAt (getD offers (n - (k + 1)) missingOffer)) (drop (n - k) (offersUpTo n offers))
     ∙ ap (totalsOf M)
-    (sym (rows-open n rows there (n - (k + 1)) (omega arith)
-    ∙ ap (λ (x : ℕ). cellAt (getD rows (n - (k + 1)) missingRow) ∷ drop x (rowsUpTo n rows)) next)))
+    (sym (offers-open n offers there (n - (k + 1)) (omega arith)
+    ∙ ap (λ (x : ℕ). cellAt (getD offers (n - (k + 1)) missingOffer) ∷ drop x (offersUpTo n offers)) next)))
 
 -- What the selection reads off the lines of n tasks.
-module _ (M n : ℕ) (rows : List (ℕ → ℕ)) (all-there : length rows ≡ n) (few : n ≤ 16) where
-  pub whole-line : getD (lastTotals M rows n) n missingTotals .cells ≡ totalsOf M rows
+module _ (M n : ℕ) (offers : List (ℕ → ℕ)) (all-there : length offers ≡ n) (few : n ≤ 16) where
+  pub whole-line : getD (lastTotals M offers n) n missingTotals .cells ≡ totalsOf M offers
   whole-line =
       let none : n - n ≡ 0 = omega arith in
-      rw (← lines-last M n rows all-there)
-      (ap (λ (x : Totals). x .cells) (lines-at M n rows all-there n n (omega arith) (omega arith))
-      ∙ ap (λ (x : ℕ). totalsOf M (drop x rows)) none)
+      rw (← lines-last M n offers all-there)
+      (ap (λ (x : Totals). x .cells) (lines-at M n offers all-there n n (omega arith) (omega arith))
+      ∙ ap (λ (x : ℕ). totalsOf M (drop x offers)) none)
 
-  pub rest-line : (i : ℕ) → i < n → getD (lastTotals M rows n) (n - 1 - i) missingTotals .cells ≡ totalsOf M (drop (i + 1) rows)
+  pub rest-line : (i : ℕ) → i < n → getD (lastTotals M offers n) (n - 1 - i) missingTotals .cells ≡ totalsOf M (drop (i + 1) offers)
   rest-line i inside =
       let place : n - (n - 1 - i) ≡ i + 1 = omega arith in
-      rw (← lines-last M n rows all-there)
-      (ap (λ (x : Totals). x .cells) (lines-at M n rows all-there n (n - 1 - i) (omega arith) (omega arith))
-      ∙ ap (λ (x : ℕ). totalsOf M (drop x rows)) place)
+      rw (← lines-last M n offers all-there)
+      (ap (λ (x : Totals). x .cells) (lines-at M n offers all-there n (n - 1 - i) (omega arith) (omega arith))
+      ∙ ap (λ (x : ℕ). totalsOf M (drop x offers)) place)
 
 -- The best typical total.
-pub best-total-is : (M : ℕ) (rows : List (ℕ → ℕ)) → M ≤ 64 → leastFrom (entryAt (totalsOf M rows)) 0 M ≡ bestTotal M rows
+pub best-total-is : (M : ℕ) (offers : List (ℕ → ℕ)) → M ≤ 64 → leastFrom (entryAt (totalsOf M offers)) 0 M ≡ bestTotal M offers
 unfolding bestTotal
-best-total-is M rows small =
-    least-same (entryAt (totalsOf M rows)) (leastTotal M rows) 0 M (λ t from to. entry-totals M rows t (omega arith))
+best-total-is M offers small =
+    least-same (entryAt (totalsOf M offers)) (leastTotal M offers) 0 M (λ t from to. entry-totals M offers t (omega arith))
 
-pub best-total-within : (M : ℕ) (rows : List (ℕ → ℕ)) → bestTotal M rows ≤ M
+pub best-total-within : (M : ℕ) (offers : List (ℕ → ℕ)) → bestTotal M offers ≤ M
 unfolding bestTotal
-best-total-within M rows = omega (arith, least-to (leastTotal M rows) 0 M)
+best-total-within M offers = omega (arith, least-to (leastTotal M offers) 0 M)
 
 -- One step of the walk: the first task's share, and what is left for the tasks after it.
-module _ (M : ℕ) (row : ℕ → ℕ) (rows : List (ℕ → ℕ)) (t a : ℕ) (small : t ≤ 64) (within : leastTotal M (row ∷ rows) t ≤ M)
-    (best : a ≡ bestShare row (entryAt (totalsOf M rows)) t) where
+module _ (M : ℕ) (offer : ℕ → ℕ) (offers : List (ℕ → ℕ)) (t a : ℕ) (small : t ≤ 64) (within : leastTotal M (offer ∷ offers) t ≤ M)
+    (best : a ≡ bestShare offer (entryAt (totalsOf M offers)) t) where
   pub step-some : 1 ≤ t
   unfolding leastTotal
-  step-some = with-positive M row (leastTotal M rows) t within
+  step-some = with-positive M offer (leastTotal M offers) t within
 
-  step-best : a ≡ bestShare row (leastTotal M rows) t
+  step-best : a ≡ bestShare offer (leastTotal M offers) t
   step-best =
       best
-      ∙ best-same M row (entryAt (totalsOf M rows)) (leastTotal M rows) t (λ x below. entry-totals M rows x (omega arith)) step-some
+      ∙ best-same M offer (entryAt (totalsOf M offers)) (leastTotal M offers) t (λ x below. entry-totals M offers x (omega arith)) step-some
 
   pub step-from : 1 ≤ a
-  step-from = rw step-best (best-from M row (leastTotal M rows) t)
+  step-from = rw step-best (best-from M offer (leastTotal M offers) t)
 
   pub step-to : a ≤ t
-  step-to = rw step-best (best-to M row (leastTotal M rows) t step-some)
+  step-to = rw step-best (best-to M offer (leastTotal M offers) t step-some)
 
-  pub step-within : leastTotal M rows (t - a) ≤ M
+  pub step-within : leastTotal M offers (t - a) ≤ M
   unfolding leastTotal
   step-within =
-      let sum = with-best M row (leastTotal M rows) t within in
+      let sum = with-best M offer (leastTotal M offers) t within in
       rw step-best (omega arith)
 
-  pub step-shares : sharesAt M (row ∷ rows) t ≡ offered row a ∷ sharesAt M rows (t - a)
+  pub step-shares : sharesAt M (offer ∷ offers) t ≡ offered offer a ∷ sharesAt M offers (t - a)
   unfolding sharesAt
   step-shares = rw step-best
 
-pub shares-length : (M : ℕ) (rows : List (ℕ → ℕ)) (t : ℕ) → length (sharesAt M rows t) ≡ length rows
+pub shares-length : (M : ℕ) (offers : List (ℕ → ℕ)) (t : ℕ) → length (sharesAt M offers t) ≡ length offers
 unfolding sharesAt
 shares-length M [] t = refl
-shares-length M (row ∷ rows) t = ap suc (shares-length M rows (t - bestShare row (leastTotal M rows) t))
+shares-length M (offer ∷ offers) t = ap suc (shares-length M offers (t - bestShare offer (leastTotal M offers) t))
 
 -- A list that is known from i on.
 module _ {A : Type 0} (l : List A) (i : ℕ) (x : A) (rest : List A) (e : drop i l ≡ x ∷ rest) where

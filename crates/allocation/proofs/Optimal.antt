@@ -1,5 +1,5 @@
--- The selection is right, for any rows. Every choice has a critical total of at least the least one at its typical total; the
--- selected shares have just that; and a rival with the same totals agrees with the rows at each task, so that the first best
+-- The selection is right, for any offers. Every choice has a critical total of at least the least one at its typical total; the
+-- selected shares have just that; and a rival with the same totals agrees with the offers at each task, so that the first best
 -- share comes no later than the rival's.
 use Prim.Native.Nat.{ℕ, _+_, _-_, _≤_, _<_, min}
 use mathlib.Core.Path.{_≡_, refl, sym, ap, _∙_, subst}
@@ -21,20 +21,20 @@ use Rattle.basics.proofs.Members.{each-has, each-from, map-has, map-from, keep-
 use Rattle.allocation.proofs.Ranks.{pairs-no-later, ranks-no-later, least-is, least-of-none}
 use Rattle.allocation.proofs.Firsts.{least-from, least-to, least-at-most, least-first-at}
 
--- What is asked of a task's row: each option has a typical share of 1 to M and a critical share within M of at least
--- what the row says, and what the row offers within M is an option.
-pub record RowOf (M : ℕ) (options : List Share) (row : ℕ → ℕ) : Type 0 where
+-- What is asked of a task's offer: each option has a typical share of 1 to M and a critical share within M of at least
+-- what the offer says, and what the offer offers within M is an option.
+pub record OfferOf (M : ℕ) (options : List Share) (offer : ℕ → ℕ) : Type 0 where
   pub positive : (s : Share) → List·Memᴰ s options → 1 ≤ s .typical
   pub within : (s : Share) → List·Memᴰ s options → s .typical ≤ M
   pub small : (s : Share) → List·Memᴰ s options → s .critical ≤ M
-  pub least : (s : Share) → List·Memᴰ s options → row (s .typical) ≤ s .critical
-  pub offers : (a : ℕ) → 1 ≤ a → a ≤ M → row a ≤ M → List·Memᴰ (offered row a) options
+  pub least : (s : Share) → List·Memᴰ s options → offer (s .typical) ≤ s .critical
+  pub offers : (a : ℕ) → 1 ≤ a → a ≤ M → offer a ≤ M → List·Memᴰ (offered offer a) options
 
--- A row for each task.
-pub data Rows (M : ℕ) : List (List Share) → List (ℕ → ℕ) → Type 0 where
-  no-row : Rows M [] []
-  row-and : {options : List Share} {row : ℕ → ℕ} {rest : List (List Share)} {rows : List (ℕ → ℕ)} →
-      RowOf M options row → Rows M rest rows → Rows M (options ∷ rest) (row ∷ rows)
+-- An offer for each task.
+pub data Offers (M : ℕ) : List (List Share) → List (ℕ → ℕ) → Type 0 where
+  no-offer : Offers M [] []
+  offer-and : {options : List Share} {offer : ℕ → ℕ} {rest : List (List Share)} {offers : List (ℕ → ℕ)} →
+      OfferOf M options offer → Offers M rest offers → Offers M (options ∷ rest) (offer ∷ offers)
 
 -- One option of each task.
 abbrev pub Takes : List (List Share) → List Share → Type 0
@@ -61,106 +61,106 @@ choice-takes (options ∷ rest) choice m =
     subst (Takes (options ∷ rest)) (sym (tail .1 .1)) (found .1 .0, choice-takes rest (tail .0) (tail .1 .0))
 
 -- One task beside the tasks after it.
-module _ (M : ℕ) (row rest : ℕ → ℕ) (t : ℕ) where
-  pub with-none : t ≡ 0 → totalWith M row rest t ≡ M + 1
+module _ (M : ℕ) (offer rest : ℕ → ℕ) (t : ℕ) where
+  pub with-none : t ≡ 0 → totalWith M offer rest t ≡ M + 1
   unfolding totalWith
   with-none e = rw e
 
-  pub with-past : M < t → totalWith M row rest t ≡ M + 1
+  pub with-past : M < t → totalWith M offer rest t ≡ M + 1
   unfolding totalWith
   with-past past = rw (le-leb 1 t (omega arith), lt-leb t M past)
 
-  pub with-some : 1 ≤ t → t ≤ M → totalWith M row rest t ≡ min (sumAt row rest t (bestShare row rest t)) (M + 1)
+  pub with-some : 1 ≤ t → t ≤ M → totalWith M offer rest t ≡ min (sumAt offer rest t (bestShare offer rest t)) (M + 1)
   unfolding totalWith
   with-some one to = rw (le-leb 1 t one, le-leb t M to)
 
-  pub best-from : 1 ≤ bestShare row rest t
+  pub best-from : 1 ≤ bestShare offer rest t
   unfolding bestShare
-  best-from = least-from (sumAt row rest t) 1 (t - 1)
+  best-from = least-from (sumAt offer rest t) 1 (t - 1)
 
-  pub best-to : 1 ≤ t → bestShare row rest t ≤ t
+  pub best-to : 1 ≤ t → bestShare offer rest t ≤ t
   unfolding bestShare
-  best-to one = omega (arith, least-to (sumAt row rest t) 1 (t - 1))
+  best-to one = omega (arith, least-to (sumAt offer rest t) 1 (t - 1))
 
-  best-least : (a : ℕ) → 1 ≤ a → a ≤ t → sumAt row rest t (bestShare row rest t) ≤ sumAt row rest t a
+  best-least : (a : ℕ) → 1 ≤ a → a ≤ t → sumAt offer rest t (bestShare offer rest t) ≤ sumAt offer rest t a
   unfolding bestShare
-  best-least a from to = least-at-most (sumAt row rest t) 1 (t - 1) a from (omega arith)
+  best-least a from to = least-at-most (sumAt offer rest t) 1 (t - 1) a from (omega arith)
 
-  best-first : (a : ℕ) → 1 ≤ a → a ≤ t → sumAt row rest t a ≤ sumAt row rest t (bestShare row rest t) → bestShare row rest t ≤ a
+  best-first : (a : ℕ) → 1 ≤ a → a ≤ t → sumAt offer rest t a ≤ sumAt offer rest t (bestShare offer rest t) → bestShare offer rest t ≤ a
   unfolding bestShare
-  best-first a from to = least-first-at (sumAt row rest t) 1 (t - 1) a from (omega arith)
+  best-first a from to = least-first-at (sumAt offer rest t) 1 (t - 1) a from (omega arith)
 
-  pub with-at-most : t ≤ M → (a : ℕ) → 1 ≤ a → a ≤ t → totalWith M row rest t ≤ row a + rest (t - a)
+  pub with-at-most : t ≤ M → (a : ℕ) → 1 ≤ a → a ≤ t → totalWith M offer rest t ≤ offer a + rest (t - a)
   unfolding sumAt
   with-at-most inside a from to =
       rw (with-some (omega arith) inside)
-      (omega (arith, min-le-left (sumAt row rest t (bestShare row rest t)) (M + 1), best-least a from to))
+      (omega (arith, min-le-left (sumAt offer rest t (bestShare offer rest t)) (M + 1), best-least a from to))
 
-  pub with-positive : totalWith M row rest t ≤ M → 1 ≤ t
+  pub with-positive : totalWith M offer rest t ≤ M → 1 ≤ t
   with-positive within = go (decLe 1 t)
     where
       go : Dec (1 ≤ t) → 1 ≤ t
       go (yes one) = one
       go (no zero-left) = absurd (omega (arith, with-none (omega arith)))
 
-  with-to : totalWith M row rest t ≤ M → t ≤ M
+  with-to : totalWith M offer rest t ≤ M → t ≤ M
   with-to within = go (decLe t M)
     where
       go : Dec (t ≤ M) → t ≤ M
       go (yes to) = to
       go (no past) = absurd (omega (arith, with-past (omega arith)))
 
-  pub with-best : totalWith M row rest t ≤ M → totalWith M row rest t ≡ row (bestShare row rest t) + rest (t - bestShare row rest t)
+  pub with-best : totalWith M offer rest t ≤ M → totalWith M offer rest t ≡ offer (bestShare offer rest t) + rest (t - bestShare offer rest t)
   unfolding sumAt
-  with-best within = go (sumAt row rest t (bestShare row rest t)) (with-some (with-positive within) (with-to within)) (decLe (sumAt row rest t (bestShare row rest t)) (M + 1))
+  with-best within = go (sumAt offer rest t (bestShare offer rest t)) (with-some (with-positive within) (with-to within)) (decLe (sumAt offer rest t (bestShare offer rest t)) (M + 1))
     where
-      go : (x : ℕ) → totalWith M row rest t ≡ min x (M + 1) → Dec (x ≤ M + 1) → totalWith M row rest t ≡ x
+      go : (x : ℕ) → totalWith M offer rest t ≡ min x (M + 1) → Dec (x ≤ M + 1) → totalWith M offer rest t ≡ x
       go x e (yes h) = e ∙ min-eq-left h
       go x e (no h) =
           let most : M + 1 ≤ x = omega arith in
           absurd (omega (arith, e ∙ min-eq-right most))
 
   -- A share whose total is as small comes no earlier.
-  pub with-first : totalWith M row rest t ≤ M → (a : ℕ) → 1 ≤ a → a ≤ t → row a + rest (t - a) ≤ totalWith M row rest t →
-      bestShare row rest t ≤ a
+  pub with-first : totalWith M offer rest t ≤ M → (a : ℕ) → 1 ≤ a → a ≤ t → offer a + rest (t - a) ≤ totalWith M offer rest t →
+      bestShare offer rest t ≤ a
   unfolding sumAt
   with-first within a from to less = best-first a from to (rw (with-best within) at less)
 
 -- Every choice with a typical total within M has at least the least critical total there.
-pub total-least : {M : ℕ} {tasks : List (List Share)} {rows : List (ℕ → ℕ)} → Rows M tasks rows → (choice : List Share) →
-    Takes tasks choice → typicalTotal choice ≤ M → leastTotal M rows (typicalTotal choice) ≤ criticalTotal choice
+pub total-least : {M : ℕ} {tasks : List (List Share)} {offers : List (ℕ → ℕ)} → Offers M tasks offers → (choice : List Share) →
+    Takes tasks choice → typicalTotal choice ≤ M → leastTotal M offers (typicalTotal choice) ≤ criticalTotal choice
 unfolding leastTotal
-total-least no-row [] t to = omega arith
-total-least no-row (s ∷ choice) t to = absurd t
-total-least (row-and r rs) [] t to = absurd t
-total-least {M} (row-and {row = row} {rows = rows} r rs) (s ∷ choice) (m, t) to =
+total-least no-offer [] t to = omega arith
+total-least no-offer (s ∷ choice) t to = absurd t
+total-least (offer-and r rs) [] t to = absurd t
+total-least {M} (offer-and {offer = offer} {offers = offers} r rs) (s ∷ choice) (m, t) to =
     let left : s .typical + typicalTotal choice - s .typical ≡ typicalTotal choice = omega arith in
-    let here = with-at-most M row (leastTotal M rows) (s .typical + typicalTotal choice) to (s .typical) (r .positive s m) (omega arith) in
-    let here′ : totalWith M row (leastTotal M rows) (s .typical + typicalTotal choice) ≤ row (s .typical) + leastTotal M rows (typicalTotal choice) =
+    let here = with-at-most M offer (leastTotal M offers) (s .typical + typicalTotal choice) to (s .typical) (r .positive s m) (omega arith) in
+    let here′ : totalWith M offer (leastTotal M offers) (s .typical + typicalTotal choice) ≤ offer (s .typical) + leastTotal M offers (typicalTotal choice) =
     rw left at here in
     omega (arith, r .least s m, total-least rs choice t (omega arith))
 
 -- What the selected shares are where the least critical total is within M.
-pub record Sound (M : ℕ) (tasks : List (List Share)) (rows : List (ℕ → ℕ)) (t : ℕ) : Type 0 where
-  pub takes : Takes tasks (sharesAt M rows t)
-  pub typical : typicalTotal (sharesAt M rows t) ≡ t
-  pub critical : criticalTotal (sharesAt M rows t) ≡ leastTotal M rows t
+pub record Sound (M : ℕ) (tasks : List (List Share)) (offers : List (ℕ → ℕ)) (t : ℕ) : Type 0 where
+  pub takes : Takes tasks (sharesAt M offers t)
+  pub typical : typicalTotal (sharesAt M offers t) ≡ t
+  pub critical : criticalTotal (sharesAt M offers t) ≡ leastTotal M offers t
 
-pub select-sound : {M : ℕ} {tasks : List (List Share)} {rows : List (ℕ → ℕ)} → Rows M tasks rows → (t : ℕ) → t ≤ M →
-    leastTotal M rows t ≤ M → Sound M tasks rows t
+pub select-sound : {M : ℕ} {tasks : List (List Share)} {offers : List (ℕ → ℕ)} → Offers M tasks offers → (t : ℕ) → t ≤ M →
+    leastTotal M offers t ≤ M → Sound M tasks offers t
 unfolding leastTotal sharesAt
-select-sound {M} no-row t to within = go (eqb t 0) refl within
+select-sound {M} no-offer t to within = go (eqb t 0) refl within
   where
     go : (e : Bool) → eqb t 0 ≡ e → cond e 0 (M + 1) ≤ M → Sound M [] [] t
     go true e h = let z = eqb-true t 0 e in record { takes = tt; typical = sym z; critical = sym (rw e) }
     go false e h = absurd (omega arith)
-select-sound {M} (row-and {row = row} {rest = tasks} {rows = rows} r rs) t to within =
-    let one = with-positive M row (leastTotal M rows) t within in
-    let a = bestShare row (leastTotal M rows) t in
-    let a-from : 1 ≤ a = best-from M row (leastTotal M rows) t in
-    let a-to : a ≤ t = best-to M row (leastTotal M rows) t one in
-    let sum : totalWith M row (leastTotal M rows) t ≡ row a + leastTotal M rows (t - a) = with-best M row (leastTotal M rows) t within in
-    let later : Sound M tasks rows (t - a) = select-sound rs (t - a) (omega arith) (omega arith) in
+select-sound {M} (offer-and {offer = offer} {rest = tasks} {offers = offers} r rs) t to within =
+    let one = with-positive M offer (leastTotal M offers) t within in
+    let a = bestShare offer (leastTotal M offers) t in
+    let a-from : 1 ≤ a = best-from M offer (leastTotal M offers) t in
+    let a-to : a ≤ t = best-to M offer (leastTotal M offers) t one in
+    let sum : totalWith M offer (leastTotal M offers) t ≡ offer a + leastTotal M offers (t - a) = with-best M offer (leastTotal M offers) t within in
+    let later : Sound M tasks offers (t - a) = select-sound rs (t - a) (omega arith) (omega arith) in
     record {
       takes = (r .offers a a-from (omega arith) (omega arith), later .takes);
       typical = let e = later .typical in omega arith;
@@ -168,44 +168,44 @@ select-sound {M} (row-and {row = row} {rest = tasks} {rows = rows} r rs) t to wi
     }
 
 -- A rival with the same totals comes no earlier, task by task.
-pub select-first : {M : ℕ} {tasks : List (List Share)} {rows : List (ℕ → ℕ)} → Rows M tasks rows → (t : ℕ) → t ≤ M →
-    leastTotal M rows t ≤ M → (rival : List Share) → Takes tasks rival → typicalTotal rival ≡ t →
-    criticalTotal rival ≡ leastTotal M rows t → noLater (pairNumbers (sharesAt M rows t)) (pairNumbers rival) ≡ true
+pub select-first : {M : ℕ} {tasks : List (List Share)} {offers : List (ℕ → ℕ)} → Offers M tasks offers → (t : ℕ) → t ≤ M →
+    leastTotal M offers t ≤ M → (rival : List Share) → Takes tasks rival → typicalTotal rival ≡ t →
+    criticalTotal rival ≡ leastTotal M offers t → noLater (pairNumbers (sharesAt M offers t)) (pairNumbers rival) ≡ true
 unfolding leastTotal sharesAt
-select-first no-row t to within rival takes typical critical = refl
-select-first (row-and r rs) t to within [] takes typical critical = absurd takes
-select-first {M} (row-and {row = row} {rest = tasks} {rows = rows} r rs) t to within (s ∷ rival) (m, takes) typical critical =
-    let total = totalWith M row (leastTotal M rows) t in
-    let a = bestShare row (leastTotal M rows) t in
-    let a-to : a ≤ t = best-to M row (leastTotal M rows) t (with-positive M row (leastTotal M rows) t within) in
+select-first no-offer t to within rival takes typical critical = refl
+select-first (offer-and r rs) t to within [] takes typical critical = absurd takes
+select-first {M} (offer-and {offer = offer} {rest = tasks} {offers = offers} r rs) t to within (s ∷ rival) (m, takes) typical critical =
+    let total = totalWith M offer (leastTotal M offers) t in
+    let a = bestShare offer (leastTotal M offers) t in
+    let a-to : a ≤ t = best-to M offer (leastTotal M offers) t (with-positive M offer (leastTotal M offers) t within) in
     let one : 1 ≤ s .typical = r .positive s m in
     let left : t - s .typical ≡ typicalTotal rival = omega arith in
-    let least : row (s .typical) ≤ s .critical = r .least s m in
-    let rest-least : leastTotal M rows (t - s .typical) ≤ criticalTotal rival = rw left (total-least rs rival takes (omega arith)) in
-    let most : total ≤ row (s .typical) + leastTotal M rows (t - s .typical) =
-    with-at-most M row (leastTotal M rows) t to (s .typical) one (omega arith) in
-    let no-later : a ≤ s .typical = with-first M row (leastTotal M rows) t within (s .typical) one (omega arith) (omega arith) in
-    let own : s .critical ≡ row (s .typical) = omega arith in
-    let rest-own : criticalTotal rival ≡ leastTotal M rows (t - s .typical) = omega arith in
-    pairs-no-later (offered row a) s (sharesAt M rows (t - a)) rival no-later
-    (λ same. ap row same ∙ sym own)
+    let least : offer (s .typical) ≤ s .critical = r .least s m in
+    let rest-least : leastTotal M offers (t - s .typical) ≤ criticalTotal rival = rw left (total-least rs rival takes (omega arith)) in
+    let most : total ≤ offer (s .typical) + leastTotal M offers (t - s .typical) =
+    with-at-most M offer (leastTotal M offers) t to (s .typical) one (omega arith) in
+    let no-later : a ≤ s .typical = with-first M offer (leastTotal M offers) t within (s .typical) one (omega arith) (omega arith) in
+    let own : s .critical ≡ offer (s .typical) = omega arith in
+    let rest-own : criticalTotal rival ≡ leastTotal M offers (t - s .typical) = omega arith in
+    pairs-no-later (offered offer a) s (sharesAt M offers (t - a)) rival no-later
+    (λ same. ap offer same ∙ sym own)
     (λ same.
     let gone : t - s .typical ≡ t - a = ap (λ (x : ℕ). t - x) (sym same) in
-    let rest-same : criticalTotal rival ≡ leastTotal M rows (t - a) = rest-own ∙ ap (leastTotal M rows) gone in
+    let rest-same : criticalTotal rival ≡ leastTotal M offers (t - a) = rest-own ∙ ap (leastTotal M offers) gone in
     select-first rs (t - a) (omega arith) (omega arith) rival takes (omega arith) rest-same)
 
-module _ {M : ℕ} {tasks : List (List Share)} {rows : List (ℕ → ℕ)} (r : Rows M tasks rows) where
-  best-total-to : bestTotal M rows ≤ M
+module _ {M : ℕ} {tasks : List (List Share)} {offers : List (ℕ → ℕ)} (r : Offers M tasks offers) where
+  best-total-to : bestTotal M offers ≤ M
   unfolding bestTotal
-  best-total-to = omega (arith, least-to (leastTotal M rows) 0 M)
+  best-total-to = omega (arith, least-to (leastTotal M offers) 0 M)
 
-  best-total-least : (t : ℕ) → t ≤ M → leastTotal M rows (bestTotal M rows) ≤ leastTotal M rows t
+  best-total-least : (t : ℕ) → t ≤ M → leastTotal M offers (bestTotal M offers) ≤ leastTotal M offers t
   unfolding bestTotal
-  best-total-least t to = least-at-most (leastTotal M rows) 0 M t (omega arith) (omega arith)
+  best-total-least t to = least-at-most (leastTotal M offers) 0 M t (omega arith) (omega arith)
 
-  best-total-first : (t : ℕ) → t ≤ M → leastTotal M rows t ≤ leastTotal M rows (bestTotal M rows) → bestTotal M rows ≤ t
+  best-total-first : (t : ℕ) → t ≤ M → leastTotal M offers t ≤ leastTotal M offers (bestTotal M offers) → bestTotal M offers ≤ t
   unfolding bestTotal
-  best-total-first t to = least-first-at (leastTotal M rows) 0 M t (omega arith) (omega arith)
+  best-total-first t to = least-first-at (leastTotal M offers) 0 M t (omega arith) (omega arith)
 
   -- A choice that fits has its totals within M, and at least the least critical total.
   fitting-total : (choice : List Share) → List·Memᴰ choice (keep (fits M) (choices tasks)) →
@@ -219,51 +219,51 @@ module _ {M : ℕ} {tasks : List (List Share)} {rows : List (ℕ → ℕ)} (r : 
       )
 
   fitting-least : (choice : List Share) → List·Memᴰ choice (keep (fits M) (choices tasks)) →
-      leastTotal M rows (bestTotal M rows) ≤ criticalTotal choice
+      leastTotal M offers (bestTotal M offers) ≤ criticalTotal choice
   fitting-least choice m =
       let (takes, typical, critical) = fitting-total choice m in
       omega (arith, best-total-least (typicalTotal choice) typical, total-least r choice takes typical)
 
   -- Nothing fits where the least critical total exceeds M.
-  select-none : M < leastTotal M rows (bestTotal M rows) → keep (fits M) (choices tasks) ≡ []
+  select-none : M < leastTotal M offers (bestTotal M offers) → keep (fits M) (choices tasks) ≡ []
   select-none past =
       none-empty (keep (fits M) (choices tasks))
       (λ choice m. omega (arith, fitting-least choice m, fitting-total choice m .2))
 
-  module _ (within : leastTotal M rows (bestTotal M rows) ≤ M) where
-    select-fits : List·Memᴰ (sharesAt M rows (bestTotal M rows)) (keep (fits M) (choices tasks))
+  module _ (within : leastTotal M offers (bestTotal M offers) ≤ M) where
+    select-fits : List·Memᴰ (sharesAt M offers (bestTotal M offers)) (keep (fits M) (choices tasks))
     unfolding fits
     select-fits =
-        let sound = select-sound r (bestTotal M rows) best-total-to within in
-        let typical : typicalTotal (sharesAt M rows (bestTotal M rows)) ≤ M = rw (sound .typical) best-total-to in
-        let critical : criticalTotal (sharesAt M rows (bestTotal M rows)) ≤ M = rw (sound .critical) within in
-        keep-has (fits M) (choices tasks) (sharesAt M rows (bestTotal M rows)) (takes-choice tasks _ (sound .takes))
+        let sound = select-sound r (bestTotal M offers) best-total-to within in
+        let typical : typicalTotal (sharesAt M offers (bestTotal M offers)) ≤ M = rw (sound .typical) best-total-to in
+        let critical : criticalTotal (sharesAt M offers (bestTotal M offers)) ≤ M = rw (sound .critical) within in
+        keep-has (fits M) (choices tasks) (sharesAt M offers (bestTotal M offers)) (takes-choice tasks _ (sound .takes))
         (rw (le-leb _ M typical, le-leb _ M critical))
 
     select-no-later : (rival : List Share) → List·Memᴰ rival (keep (fits M) (choices tasks)) →
-        noLater (rank (sharesAt M rows (bestTotal M rows))) (rank rival) ≡ true
+        noLater (rank (sharesAt M offers (bestTotal M offers))) (rank rival) ≡ true
     select-no-later rival m =
         let (takes, typical, critical) = fitting-total rival m in
-        let sound = select-sound r (bestTotal M rows) best-total-to within in
+        let sound = select-sound r (bestTotal M offers) best-total-to within in
         let least = total-least r rival takes typical in
-        ranks-no-later (sharesAt M rows (bestTotal M rows)) rival
+        ranks-no-later (sharesAt M offers (bestTotal M offers)) rival
         (omega (arith, sound .critical, fitting-least rival m))
         (λ same.
         let first = best-total-first (typicalTotal rival) typical (omega (arith, sound .critical)) in
         omega (arith, sound .typical))
         (λ same-critical same-typical.
-        select-first r (bestTotal M rows) best-total-to within rival takes
+        select-first r (bestTotal M offers) best-total-to within rival takes
         (sym same-typical ∙ sound .typical) (sym same-critical ∙ sound .critical))
 
-    select-chosen : leastOf (keep (fits M) (choices tasks)) ≡ some (sharesAt M rows (bestTotal M rows))
+    select-chosen : leastOf (keep (fits M) (choices tasks)) ≡ some (sharesAt M offers (bestTotal M offers))
     select-chosen = least-is _ _ select-fits select-no-later
 
-  -- What the rows select is the least choice that fits.
-  pub select-least : leastOf (keep (fits M) (choices tasks)) ≡ selected M rows
+  -- What the offers select is the least choice that fits.
+  pub select-least : leastOf (keep (fits M) (choices tasks)) ≡ selected M offers
   unfolding selected
-  select-least = go (leb (leastTotal M rows (bestTotal M rows)) M) refl
+  select-least = go (leb (leastTotal M offers (bestTotal M offers)) M) refl
     where
-      go : (e : Bool) → leb (leastTotal M rows (bestTotal M rows)) M ≡ e →
-          leastOf (keep (fits M) (choices tasks)) ≡ cond e (some (sharesAt M rows (bestTotal M rows))) none
+      go : (e : Bool) → leb (leastTotal M offers (bestTotal M offers)) M ≡ e →
+          leastOf (keep (fits M) (choices tasks)) ≡ cond e (some (sharesAt M offers (bestTotal M offers))) none
       go true e = select-chosen (leb-true _ M e)
       go false e = ap leastOf (select-none (leb-false _ M e)) ∙ least-of-none

@@ -1,4 +1,4 @@
--- A lawful task set: its rows are rows of its tasks' options, so that what they select is what is chosen, and a row that offers
+-- A lawful task set: its offers are offers of its tasks' options, so that what they select is what is chosen, and an offer that offers
 -- nothing is a task without an option.
 use Prim.Native.Nat.{ℕ, zero, suc, _+_, _≤_, _<_}
 use mathlib.Core.Path.{_≡_, refl, sym, ap, _∙_, subst}
@@ -20,33 +20,33 @@ use Rattle.sheet.specs.Answers.{refusedIf, _orElse_, firstOver}
 use Rattle.sheet.specs.Format.{taskIn, missingTask}
 use Rattle.basics.proofs.Cells.{cells-length}
 use Rattle.shares.specs.declared.share.Share.{Share}
-use Rattle.shares.specs.Row.{tabulate, criticalAt, rowOf}
+use Rattle.shares.specs.Offer.{tabulate, criticalAt, offerOf}
 use Rattle.shares.proofs.Levels.{critical-within}
-use Rattle.shares.proofs.Rows.{row-at}
+use Rattle.shares.proofs.Offers.{offer-at}
 use Rattle.allocation.specs.declared.choice.Chosen.{Chosen}
 use Rattle.allocation.specs.Choice.{optionsOf, choices, fits, leastOf, fitting, chosen}
 use Rattle.shares.specs.Totals.{noProcessors}
 use Rattle.allocation.specs.Allocation.{noShare, tasksOf, chosenFor, shareAnswer, choiceAnswer, choiceOf}
 use Rattle.allocation.specs.Lawful.{LawfulTask, LawfulSet}
-use Rattle.allocation.specs.means.Selection.{cellAt, offered, selected, zeroRow, missingRow, rowsOf, offersNone, rowAnswer, rowsUpTo, selectionOf}
+use Rattle.allocation.specs.means.Selection.{cellAt, offered, selected, zeroOffer, missingOffer, offersOf, offersNone, offerAnswer, offersUpTo, selectionOf}
 use Rattle.basics.proofs.Members.{keep-from, all-member, all-members, none-empty, empty-none}
 use Rattle.allocation.proofs.Ranks.{least-of-none}
-use Rattle.allocation.proofs.Optimal.{RowOf, Rows, no-row, row-and, Takes, choice-takes, select-least}
-use Rattle.allocation.proofs.Offers.{row-of, row-agrees}
+use Rattle.allocation.proofs.Optimal.{OfferOf, Offers, no-offer, offer-and, Takes, choice-takes, select-least}
+use Rattle.allocation.proofs.Options.{offer-of, offer-agrees}
 use Rattle.allocation.proofs.Cells.{tabulate-from, tabulate-has}
-use Rattle.allocation.proofs.Lines.{cells-at, rows-open, rows-length, sixteen-none}
+use Rattle.allocation.proofs.Lines.{cells-at, offers-open, offers-length, sixteen-none}
 
--- The row of a lawful task, as 64 numbers.
+-- The offer of a lawful task, as 64 numbers.
 module _ (M : ℕ) (t : Task) (small : M ≤ 64) (lawful : LawfulTask t) where
-  cell-is : (a : ℕ) → 1 ≤ a → a ≤ M → cellAt (rowOf M t) a ≡ criticalAt M t a
+  cell-is : (a : ℕ) → 1 ≤ a → a ≤ M → cellAt (offerOf M t) a ≡ criticalAt M t a
   unfolding cellAt
-  cell-is a from to = row-at M t a from (omega arith)
+  cell-is a from to = offer-at M t a from (omega arith)
 
-  pub row-rows : RowOf M (optionsOf M t) (cellAt (rowOf M t))
-  row-rows = row-agrees M (optionsOf M t) (criticalAt M t) (cellAt (rowOf M t)) cell-is (row-of M t lawful)
+  pub offer-offers : OfferOf M (optionsOf M t) (cellAt (offerOf M t))
+  offer-offers = offer-agrees M (optionsOf M t) (criticalAt M t) (cellAt (offerOf M t)) cell-is (offer-of M t lawful)
 
-  offers-nothing : optionsOf M t ≡ [] → offersNone M (rowOf M t) ≡ true
-  unfolding offersNone rowOf
+  offers-nothing : optionsOf M t ≡ [] → offersNone M (offerOf M t) ≡ true
+  unfolding offersNone offerOf
   offers-nothing e =
       all-members _ (tabulate (criticalAt M t) 1 64)
       (λ b m.
@@ -58,22 +58,22 @@ module _ (M : ℕ) (t : Task) (small : M ≤ 64) (lawful : LawfulTask t) where
       past a from b same (yes within) =
           let few : criticalAt M t a ≤ M = rw (← same) within in
           absurd (List·Memᴰ·not-nil (subst (λ (o : List Share). List·Memᴰ (offered (criticalAt M t) a) o) e
-          (row-of M t lawful .offers a from (critical-within M t a few) few)))
+          (offer-of M t lawful .offers a from (critical-within M t a few) few)))
 
-  offers-something : (s : Share) → List·Memᴰ s (optionsOf M t) → offersNone M (rowOf M t) ≡ true → ⊥
-  unfolding offersNone rowOf
+  offers-something : (s : Share) → List·Memᴰ s (optionsOf M t) → offersNone M (offerOf M t) ≡ true → ⊥
+  unfolding offersNone offerOf
   offers-something s m e =
-      let row = row-of M t lawful in
-      let to = row .within s m in
-      let there = tabulate-has (criticalAt M t) 1 64 (s .typical) (row .positive s m) (omega arith) in
+      let offer = offer-of M t lawful in
+      let to = offer .within s m in
+      let there = tabulate-has (criticalAt M t) 1 64 (s .typical) (offer .positive s m) (omega arith) in
       let past = ltb-true M _ (all-member _ (tabulate (criticalAt M t) 1 64) _ e there) in
-      omega (arith, row .least s m, row .small s m)
+      omega (arith, offer .least s m, offer .small s m)
 
-  -- The row offers nothing just where the task has no option.
-  pub offers-empty : offersNone M (rowOf M t) ≡ isEmpty (optionsOf M t)
-  offers-empty = go (optionsOf M t) refl (offersNone M (rowOf M t)) refl
+  -- The offer offers nothing just where the task has no option.
+  pub offers-empty : offersNone M (offerOf M t) ≡ isEmpty (optionsOf M t)
+  offers-empty = go (optionsOf M t) refl (offersNone M (offerOf M t)) refl
     where
-      go : (options : List Share) → optionsOf M t ≡ options → (b : Bool) → offersNone M (rowOf M t) ≡ b → b ≡ isEmpty options
+      go : (options : List Share) → optionsOf M t ≡ options → (b : Bool) → offersNone M (offerOf M t) ≡ b → b ≡ isEmpty options
       go [] e true h = refl
       go [] e false h = absurd (false≢true (sym h ∙ offers-nothing e))
       go (s ∷ rest) e true h =
@@ -89,22 +89,22 @@ over-same f g first (suc count) same =
     rw (same first (omega arith) (omega arith), over-same f g (suc first) count (λ i from to. same i (omega arith) (omega arith)))
 
 -- A refusal over the tasks is that of the first task that is refused.
-pub over-first : (row : ℕ → Answer) (first count number task : ℕ) → firstOver row first count ≡ Refused number task →
-    (i : ℕ) × ((i < first + count) × (row i ≡ Refused number task) × ((j : ℕ) → first ≤ j → j < i → row j ≡ Accepted))
+pub over-first : (offer : ℕ → Answer) (first count number task : ℕ) → firstOver offer first count ≡ Refused number task →
+    (i : ℕ) × ((i < first + count) × (offer i ≡ Refused number task) × ((j : ℕ) → first ≤ j → j < i → offer j ≡ Accepted))
 unfolding firstOver
-over-first row first zero number task e = absurd (let z : _≡_ {A = ℕ} 0 1 = cc in omega arith)
-over-first row first (suc count) number task e = go (row first) refl (over-first row (suc first) count number task) e
+over-first offer first zero number task e = absurd (let z : _≡_ {A = ℕ} 0 1 = cc in omega arith)
+over-first offer first (suc count) number task e = go (offer first) refl (over-first offer (suc first) count number task) e
   where
-    earlier : (i : ℕ) → row first ≡ Accepted → ((j : ℕ) → suc first ≤ j → j < i → row j ≡ Accepted) → (j : ℕ) → first ≤ j → j < i →
-        Dec (first < j) → row j ≡ Accepted
+    earlier : (i : ℕ) → offer first ≡ Accepted → ((j : ℕ) → suc first ≤ j → j < i → offer j ≡ Accepted) → (j : ℕ) → first ≤ j → j < i →
+        Dec (first < j) → offer j ≡ Accepted
     earlier i q rest j from before (yes later) = rest j later before
-    earlier i q rest j from before (no not-later) = let same : j ≡ first = omega arith in ap row same ∙ q
+    earlier i q rest j from before (no not-later) = let same : j ≡ first = omega arith in ap offer same ∙ q
 
-    go : (a : Answer) → row first ≡ a →
-        (firstOver row (suc first) count ≡ Refused number task →
-        (i : ℕ) × ((i < suc first + count) × (row i ≡ Refused number task) × ((j : ℕ) → suc first ≤ j → j < i → row j ≡ Accepted))) →
-        (a orElse firstOver row (suc first) count) ≡ Refused number task →
-        (i : ℕ) × ((i < first + suc count) × (row i ≡ Refused number task) × ((j : ℕ) → first ≤ j → j < i → row j ≡ Accepted))
+    go : (a : Answer) → offer first ≡ a →
+        (firstOver offer (suc first) count ≡ Refused number task →
+        (i : ℕ) × ((i < suc first + count) × (offer i ≡ Refused number task) × ((j : ℕ) → suc first ≤ j → j < i → offer j ≡ Accepted))) →
+        (a orElse firstOver offer (suc first) count) ≡ Refused number task →
+        (i : ℕ) × ((i < first + suc count) × (offer i ≡ Refused number task) × ((j : ℕ) → first ≤ j → j < i → offer j ≡ Accepted))
     go Accepted q rest h =
         let found = rest h in
         let to = found .1 .0 in
@@ -140,56 +140,56 @@ module _ (set : TaskSet) (lawful : LawfulSet set) where
   there : set .count ≤ length (set .tasks)
   there = let long = lawful .all-there in let few = lawful .few-tasks in omega arith
 
-  pub rows-there : set .count ≤ length (rowsOf set)
-  unfolding rowsOf
-  rows-there =
+  pub offers-there : set .count ≤ length (offersOf set)
+  unfolding offersOf
+  offers-there =
       let few = lawful .few-tasks in
-      let long : length (rowsOf set) ≡ 16 = cells-length (λ i. rowOf (set .processors) (taskIn set i)) zeroRow 0 16 (set .count) in
+      let long : length (offersOf set) ≡ 16 = cells-length (λ i. offerOf (set .processors) (taskIn set i)) zeroOffer 0 16 (set .count) in
       omega arith
 
-  -- The row of task i.
-  pub rows-at : (i : ℕ) → i < set .count → getD (rowsOf set) i missingRow ≡ rowOf (set .processors) (taskIn set i)
-  unfolding rowsOf
-  rows-at i inside =
+  -- The offer of task i.
+  pub offers-at : (i : ℕ) → i < set .count → getD (offersOf set) i missingOffer ≡ offerOf (set .processors) (taskIn set i)
+  unfolding offersOf
+  offers-at i inside =
       let few = lawful .few-tasks in
-      cells-at (λ j. rowOf (set .processors) (taskIn set j)) zeroRow 16 (set .count) i missingRow (omega arith) inside
+      cells-at (λ j. offerOf (set .processors) (taskIn set j)) zeroOffer 16 (set .count) i missingOffer (omega arith) inside
 
-  row-at-task : (i : ℕ) → i < set .count →
-      RowOf (set .processors) (optionsOf (set .processors) (taskIn set i)) (cellAt (getD (rowsOf set) i missingRow))
-  row-at-task i inside =
-      rw (rows-at i inside) (row-rows (set .processors) (taskIn set i) (lawful .few-processors) (lawful .lawful i inside))
+  offer-at-task : (i : ℕ) → i < set .count →
+      OfferOf (set .processors) (optionsOf (set .processors) (taskIn set i)) (cellAt (getD (offersOf set) i missingOffer))
+  offer-at-task i inside =
+      rw (offers-at i inside) (offer-offers (set .processors) (taskIn set i) (lawful .few-processors) (lawful .lawful i inside))
 
-  -- The rows of the last tasks, one task after the other.
-  rows-from : (count i : ℕ) → i + count ≡ set .count →
-      Rows (set .processors) (map (optionsOf (set .processors)) (take count (drop i (set .tasks)))) (drop i (rowsUpTo (set .count) (rowsOf set)))
+  -- The offers of the last tasks, one task after the other.
+  offers-from : (count i : ℕ) → i + count ≡ set .count →
+      Offers (set .processors) (map (optionsOf (set .processors)) (take count (drop i (set .tasks)))) (drop i (offersUpTo (set .count) (offersOf set)))
   unfolding taskIn
-  rows-from zero i e =
-      let past : length (rowsUpTo (set .count) (rowsOf set)) ≤ i = omega (arith, rows-length (set .count) (rowsOf set) rows-there) in
-      rw (drop-of-length-le (rowsUpTo (set .count) (rowsOf set)) past) no-row
-  rows-from (suc count) i e =
+  offers-from zero i e =
+      let past : length (offersUpTo (set .count) (offersOf set)) ≤ i = omega (arith, offers-length (set .count) (offersOf set) offers-there) in
+      rw (drop-of-length-le (offersUpTo (set .count) (offersOf set)) past) no-offer
+  offers-from (suc count) i e =
       let inside : i < length (set .tasks) = omega (arith, there) in
-      let later = rows-from count (i + 1) (omega arith) in
-      rw (drop-cons (set .tasks) i missingTask inside, rows-open (set .count) (rowsOf set) rows-there i (omega arith))
-      (row-and (row-at-task i (omega arith))
-      (subst (λ (j : ℕ). Rows (set .processors) (map (optionsOf (set .processors)) (take count (drop j (set .tasks)))) (drop (i + 1) (rowsUpTo (set .count) (rowsOf set)))) (add-one i) later))
+      let later = offers-from count (i + 1) (omega arith) in
+      rw (drop-cons (set .tasks) i missingTask inside, offers-open (set .count) (offersOf set) offers-there i (omega arith))
+      (offer-and (offer-at-task i (omega arith))
+      (subst (λ (j : ℕ). Offers (set .processors) (map (optionsOf (set .processors)) (take count (drop j (set .tasks)))) (drop (i + 1) (offersUpTo (set .count) (offersOf set)))) (add-one i) later))
 
-  set-rows : Rows (set .processors) (map (optionsOf (set .processors)) (tasksOf set)) (rowsUpTo (set .count) (rowsOf set))
-  set-rows = rows-from (set .count) 0 (omega arith)
+  set-offers : Offers (set .processors) (map (optionsOf (set .processors)) (tasksOf set)) (offersUpTo (set .count) (offersOf set))
+  set-offers = offers-from (set .count) 0 (omega arith)
 
-  -- What the rows select is what is chosen.
-  pub selected-chosen : chosenFor set ≡ selected (set .processors) (rowsUpTo (set .count) (rowsOf set))
+  -- What the offers select is what is chosen.
+  pub selected-chosen : chosenFor set ≡ selected (set .processors) (offersUpTo (set .count) (offersOf set))
   unfolding chosenFor chosen fitting
-  selected-chosen = select-least set-rows
+  selected-chosen = select-least set-offers
 
-  -- Refusal 7 by the rows and by the options.
-  answer-same : (i : ℕ) → i < set .count → rowAnswer (set .processors) (rowsOf set) i ≡ shareAnswer set i
-  unfolding rowAnswer shareAnswer
+  -- Refusal 7 by the offers and by the options.
+  answer-same : (i : ℕ) → i < set .count → offerAnswer (set .processors) (offersOf set) i ≡ shareAnswer set i
+  unfolding offerAnswer shareAnswer
   answer-same i inside =
       ap (λ (t : Bool). refusedIf t noShare i)
-      (ap (λ (row : List ℕ). offersNone (set .processors) row) (rows-at i inside)
+      (ap (λ (offer : List ℕ). offersNone (set .processors) offer) (offers-at i inside)
       ∙ offers-empty (set .processors) (taskIn set i) (lawful .few-processors) (lawful .lawful i inside))
 
-  pub answers-same : firstOver (rowAnswer (set .processors) (rowsOf set)) 0 (set .count) ≡ firstOver (shareAnswer set) 0 (set .count)
+  pub answers-same : firstOver (offerAnswer (set .processors) (offersOf set)) 0 (set .count) ≡ firstOver (shareAnswer set) 0 (set .count)
   answers-same = over-same _ _ 0 (set .count) (λ i from to. answer-same i (omega arith))
 
   -- An option of each task, in a choice that fits.
@@ -220,20 +220,20 @@ module _ (set : TaskSet) (lawful : LawfulSet set) where
       empty-none _ _ (share-refused set (found .0) number task (found .1 .1) .0) (fitting-option choice m (found .0) (omega arith))))
       ∙ least-of-none
 
-  -- The answers of `choose`, by the rows.
-  module _ (rows : List (List ℕ)) (of-set : rows ≡ rowsOf set) where
-    answers-are : firstOver (shareAnswer set) 0 (set .count) ≡ firstOver (rowAnswer (set .processors) rows) 0 (set .count)
+  -- The answers of `choose`, by the offers.
+  module _ (offers : List (List ℕ)) (of-set : offers ≡ offersOf set) where
+    answers-are : firstOver (shareAnswer set) 0 (set .count) ≡ firstOver (offerAnswer (set .processors) offers) 0 (set .count)
     answers-are = rw of-set (sym answers-same)
 
-    pub choice-refused : (number task : ℕ) → firstOver (rowAnswer (set .processors) rows) 0 (set .count) ≡ Refused number task →
+    pub choice-refused : (number task : ℕ) → firstOver (offerAnswer (set .processors) offers) 0 (set .count) ≡ Refused number task →
         record { answer = Refused number task; shares = replicate 16 noProcessors } ≡ choiceOf set
     unfolding choiceOf choiceAnswer
     choice-refused number task refused =
         let here = answers-are ∙ refused in
         rw (here, refused-none number task here, sixteen-none)
 
-    pub choice-selected : (chosen-shares : Chosen) → firstOver (rowAnswer (set .processors) rows) 0 (set .count) ≡ Accepted →
-        chosen-shares ≡ selectionOf (set .processors) (rowsUpTo (set .count) rows) → chosen-shares ≡ choiceOf set
+    pub choice-selected : (chosen-shares : Chosen) → firstOver (offerAnswer (set .processors) offers) 0 (set .count) ≡ Accepted →
+        chosen-shares ≡ selectionOf (set .processors) (offersUpTo (set .count) offers) → chosen-shares ≡ choiceOf set
     unfolding choiceOf choiceAnswer selectionOf
     choice-selected chosen-shares accepted same =
         let here = answers-are ∙ accepted in

@@ -26,7 +26,7 @@ use Rattle.allocation.specs.Verdict.{CanTake, Verdict, no-share, no-fit,
 use Rattle.allocation.proofs.Accepted.{over-accepted}
 use Rattle.basics.proofs.Members.{empty-none}
 use Rattle.allocation.proofs.Optimal.{Takes, takes-choice, choice-takes}
-use Rattle.allocation.proofs.Offers.{option-may, may-option}
+use Rattle.allocation.proofs.Options.{option-may, may-option}
 use Rattle.allocation.proofs.Sets.{takes-at, takes-length, over-first, share-refused}
 use Rattle.allocation.proofs.Laws.{chosen-choice, chosen-fits, chosen-first, chosen-before, chosen-none, none-chosen}
 

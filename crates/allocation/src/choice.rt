@@ -3,8 +3,8 @@ ghost use mathlib.Core.Path.{_≡_};
 ghost use Rattle.sheet.specs.Answers.{numberOf, taskOf, Says};
 ghost use Rattle.allocation.specs.Lawful.{LawfulSet};
 ghost use Rattle.allocation.specs.Allocation.{choiceOf};
-use crate::rows::offers_none;
-use crate::rows::put_rows;
+use crate::offers::offers_none;
+use crate::offers::put_offers;
 use crate::selection::select;
 use shares::share::Share;
 use sheet::answer::Answer;
@@ -26,11 +26,11 @@ pub fn choose(set: TaskSet) -> Chosen
 {
     let n = set.count;
     let m = set.processors;
-    let mut rows = [[0u8; 64]; 16];
-    put_rows(set, &mut rows);
+    let mut offers = [[0u8; 64]; 16];
+    put_offers(set, &mut offers);
     let mut i: u8 = 0;
     while i < n {
-        let cells = rows[i as usize];
+        let cells = offers[i as usize];
         if offers_none(cells, m) {
             return Chosen {
                 answer: Answer::Refused(NO_SHARE, i),
@@ -42,5 +42,5 @@ pub fn choose(set: TaskSet) -> Chosen
         }
         i += 1;
     }
-    select(&rows, n, m)
+    select(&offers, n, m)
 }

@@ -3,8 +3,8 @@ ghost use mathlib.Core.Path.{_≡_};
 ghost use mathlib.Core.List.{[]};
 ghost use Prim.Native.Nat.{_+_, _≤_, min};
 ghost use lib.ListN.{length};
-ghost use Rattle.shares.specs.Row.{tabulate};
-ghost use Rattle.allocation.specs.means.Selection.{cellAt, entryAt, leastFrom, bestShare, sumAt, totalWith, totalsOf, rowsUpTo, lastTotals, selectionOf};
+ghost use Rattle.shares.specs.Offer.{tabulate};
+ghost use Rattle.allocation.specs.means.Selection.{cellAt, entryAt, leastFrom, bestShare, sumAt, totalWith, totalsOf, offersUpTo, lastTotals, selectionOf};
 use crate::choice::Chosen;
 use shares::share::Share;
 use sheet::answer::Answer;
@@ -30,18 +30,18 @@ fn sum(x: u8, y: u8) -> u16
 }
 
 // The first share of a task from 1 to t at which its critical share and the rest's total come to the least.
-fn best_share(row: &[u8; 64], rest: &[u8; 65], t: u8) -> Best
+fn best_share(offer: &[u8; 64], rest: &[u8; 65], t: u8) -> Best
     requires { ⌜ (1 ≤ t) × (t ≤ 64) ⌝ }
-    ensures share { λ r. ⌜ r .share ≡ bestShare (cellAt (now (row .entry))) (entryAt (now (rest .entry))) t ⌝ }
-    ensures total { λ r. ⌜ r .sum ≡ sumAt (cellAt (now (row .entry))) (entryAt (now (rest .entry))) t (r .share) ⌝ }
+    ensures share { λ r. ⌜ r .share ≡ bestShare (cellAt (now (offer .entry))) (entryAt (now (rest .entry))) t ⌝ }
+    ensures total { λ r. ⌜ r .sum ≡ sumAt (cellAt (now (offer .entry))) (entryAt (now (rest .entry))) t (r .share) ⌝ }
 {
     let end = t as usize;
     let mut best: usize = 1;
-    let mut least = sum(row[0], rest[end - 1]);
+    let mut least = sum(offer[0], rest[end - 1]);
     let mut a: usize = 1;
     while a < end {
         a += 1;
-        let next = sum(row[a - 1], rest[end - a]);
+        let next = sum(offer[a - 1], rest[end - a]);
         if next < least {
             best = a;
             least = next;
@@ -62,14 +62,14 @@ fn capped(x: u16, m: u8) -> u8
 }
 
 // The totals of a task and of the tasks after it, which have the totals rest.
-fn totals_with(row: [u8; 64], rest: [u8; 65], m: u8) -> [u8; 65]
+fn totals_with(offer: [u8; 64], rest: [u8; 65], m: u8) -> [u8; 65]
     requires { ⌜ m ≤ 64 ⌝ }
-    ensures { λ r. ⌜ r ≡ tabulate (totalWith m (cellAt row) (entryAt rest)) 0 65 ⌝ }
+    ensures { λ r. ⌜ r ≡ tabulate (totalWith m (cellAt offer) (entryAt rest)) 0 65 ⌝ }
 {
     let mut totals = [m + 1; 65];
     let mut t: u8 = 1;
     while t <= m {
-        let best = best_share(&row, &rest, t);
+        let best = best_share(&offer, &rest, t);
         totals[t as usize] = capped(best.sum, m);
         t += 1;
     }
@@ -86,9 +86,9 @@ fn no_totals(m: u8) -> [u8; 65]
 }
 
 // The totals of the last k of n tasks, for each k.
-fn last_totals(rows: &[[u8; 64]; 16], n: u8, m: u8) -> [Totals; 17]
-    requires { ⌜ (n ≤ 16) × (m ≤ 64) × (n ≤ length (now rows)) ⌝ }
-    ensures { λ r. ⌜ r ≡ lastTotals m (rowsUpTo n (now (rows .entry))) n ⌝ }
+fn last_totals(offers: &[[u8; 64]; 16], n: u8, m: u8) -> [Totals; 17]
+    requires { ⌜ (n ≤ 16) × (m ≤ 64) × (n ≤ length (now offers)) ⌝ }
+    ensures { λ r. ⌜ r ≡ lastTotals m (offersUpTo n (now (offers .entry))) n ⌝ }
 {
     let count = n as usize;
     let mut all = [Totals {
@@ -96,11 +96,11 @@ fn last_totals(rows: &[[u8; 64]; 16], n: u8, m: u8) -> [Totals; 17]
     }; 17];
     let mut k: usize = 0;
     while k < count {
-        let row = rows[count - 1 - k];
+        let offer = offers[count - 1 - k];
         let rest = all[k];
         let rest_cells = rest.cells;
         all[k + 1] = Totals {
-            cells: totals_with(row, rest_cells, m),
+            cells: totals_with(offer, rest_cells, m),
         };
         k += 1;
     }
@@ -123,13 +123,13 @@ fn first_least(totals: [u8; 65], m: u8) -> u8
     best
 }
 
-// Refusal 8 and the shares of n tasks with these rows.
-pub fn select(rows: &[[u8; 64]; 16], n: u8, m: u8) -> Chosen
-    requires { ⌜ (n ≤ 16) × (m ≤ 64) × (n ≤ length (now rows)) ⌝ }
-    ensures { λ r. ⌜ r ≡ selectionOf m (rowsUpTo n (now (rows .entry))) ⌝ }
+// Refusal 8 and the shares of n tasks with these offers.
+pub fn select(offers: &[[u8; 64]; 16], n: u8, m: u8) -> Chosen
+    requires { ⌜ (n ≤ 16) × (m ≤ 64) × (n ≤ length (now offers)) ⌝ }
+    ensures { λ r. ⌜ r ≡ selectionOf m (offersUpTo n (now (offers .entry))) ⌝ }
 {
     let count = n as usize;
-    let all = last_totals(rows, n, m);
+    let all = last_totals(offers, n, m);
     let whole = all[count];
     let totals = whole.cells;
     let mut left = first_least(totals, m);
@@ -145,14 +145,14 @@ pub fn select(rows: &[[u8; 64]; 16], n: u8, m: u8) -> Chosen
     }
     let mut i: usize = 0;
     while i < count {
-        let row = rows[i];
+        let offer = offers[i];
         let rest = all[count - 1 - i];
         let rest_cells = rest.cells;
-        let best = best_share(&row, &rest_cells, left);
+        let best = best_share(&offer, &rest_cells, left);
         let a = best.share;
         shares[i] = Share {
             typical: a,
-            critical: row[a as usize - 1],
+            critical: offer[a as usize - 1],
         };
         left -= a;
         i += 1;

@@ -1,4 +1,4 @@
--- What a task's level makes of its shares: a low task's one share, and the row's numbers at either level.
+-- What a task's level makes of its shares: a low task's one share, and the offer's numbers at either level.
 use Prim.Native.Nat.{ℕ, _+_, _-_, _≤_, _<_}
 use mathlib.Core.Path.{_≡_, refl, sym, ap, _∙_, fun-ext}
 use mathlib.Core.Bool.{Bool, true, false, cond, _&&_, false≢true}
@@ -13,9 +13,9 @@ use Rattle.shares.specs.declared.search.Found.the-variants.{At, Nothing}
 use Rattle.sheet.specs.Level.{isLow}
 use Rattle.shares.specs.Low.{lowShare, hasLowShare, lowAnswer}
 use Rattle.shares.specs.Search.{leastCritical}
-use Rattle.shares.specs.Row.{lowCritical, criticalAt, tabulate, rowOf}
+use Rattle.shares.specs.Offer.{lowCritical, criticalAt, tabulate, offerOf}
 use Rattle.shares.proofs.Least.{least-from}
-use Rattle.shares.proofs.Rows.{tabulated}
+use Rattle.shares.proofs.Offers.{tabulated}
 
 -- Both halves of a test that holds.
 both : (p q : Bool) → p && q ≡ true → (p ≡ true) × (q ≡ true)
@@ -78,17 +78,17 @@ module _ (M : ℕ) (f : Figures) where
       go true has e = absurd (let z : _≡_ {A = ℕ} 0 1 = cc in omega arith)
       go false has e = has
 
-  -- The row of a low task with no share in a cell.
-  pub low-row-none : (n : ℕ) → ((a : ℕ) → 1 ≤ a → lowCritical M f a ≡ M + 1) →
+  -- The offer of a low task with no share in a cell.
+  pub low-offer-none : (n : ℕ) → ((a : ℕ) → 1 ≤ a → lowCritical M f a ≡ M + 1) →
       replicate n (M + 1) ≡ tabulate (lowCritical M f) 1 n
-  low-row-none n none =
+  low-offer-none n none =
       tabulated (lowCritical M f) _ 1 n (length-replicate n (M + 1))
       (λ i h. getD-replicate n i (M + 1) 0 h ∙ sym (none (1 + i) (omega arith)))
 
-  -- The row of a low task with its share in cell s − 1.
-  pub low-row-at : (n s : ℕ) → hasLowShare M f ≡ true → lowShare f ≡ s → 1 ≤ s → s ≤ n →
+  -- The offer of a low task with its share in cell s − 1.
+  pub low-offer-at : (n s : ℕ) → hasLowShare M f ≡ true → lowShare f ≡ s → 1 ≤ s → s ≤ n →
       set (replicate n (M + 1)) (s - 1) 0 ≡ tabulate (lowCritical M f) 1 n
-  low-row-at n s has own one within =
+  low-offer-at n s has own one within =
       tabulated (lowCritical M f) _ 1 n (length-set (replicate n (M + 1)) (s - 1) 0 ∙ length-replicate n (M + 1))
       (λ i h. cell i h (eqb (1 + i) s) refl)
     where
@@ -126,10 +126,10 @@ module _ (M : ℕ) (t : Task) where
           omega (arith, own .1, has-within M (t .figures) (own .0))
       go false within = omega (arith, least-from M (t .figures) a within)
 
-  pub row-low : isLow (t .level) ≡ true → rowOf M t ≡ tabulate (lowCritical M (t .figures)) 1 64
-  unfolding rowOf
-  row-low low = ap (λ (g : ℕ → ℕ). tabulate g 1 64) (fun-ext (critical-low low))
+  pub offer-low : isLow (t .level) ≡ true → offerOf M t ≡ tabulate (lowCritical M (t .figures)) 1 64
+  unfolding offerOf
+  offer-low low = ap (λ (g : ℕ → ℕ). tabulate g 1 64) (fun-ext (critical-low low))
 
-  pub row-high : isLow (t .level) ≡ false → rowOf M t ≡ tabulate (leastCritical M (t .figures)) 1 64
-  unfolding rowOf
-  row-high high = ap (λ (g : ℕ → ℕ). tabulate g 1 64) (fun-ext (critical-high high))
+  pub offer-high : isLow (t .level) ≡ false → offerOf M t ≡ tabulate (leastCritical M (t .figures)) 1 64
+  unfolding offerOf
+  offer-high high = ap (λ (g : ℕ → ℕ). tabulate g 1 64) (fun-ext (critical-high high))

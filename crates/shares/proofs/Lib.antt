@@ -6,5 +6,5 @@ pub mod Ends
 pub mod Least
 pub mod Words
 pub mod Walk
-pub mod Rows
+pub mod Offers
 pub mod Levels

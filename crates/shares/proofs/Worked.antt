@@ -1,4 +1,4 @@
--- Worked facts by computation: searches, rows and low shares of the tasks of the cases, and what stands for none.
+-- Worked facts by computation: searches, offers and low shares of the tasks of the cases, and what stands for none.
 use Prim.Native.Nat.{ℕ}
 use mathlib.Core.Path.{_≡_, refl}
 use mathlib.Core.Bool.{false}
@@ -9,7 +9,7 @@ use Rattle.shares.specs.Test.{excess, demand, passes, virtualDeadline}
 use Rattle.sheet.specs.Level.{isLow, isHigh}
 use Rattle.shares.specs.Low.{ceilDiv, lowShare, hasLowShare}
 use Rattle.shares.specs.Search.{first, leastCritical}
-use Rattle.shares.specs.Row.{lowCritical, criticalAt, tabulate}
+use Rattle.shares.specs.Offer.{lowCritical, criticalAt, tabulate}
 use Rattle.shares.specs.Deadline.{virtualOf}
 use Rattle.shares.specs.Cases.{figures, taskA, taskB, lowTask}
 
@@ -27,11 +27,11 @@ pub record Worked : Type 0 where
   pub last : leastCritical 6 taskB 2 ≡ 6
   pub none : leastCritical 5 taskB 2 ≡ 6
   pub none-at-all : leastCritical 1 taskA 1 ≡ 2
-  -- S4.4: the row of A on 3 processors, and of a low task with the share 2; the first four numbers.
-  pub high-row : tabulate (criticalAt 3 (ofLevel 1 taskA)) 1 4 ≡ 2 ∷ 2 ∷ 3 ∷ 4 ∷ []
-  pub low-row : tabulate (criticalAt 3 (ofLevel 0 (lowTask 30))) 1 4 ≡ 4 ∷ 0 ∷ 4 ∷ 4 ∷ []
+  -- S4.4: the offer of A on 3 processors, and of a low task with the share 2; the first four numbers.
+  pub high-offer : tabulate (criticalAt 3 (ofLevel 1 taskA)) 1 4 ≡ 2 ∷ 2 ∷ 3 ∷ 4 ∷ []
+  pub low-offer : tabulate (criticalAt 3 (ofLevel 0 (lowTask 30))) 1 4 ≡ 4 ∷ 0 ∷ 4 ∷ 4 ∷ []
   -- S4.1: a share above M is none, and so is that of a task whose span is its deadline.
-  pub low-row-none : tabulate (criticalAt 1 (ofLevel 0 (lowTask 30))) 1 4 ≡ 2 ∷ 2 ∷ 2 ∷ 2 ∷ []
+  pub low-offer-none : tabulate (criticalAt 1 (ofLevel 0 (lowTask 30))) 1 4 ≡ 2 ∷ 2 ∷ 2 ∷ 2 ∷ []
   pub no-slack : hasLowShare 64 (figures 6 30 6 30 6) ≡ false
   -- S4.5: V of a high task and of a low one.
   pub high-virtual : virtualOf (ofLevel 1 taskB) 3 ≡ 6
@@ -47,9 +47,9 @@ worked =
       last = refl;
       none = refl;
       none-at-all = refl;
-      high-row = refl;
-      low-row = refl;
-      low-row-none = refl;
+      high-offer = refl;
+      low-offer = refl;
+      low-offer-none = refl;
       no-slack = refl;
       high-virtual = refl;
       low-virtual = refl;

@@ -1,10 +1,10 @@
 -- What a reader must believe, in reading order: the pair test and the virtual deadline, a low task's share, the search for the least
--- critical share, a task's row, the virtual deadline at either level, the worked cases, and sums of shares. Then, in `means`, what
+-- critical share, a task's offer, the virtual deadline at either level, the worked cases, and sums of shares. Then, in `means`, what
 -- only proofs and inner functions need.
 pub mod Test
 pub mod Low
 pub mod Search
-pub mod Row
+pub mod Offer
 pub mod Deadline
 pub mod Cases
 pub mod Totals

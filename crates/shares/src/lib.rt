@@ -2,7 +2,7 @@
 pub mod deadline;
 mod low;
 mod number;
-pub mod row;
+pub mod offer;
 mod search;
 pub mod share;
 mod test;

@@ -30,7 +30,7 @@ pub fn least_critical(f: Figures, m: u8, a: u8) -> Found
     }
 }
 
-// S4.4: the number that stands for an answer in a row: m + 1 for none.
+// S4.4: the number that stands for an answer in an offer: m + 1 for none.
 pub fn number_of(r: Found, m: u8) -> u8
     requires { ⌜ m ≤ 64 ⌝ }
     ensures { λ n. ⌜ n ≡ numberOf m r ⌝ }

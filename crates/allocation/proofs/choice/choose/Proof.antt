@@ -1,4 +1,4 @@
--- `choice::choose` meets its contract: refusal 7 by the rows, then what the rows select. The loop's invariant: refusal 7 over
+-- `choice::choose` meets its contract: refusal 7 by the offers, then what the offers select. The loop's invariant: refusal 7 over
 -- the tasks left is refusal 7 over all tasks. The measure is the tasks left.
 use Prim.Native.Nat.{_-_, _≤_}
 use mathlib.Core.Path.{_≡_, sym, ap, _∙_}
@@ -10,24 +10,24 @@ use Rattle.sheet.proofs.Faults.{over-next, over-stop, over-end, over-all}
 use Rattle.sheet.proofs.Said.{with-said}
 use Rattle.allocation.specs.declared.choice.Chosen.{Chosen}
 use Rattle.allocation.specs.Allocation.{noShare}
-use Rattle.allocation.specs.means.Selection.{rowAnswer}
-use Rattle.allocation.proofs.Sets.{rows-there, choice-refused, choice-selected}
+use Rattle.allocation.specs.means.Selection.{offerAnswer}
+use Rattle.allocation.proofs.Sets.{offers-there, choice-refused, choice-selected}
 use Rattle.allocation.proofs.choice.choose.Statement.{statement}
 use Rattle.allocation.proofs.choice.choose.Tie as tie
 
 abbrev Inv-loop : tie.InvT-loop
-Inv-loop n m rows i₀ i = (i ≤ n) × (firstOver (rowAnswer m rows) i (n - i) ≡ firstOver (rowAnswer m rows) 0 n)
+Inv-loop n m offers i₀ i = (i ≤ n) × (firstOver (offerAnswer m offers) i (n - i) ≡ firstOver (offerAnswer m offers) 0 n)
 
 abbrev μ-loop : tie.MeasureT-loop
-μ-loop n m rows i₀ i = n - i
+μ-loop n m offers i₀ i = n - i
 
-put-rows-requires : tie.Need-put-rows-requires Inv-loop μ-loop
-put-rows-requires c κs = search needs
+put-offers-requires : tie.Need-put-offers-requires Inv-loop μ-loop
+put-offers-requires c κs = search needs
 
 loop-holds : tie.Need-loop-holds Inv-loop μ-loop
 loop-holds c =
     let set = c .before .before .args .set in
-    (omega arith, over-all (rowAnswer (set .processors) (c .put-rows .last .1 .0)) (set .count))
+    (omega arith, over-all (offerAnswer (set .processors) (c .put-offers .last .1 .0)) (set .count))
 
 cast-cells : tie.Need-cast-cells Inv-loop μ-loop
 cast-cells c = search needs
@@ -42,15 +42,15 @@ offers-none-requires : tie.Need-offers-none-requires Inv-loop μ-loop
 offers-none-requires c κs = search needs
 
 returns : tie.Need-returns Inv-loop μ-loop
-unfolding rowAnswer
+unfolding offerAnswer
 returns c =
     let at = c .before .before .before .before in
     let start = at .before .before .before in
     let set = start .args .set in
     let refused = ap (λ (t : Bool). refusedIf t noShare (at .loop .i)) (sym (c .before .offers-none .ensures) ∙ c .if1 .taken) in
     with-said (λ (r : Chosen). r .answer)
-    (choice-refused set (start .pre) _ (at .before .put-rows .ensures) noShare (at .loop .i)
-    (sym (at .loop .inv .1) ∙ over-stop (rowAnswer (set .processors) (at .before .put-rows .last .1 .0)) (at .loop .i) (set .count) (omega arith) refused))
+    (choice-refused set (start .pre) _ (at .before .put-offers .ensures) noShare (at .loop .i)
+    (sym (at .loop .inv .1) ∙ over-stop (offerAnswer (set .processors) (at .before .put-offers .last .1 .0)) (at .loop .i) (set .count) (omega arith) refused))
 
 add-i : tie.Need-add-i Inv-loop μ-loop
 add-i c = search needs
@@ -59,13 +59,13 @@ loop-less : tie.Need-loop-less Inv-loop μ-loop
 loop-less c = search needs
 
 loop-again : tie.Need-loop-again Inv-loop μ-loop
-unfolding rowAnswer
+unfolding offerAnswer
 loop-again c =
     let at = c .before .before .before .before in
     let set = at .before .before .before .args .set in
     let accepted = ap (λ (t : Bool). refusedIf t noShare (at .loop .i)) (sym (c .before .offers-none .ensures) ∙ c .if1 .left) in (
       omega arith,
-      over-next (rowAnswer (set .processors) (at .before .put-rows .last .1 .0)) (at .loop .i) (set .count) (omega arith) accepted
+      over-next (offerAnswer (set .processors) (at .before .put-offers .last .1 .0)) (at .loop .i) (set .count) (omega arith) accepted
           ∙ at .loop .inv .1,
     )
 
@@ -75,7 +75,7 @@ select-requires c κs =
     let lawful = start .pre in (
       lawful .few-tasks,
       lawful .few-processors,
-      rw (c .before .before .before .put-rows .ensures) (rows-there (start .args .set) lawful),
+      rw (c .before .before .before .put-offers .ensures) (offers-there (start .args .set) lawful),
     )
 
 returns-2 : tie.Need-returns-2 Inv-loop μ-loop
@@ -84,8 +84,8 @@ returns-2 c =
     let start = at .before .before .before in
     let set = start .args .set in
     with-said (λ (r : Chosen). r .answer)
-    (choice-selected set (start .pre) _ (at .before .put-rows .ensures) (c .select .result)
-    (sym (at .loop .inv .1) ∙ over-end (rowAnswer (set .processors) (at .before .put-rows .last .1 .0)) (at .loop .i) (set .count) (omega arith))
+    (choice-selected set (start .pre) _ (at .before .put-offers .ensures) (c .select .result)
+    (sym (at .loop .inv .1) ∙ over-end (offerAnswer (set .processors) (at .before .put-offers .last .1 .0)) (at .loop .i) (set .count) (omega arith))
     (c .select .ensures))
 
 pub choose-spec : {M : Type 1} → statement M
@@ -94,7 +94,7 @@ choose-spec =
     (tie.spec
     Inv-loop
     μ-loop
-    put-rows-requires
+    put-offers-requires
     loop-holds
     cast-cells
     mul-cells

@@ -11,14 +11,14 @@ use Rattle.allocation.proofs.selection.best_share.Statement.{statement}
 use Rattle.allocation.proofs.selection.best_share.Tie as tie
 
 abbrev Inv-loop : tie.InvT-loop
-Inv-loop row rest t end best₀ least₀ a₀ best least a =
+Inv-loop offer rest t end best₀ least₀ a₀ best least a =
     (1 ≤ a)
     × (a ≤ t)
-    × (best ≡ leastFrom (sumAt (cellAt row) (entryAt rest) t) 1 (a - 1))
-    × (least ≡ sumAt (cellAt row) (entryAt rest) t best)
+    × (best ≡ leastFrom (sumAt (cellAt offer) (entryAt rest) t) 1 (a - 1))
+    × (least ≡ sumAt (cellAt offer) (entryAt rest) t best)
 
 abbrev μ-loop : tie.MeasureT-loop
-μ-loop row rest t end best₀ least₀ a₀ best least a = t - a
+μ-loop offer rest t end best₀ least₀ a₀ best least a = t - a
 
 element-copy-out-sum : tie.Need-element-copy-out-sum Inv-loop μ-loop
 element-copy-out-sum c = omega arith
@@ -35,7 +35,7 @@ sum-requires c κs = search needs
 loop-holds : tie.Need-loop-holds Inv-loop μ-loop
 unfolding cellAt entryAt sumAt
 loop-holds c =
-    let f = sumAt (cellAt (now (c .before .before .before .args .row))) (entryAt (now (c .before .before .before .args .rest))) (c .before .before .before .args .t) in
+    let f = sumAt (cellAt (now (c .before .before .before .args .offer))) (entryAt (now (c .before .before .before .args .rest))) (c .before .before .before .args .t) in
     (omega arith, omega arith, least-start f 1, c .sum .ensures)
 
 add-a : tie.Need-add-a Inv-loop μ-loop
@@ -64,7 +64,7 @@ unfolding cellAt entryAt sumAt
 loop-again c =
     let loop = c .before .before .before .before .before .loop in
     let args = c .before .before .before .before .before .before .before .before .before .args in
-    let f = sumAt (cellAt (now (args .row))) (entryAt (now (args .rest))) (args .t) in
+    let f = sumAt (cellAt (now (args .offer))) (entryAt (now (args .rest))) (args .t) in
     let next : c .before .sum2 .result ≡ f (loop .a + 1) = omega arith in (
       omega arith,
       omega arith,
@@ -80,7 +80,7 @@ unfolding cellAt entryAt sumAt
 loop-again-2 c =
     let loop = c .before .before .before .before .before .loop in
     let args = c .before .before .before .before .before .before .before .before .before .args in
-    let f = sumAt (cellAt (now (args .row))) (entryAt (now (args .rest))) (args .t) in
+    let f = sumAt (cellAt (now (args .offer))) (entryAt (now (args .rest))) (args .t) in
     let next : c .before .sum2 .result ≡ f (loop .a + 1) = omega arith in (
       omega arith,
       omega arith,
@@ -92,7 +92,7 @@ cast-t11 : tie.Need-cast-t11 Inv-loop μ-loop
 cast-t11 c =
     let loop = c .before .loop in
     let args = c .before .before .before .before .before .args in
-    let f = sumAt (cellAt (now (args .row))) (entryAt (now (args .rest))) (args .t) in
+    let f = sumAt (cellAt (now (args .offer))) (entryAt (now (args .rest))) (args .t) in
     omega (arith, least-to f 1 (loop .a - 1), loop .inv .2)
 
 returns : tie.Need-returns Inv-loop μ-loop

@@ -1,10 +1,10 @@
 -- `selection::last_totals` meets its contract. The loop's invariant: the totals of the last k tasks stand in their place. The
 -- measure is the tasks left.
 use lib.ListN.{getD, set, replicate}
-use Rattle.shares.specs.Row.{tabulate}
+use Rattle.shares.specs.Offer.{tabulate}
 use Rattle.allocation.specs.declared.selection.Totals.{Totals}
-use Rattle.allocation.specs.means.Selection.{cellAt, entryAt, totalWith, missingRow, rowsUpTo}
-use Rattle.allocation.proofs.Lines.{line, missingTotals, lines, rows-length, lines-start, lines-at, lines-store, lines-last, line-more}
+use Rattle.allocation.specs.means.Selection.{cellAt, entryAt, totalWith, missingOffer, offersUpTo}
+use Rattle.allocation.proofs.Lines.{line, missingTotals, lines, offers-length, lines-start, lines-at, lines-store, lines-last, line-more}
 use borrow.Author.Needs.{needs}
 use Prim.Native.Nat.{ℕ, _+_, _-_, _≤_}
 use mathlib.Core.Path.{_≡_, ap, _∙_}
@@ -15,10 +15,10 @@ use Rattle.allocation.proofs.selection.last_totals.Statement.{statement
 use Rattle.allocation.proofs.selection.last_totals.Tie as tie
 
 abbrev Inv-loop : tie.InvT-loop
-Inv-loop rows n m count all₀ k₀ all k = (k ≤ n) × (all ≡ lines m (rowsUpTo n rows) n k)
+Inv-loop offers n m count all₀ k₀ all k = (k ≤ n) × (all ≡ lines m (offersUpTo n offers) n k)
 
 abbrev μ-loop : tie.MeasureT-loop
-μ-loop rows n m count all₀ k₀ all k = n - k
+μ-loop offers n m count all₀ k₀ all k = n - k
 
 no-totals-requires : tie.Need-no-totals-requires Inv-loop μ-loop
 no-totals-requires c κs = search needs
@@ -28,20 +28,20 @@ loop-holds c =
     let args = c .before .args in (
       omega arith,
       ap (λ (x : List ℕ). replicate 17 (record { cells = x })) (c .no-totals .ensures)
-          ∙ lines-start (args .m) (args .n) (rowsUpTo (args .n) (now (args .rows))) (rows-length (args .n) (now (args .rows)) (omega arith)),
+          ∙ lines-start (args .m) (args .n) (offersUpTo (args .n) (now (args .offers))) (offers-length (args .n) (now (args .offers)) (omega arith)),
     )
 
-sub-row : tie.Need-sub-row Inv-loop μ-loop
-sub-row c = omega arith
+sub-offer : tie.Need-sub-offer Inv-loop μ-loop
+sub-offer c = omega arith
 
-sub-row-2 : tie.Need-sub-row-2 Inv-loop μ-loop
-sub-row-2 c = omega arith
+sub-offer-2 : tie.Need-sub-offer-2 Inv-loop μ-loop
+sub-offer-2 c = omega arith
 
-mul-row : tie.Need-mul-row Inv-loop μ-loop
-mul-row c = omega arith
+mul-offer : tie.Need-mul-offer Inv-loop μ-loop
+mul-offer c = omega arith
 
-element-copy-out-row : tie.Need-element-copy-out-row Inv-loop μ-loop
-element-copy-out-row c = omega arith
+element-copy-out-offer : tie.Need-element-copy-out-offer Inv-loop μ-loop
+element-copy-out-offer c = omega arith
 
 mul-rest : tie.Need-mul-rest Inv-loop μ-loop
 mul-rest c = omega arith
@@ -71,28 +71,28 @@ loop-again : tie.Need-loop-again Inv-loop μ-loop
 loop-again c =
     let args = c .before .before .before .before .before .before .before .args in
     let loop = c .before .before .before .before .before .loop in
-    let rows = rowsUpTo (args .n) (now (args .rows)) in
-    let long = rows-length (args .n) (now (args .rows)) (omega arith) in
-    let with = totalWith (args .m) (cellAt (getD (now (args .rows)) (args .n - 1 - loop .k) missingRow)) in
-    let stored : c .totals-with .result ≡ line (args .m) rows (args .n) (loop .k + 1) .cells =
+    let offers = offersUpTo (args .n) (now (args .offers)) in
+    let long = offers-length (args .n) (now (args .offers)) (omega arith) in
+    let with = totalWith (args .m) (cellAt (getD (now (args .offers)) (args .n - 1 - loop .k) missingOffer)) in
+    let stored : c .totals-with .result ≡ line (args .m) offers (args .n) (loop .k + 1) .cells =
     c .totals-with .ensures
     ∙ ap (λ (l : List Totals). tabulate (with (entryAt (getD l (loop .k) missingTotals .cells))) 0 65) (loop .inv .1)
-    ∙ ap (λ (x : Totals). tabulate (with (entryAt (x .cells))) 0 65) (lines-at (args .m) (args .n) rows long (loop .k) (loop .k) (omega arith) (omega arith))
-    ∙ line-more (args .m) (args .n) (now (args .rows)) (omega arith) (loop .k) (omega arith) in (
+    ∙ ap (λ (x : Totals). tabulate (with (entryAt (x .cells))) 0 65) (lines-at (args .m) (args .n) offers long (loop .k) (loop .k) (omega arith) (omega arith))
+    ∙ line-more (args .m) (args .n) (now (args .offers)) (omega arith) (loop .k) (omega arith) in (
       omega arith,
       ap (λ (x : List ℕ). set (loop .all) (loop .k + 1) (record { cells = x })) stored
-          ∙ ap (λ (l : List Totals). set l (loop .k + 1) (line (args .m) rows (args .n) (loop .k + 1))) (loop .inv .1)
-          ∙ lines-store (args .m) (args .n) rows long (loop .k) (omega arith),
+          ∙ ap (λ (l : List Totals). set l (loop .k + 1) (line (args .m) offers (args .n) (loop .k + 1))) (loop .inv .1)
+          ∙ lines-store (args .m) (args .n) offers long (loop .k) (omega arith),
     )
 
 returns : tie.Need-returns Inv-loop μ-loop
 returns c =
     let args = c .before .before .before .args in
     let loop = c .before .loop in
-    let rows = rowsUpTo (args .n) (now (args .rows)) in
+    let offers = offersUpTo (args .n) (now (args .offers)) in
     let done : loop .k ≡ args .n = omega arith in
-    loop .inv .1 ∙ ap (lines (args .m) rows (args .n)) done
-    ∙ lines-last (args .m) (args .n) rows (rows-length (args .n) (now (args .rows)) (omega arith))
+    loop .inv .1 ∙ ap (lines (args .m) offers (args .n)) done
+    ∙ lines-last (args .m) (args .n) offers (offers-length (args .n) (now (args .offers)) (omega arith))
 
 pub last-totals-spec : {M : Type 1} → statement M
 last-totals-spec =
@@ -102,10 +102,10 @@ last-totals-spec =
     μ-loop
     no-totals-requires
     loop-holds
-    sub-row
-    sub-row-2
-    mul-row
-    element-copy-out-row
+    sub-offer
+    sub-offer-2
+    mul-offer
+    element-copy-out-offer
     mul-rest
     array-copy-out-rest
     totals-with-requires

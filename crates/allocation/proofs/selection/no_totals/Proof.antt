@@ -1,6 +1,6 @@
 -- `selection::no_totals` meets its contract.
 use mathlib.Core.Path.{refl}
-use Rattle.shares.specs.Row.{tabulate}
+use Rattle.shares.specs.Offer.{tabulate}
 use Rattle.allocation.specs.means.Selection.{leastTotal, totalsOf}
 use borrow.Author.Needs.{needs}
 use Rattle.allocation.proofs.selection.no_totals.Statement.{statement}

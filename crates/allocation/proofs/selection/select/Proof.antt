@@ -12,24 +12,24 @@ use denote.Ref.{now}
 use lib.ListN.{getD, drop}
 use Rattle.shares.specs.declared.share.Share.{Share}
 use Rattle.shares.specs.Totals.{noProcessors}
-use Rattle.allocation.specs.means.Selection.{rowsUpTo, leastTotal, sharesAt, bestTotal}
+use Rattle.allocation.specs.means.Selection.{offersUpTo, leastTotal, sharesAt, bestTotal}
 use Rattle.allocation.proofs.selection.select.Statement.{statement}
 use Rattle.allocation.proofs.selection.select.Tie as tie
 
 -- The shares of all tasks.
 abbrev whole : ℕ → ℕ → List (List ℕ) → List Share
-whole m n rows = sharesAt m (rowsUpTo n rows) (bestTotal m (rowsUpTo n rows))
+whole m n offers = sharesAt m (offersUpTo n offers) (bestTotal m (offersUpTo n offers))
 
 abbrev Inv-loop : tie.InvT-loop
-Inv-loop rows n m count all left₀ shares₀ i₀ left shares i =
+Inv-loop offers n m count all left₀ shares₀ i₀ left shares i =
     (i ≤ n)
     × (left ≤ m)
-    × (leastTotal m (drop i (rowsUpTo n rows)) left ≤ m)
-    × (drop i (whole m n rows) ≡ sharesAt m (drop i (rowsUpTo n rows)) left)
-    × (shares ≡ cells 16 (λ j. getD (whole m n rows) j noProcessors) noProcessors i)
+    × (leastTotal m (drop i (offersUpTo n offers)) left ≤ m)
+    × (drop i (whole m n offers) ≡ sharesAt m (drop i (offersUpTo n offers)) left)
+    × (shares ≡ cells 16 (λ j. getD (whole m n offers) j noProcessors) noProcessors i)
 
 abbrev μ-loop : tie.MeasureT-loop
-μ-loop rows n m count all left₀ shares₀ i₀ left shares i = n - i
+μ-loop offers n m count all left₀ shares₀ i₀ left shares i = n - i
 
 last-totals-requires : tie.Need-last-totals-requires Inv-loop μ-loop
 last-totals-requires c κs = search needs
@@ -50,25 +50,25 @@ cast-if1 c = omega arith
 found : (c : tie.After-first-least Inv-loop μ-loop) →
     c .first-least .result
     ≡ bestTotal (c .before .before .before .before .args .m)
-    (rowsUpTo (c .before .before .before .before .args .n) (c .before .before .before .before .args .rows .now))
+    (offersUpTo (c .before .before .before .before .args .n) (c .before .before .before .before .args .offers .now))
 found c =
     let args = c .before .before .before .before .args in
     c .first-least .ensures
-    ∙ first-is (args .m) (args .n) (now (args .rows)) (omega arith) (omega arith) (omega arith) _ (c .before .before .before .last-totals .ensures)
+    ∙ first-is (args .m) (args .n) (now (args .offers)) (omega arith) (omega arith) (omega arith) _ (c .before .before .before .last-totals .ensures)
 
 found-to : (c : tie.After-first-least Inv-loop μ-loop) → c .first-least .result ≤ c .before .before .before .before .args .m
 found-to c =
     let args = c .before .before .before .before .args in
-    rw (found c) (best-total-within (args .m) (rowsUpTo (args .n) (now (args .rows))))
+    rw (found c) (best-total-within (args .m) (offersUpTo (args .n) (now (args .offers))))
 
 found-total : (c : tie.After-first-least Inv-loop μ-loop) →
     getD (getD (c .before .before .before .last-totals .result) (c .before .before .before .before .args .n) missingTotals .cells)
     (c .first-least .result) 0
     ≡ leastTotal (c .before .before .before .before .args .m)
-    (rowsUpTo (c .before .before .before .before .args .n) (c .before .before .before .before .args .rows .now)) (c .first-least .result)
+    (offersUpTo (c .before .before .before .before .args .n) (c .before .before .before .before .args .offers .now)) (c .first-least .result)
 found-total c =
     let args = c .before .before .before .before .args in
-    total-is (args .m) (args .n) (now (args .rows)) (omega arith) (omega arith) (omega arith) _ (c .before .before .before .last-totals .ensures)
+    total-is (args .m) (args .n) (now (args .offers)) (omega arith) (omega arith) (omega arith) _ (c .before .before .before .last-totals .ensures)
     (c .first-least .result) (found-to c)
 
 array-read-if1 : tie.Need-array-read-if1 Inv-loop μ-loop
@@ -77,27 +77,27 @@ array-read-if1 c = omega (arith, found-to c)
 returns : tie.Need-returns Inv-loop μ-loop
 returns c =
     let args = c .before .before .before .before .before .args in
-    let rows = rowsUpTo (args .n) (now (args .rows)) in
-    let past : args .m < leastTotal (args .m) rows (c .before .first-least .result) = omega (arith, found-total (c .before)) in
-    selection-none (args .m) rows (rw (← found (c .before)) past)
+    let offers = offersUpTo (args .n) (now (args .offers)) in
+    let past : args .m < leastTotal (args .m) offers (c .before .first-least .result) = omega (arith, found-total (c .before)) in
+    selection-none (args .m) offers (rw (← found (c .before)) past)
 
 loop-holds : tie.Need-loop-holds Inv-loop μ-loop
 unfolding cellsFrom
 loop-holds c =
     let args = c .before .before .before .before .before .args in
-    let rows = rowsUpTo (args .n) (now (args .rows)) in (
+    let offers = offersUpTo (args .n) (now (args .offers)) in (
       omega arith,
       found-to (c .before),
       omega (arith, found-total (c .before)),
-      ap (sharesAt (args .m) rows) (sym (found (c .before))),
+      ap (sharesAt (args .m) offers) (sym (found (c .before))),
       refl,
     )
 
-mul-row : tie.Need-mul-row Inv-loop μ-loop
-mul-row c = omega arith
+mul-offer : tie.Need-mul-offer Inv-loop μ-loop
+mul-offer c = omega arith
 
-element-copy-out-row : tie.Need-element-copy-out-row Inv-loop μ-loop
-element-copy-out-row c = omega arith
+element-copy-out-offer : tie.Need-element-copy-out-offer Inv-loop μ-loop
+element-copy-out-offer c = omega arith
 
 sub-rest : tie.Need-sub-rest Inv-loop μ-loop
 sub-rest c = omega arith
@@ -115,19 +115,19 @@ best-share-requires : tie.Need-best-share-requires Inv-loop μ-loop
 best-share-requires c κs =
     let args = c .before .before .before .before .before .before .before .before .before .before .before .before .args in
     let loop = c .before .before .before .before .before .before .loop in (
-      walk-some (args .m) (args .n) (now (args .rows)) (omega arith) (omega arith) (omega arith) (loop .i) (loop .left) (omega arith)
+      walk-some (args .m) (args .n) (now (args .offers)) (omega arith) (omega arith) (omega arith) (loop .i) (loop .left) (omega arith)
           (omega arith) (loop .inv .2),
       omega arith,
     )
 
 -- The step that the walk takes there.
 step : (c : tie.After-best-share Inv-loop μ-loop) →
-    Step (c .before .before .before .before .before .before .before .before .before .before .before .before .before .args .m) (c .before .before .before .before .before .before .before .before .before .before .before .before .before .args .n) (c .before .before .before .before .before .before .before .before .before .before .before .before .before .args .rows .now) (c .before .before .before .before .before .before .before .loop .i) (c .before .before .before .before .before .before .before .loop .left)
-    (c .best-share .result .share) (whole (c .before .before .before .before .before .before .before .before .before .before .before .before .before .args .m) (c .before .before .before .before .before .before .before .before .before .before .before .before .before .args .n) (c .before .before .before .before .before .before .before .before .before .before .before .before .before .args .rows .now))
+    Step (c .before .before .before .before .before .before .before .before .before .before .before .before .before .args .m) (c .before .before .before .before .before .before .before .before .before .before .before .before .before .args .n) (c .before .before .before .before .before .before .before .before .before .before .before .before .before .args .offers .now) (c .before .before .before .before .before .before .before .loop .i) (c .before .before .before .before .before .before .before .loop .left)
+    (c .best-share .result .share) (whole (c .before .before .before .before .before .before .before .before .before .before .before .before .before .args .m) (c .before .before .before .before .before .before .before .before .before .before .before .before .before .args .n) (c .before .before .before .before .before .before .before .before .before .before .before .before .before .args .offers .now))
 step c =
     let args = c .before .before .before .before .before .before .before .before .before .before .before .before .before .args in
     let loop = c .before .before .before .before .before .before .before .loop in
-    walk-step (args .m) (args .n) (now (args .rows)) (omega arith) (omega arith) (omega arith) (loop .i) (loop .left) (omega arith)
+    walk-step (args .m) (args .n) (now (args .offers)) (omega arith) (omega arith) (omega arith) (loop .i) (loop .left) (omega arith)
     (omega arith) (loop .inv .2) _ (c .before .before .before .before .before .before .before .before .before .before .before .before .last-totals .ensures) _ (c .best-share .ensures .0) _ (loop .inv .3)
 
 cast-t30 : tie.Need-cast-t30 Inv-loop μ-loop
@@ -165,9 +165,9 @@ returns-2 c =
     let args = c .before .before .before .before .before .before .before .args in
     let loop = c .before .loop in
     let first = c .before .before .before in
-    selection-some (args .m) (rowsUpTo (args .n) (now (args .rows)))
+    selection-some (args .m) (offersUpTo (args .n) (now (args .offers)))
     (rw (← found first, ← found-total first) (c .before .before .if1 .left)) (loop .shares)
-    (loop .inv .4 ∙ walk-done (args .m) (args .n) (now (args .rows)) (omega arith) (loop .i) (omega arith))
+    (loop .inv .4 ∙ walk-done (args .m) (args .n) (now (args .offers)) (omega arith) (loop .i) (omega arith))
 
 pub select-spec : {M : Type 1} → statement M
 select-spec =
@@ -183,8 +183,8 @@ select-spec =
     array-read-if1
     returns
     loop-holds
-    mul-row
-    element-copy-out-row
+    mul-offer
+    element-copy-out-offer
     sub-rest
     sub-rest-2
     mul-rest

@@ -8,17 +8,17 @@ use mathlib.Core.Path.{_≡_, refl, sym, ap, ap₂, _∙_}
 use native.Mathlib.Omega.{arith}
 use Rattle.basics.specs.Lists.{cells, cellsFrom}
 use Rattle.basics.proofs.Cells.{cells-none, cells-store}
-use Rattle.shares.proofs.Rows.{cells-tabulated}
+use Rattle.shares.proofs.Offers.{cells-tabulated}
 use Rattle.allocation.proofs.Optimal.{with-none, with-past, with-some}
 use Rattle.allocation.proofs.selection.totals_with.Statement.{statement}
 use Rattle.allocation.proofs.selection.totals_with.Tie as tie
 
 abbrev Inv-loop : tie.InvT-loop
-Inv-loop m row rest totals₀ t₀ totals t =
-    (1 ≤ t) × (t ≤ m + 1) × (totals ≡ cells 65 (totalWith m (cellAt row) (entryAt rest)) (m + 1) t)
+Inv-loop m offer rest totals₀ t₀ totals t =
+    (1 ≤ t) × (t ≤ m + 1) × (totals ≡ cells 65 (totalWith m (cellAt offer) (entryAt rest)) (m + 1) t)
 
 abbrev μ-loop : tie.MeasureT-loop
-μ-loop m row rest totals₀ t₀ totals t = m + 1 - t
+μ-loop m offer rest totals₀ t₀ totals t = m + 1 - t
 
 add-totals : tie.Need-add-totals Inv-loop μ-loop
 add-totals c = omega arith

@@ -1,4 +1,4 @@
--- What a task may take, and its row: a low task's one share, and a high task's passing pairs, of which the row has the least at
+-- What a task may take, and its offer: a low task's one share, and a high task's passing pairs, of which the offer has the least at
 -- each typical share.
 use Prim.Native.Nat.{ℕ, _+_, _-_, _≤_, _<_}
 use mathlib.Core.Path.{_≡_, refl, sym, ap, _∙_, subst}
@@ -13,7 +13,7 @@ use Rattle.shares.specs.Test.{passes}
 use Rattle.sheet.specs.Level.{isLow}
 use Rattle.shares.specs.Low.{lowShare, hasLowShare}
 use Rattle.shares.specs.Search.{leastCritical}
-use Rattle.shares.specs.Row.{criticalAt, lowCritical}
+use Rattle.shares.specs.Offer.{criticalAt, lowCritical}
 use Rattle.shares.proofs.Ends.{low-positive}
 use Rattle.shares.proofs.Least.{least-at-most, least-from, least-passes}
 use Rattle.shares.proofs.Levels.{has-below, has-within, low-critical-own, low-critical-within, critical-low, critical-high}
@@ -23,7 +23,7 @@ use Rattle.allocation.specs.Way.{LowPair, HighPair, MayTake}
 use Rattle.allocation.specs.Lawful.{LawfulTask}
 use Rattle.basics.proofs.Members.{range-has, range-within, each-has, each-from, map-has, map-from, keep-has, keep-from}
 use Rattle.allocation.proofs.Lawfulness.{low-equal, heavy-work}
-use Rattle.allocation.proofs.Optimal.{RowOf}
+use Rattle.allocation.proofs.Optimal.{OfferOf}
 
 holds : (b : Bool) → T b → b ≡ true
 holds true t = refl
@@ -108,9 +108,9 @@ module _ (M : ℕ) (t : Task) where
       let equal = low-equal (t .level) (t .figures) (lawful .figures) low in
       low-positive (t .figures) (omega (arith, heavy-work (t .figures) (lawful .heavy), equal .0)) below
 
-  -- The row of a task.
-  row-low-of : LawfulTask t → isLow (t .level) ≡ true → RowOf M (lowOptions M (t .figures)) (criticalAt M t)
-  row-low-of lawful low =
+  -- The offer of a task.
+  offer-low-of : LawfulTask t → isLow (t .level) ≡ true → OfferOf M (lowOptions M (t .figures)) (criticalAt M t)
+  offer-low-of lawful low =
       record {
         positive = λ s m. let pair = low-from M (t .figures) s m in rw (pair .typical) (low-share-positive lawful low (pair .has));
         within = λ s m. let pair = low-from M (t .figures) s m in rw (pair .typical) (has-within M (t .figures) (pair .has));
@@ -128,8 +128,8 @@ module _ (M : ℕ) (t : Task) where
             });
       }
 
-  row-high-of : isLow (t .level) ≡ false → RowOf M (highOptions M (t .figures)) (criticalAt M t)
-  row-high-of high =
+  offer-high-of : isLow (t .level) ≡ false → OfferOf M (highOptions M (t .figures)) (criticalAt M t)
+  offer-high-of high =
       record {
         positive = λ s m. high-from M (t .figures) s m .positive;
         within = λ s m. let pair = high-from M (t .figures) s m in omega arith;
@@ -149,17 +149,17 @@ module _ (M : ℕ) (t : Task) where
             });
       }
 
-  pub row-of : LawfulTask t → RowOf M (optionsOf M t) (criticalAt M t)
-  row-of lawful = go (isLow (t .level)) refl
+  pub offer-of : LawfulTask t → OfferOf M (optionsOf M t) (criticalAt M t)
+  offer-of lawful = go (isLow (t .level)) refl
     where
-      go : (l : Bool) → isLow (t .level) ≡ l → RowOf M (optionsOf M t) (criticalAt M t)
-      go true e = rw (options-low e) (row-low-of lawful e)
-      go false e = rw (options-high e) (row-high-of e)
+      go : (l : Bool) → isLow (t .level) ≡ l → OfferOf M (optionsOf M t) (criticalAt M t)
+      go true e = rw (options-low e) (offer-low-of lawful e)
+      go false e = rw (options-high e) (offer-high-of e)
 
--- A row that agrees with a row of these options from 1 to M is one.
-pub row-agrees : (M : ℕ) (options : List Share) (row row′ : ℕ → ℕ) → ((a : ℕ) → 1 ≤ a → a ≤ M → row′ a ≡ row a) →
-    RowOf M options row → RowOf M options row′
-row-agrees M options row row′ same r =
+-- An offer that agrees with an offer of these options from 1 to M is one.
+pub offer-agrees : (M : ℕ) (options : List Share) (offer offer′ : ℕ → ℕ) → ((a : ℕ) → 1 ≤ a → a ≤ M → offer′ a ≡ offer a) →
+    OfferOf M options offer → OfferOf M options offer′
+offer-agrees M options offer offer′ same r =
     record {
       positive = r .positive;
       within = r .within;

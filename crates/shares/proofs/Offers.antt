@@ -1,4 +1,4 @@
--- A row by its cells: a tabulated list is known by its length and its elements, and cells that are all filled are one.
+-- An offer by its cells: a tabulated list is known by its length and its elements, and cells that are all filled are one.
 use Prim.Native.Nat.{ℕ, zero, suc, _+_, _-_, _≤_, _<_}
 use mathlib.Core.Path.{_≡_, refl, sym, ap, ap₂, _∙_}
 use mathlib.Core.Bool.{cond}
@@ -12,7 +12,7 @@ use lib.Seq.{ext-getD}
 use borrow.Author.Tests.{lt-ltb, le-ltb}
 use Rattle.sheet.specs.declared.task.Task.{Task}
 use Rattle.basics.specs.Lists.{cellsFrom}
-use Rattle.shares.specs.Row.{tabulate, criticalAt, rowOf}
+use Rattle.shares.specs.Offer.{tabulate, criticalAt, offerOf}
 
 module _ (g : ℕ → ℕ) where
   pub tabulate-length : (k n : ℕ) → length (tabulate g k n) ≡ n
@@ -45,8 +45,8 @@ cells-tabulated g none first (suc size) count past =
     cell (no filled) = rw (lt-ltb first count (omega arith))
 
 -- The cell of typical share a is number a − 1.
-pub row-at : (M : ℕ) (t : Task) (a : ℕ) → 1 ≤ a → a ≤ 64 → getD (rowOf M t) (a - 1) 0 ≡ criticalAt M t a
-unfolding rowOf
-row-at M t a one within =
+pub offer-at : (M : ℕ) (t : Task) (a : ℕ) → 1 ≤ a → a ≤ 64 → getD (offerOf M t) (a - 1) 0 ≡ criticalAt M t a
+unfolding offerOf
+offer-at M t a one within =
     let e : 1 + (a - 1) ≡ a = omega arith in
     tabulate-at (criticalAt M t) 1 64 (a - 1) (omega arith) ∙ ap (criticalAt M t) e

@@ -1,4 +1,4 @@
--- `row::high_row` meets its contract. The loop's invariant: the row is done up to typical share i and says m + 1 above it, which
+-- `offer::high_offer` meets its contract. The loop's invariant: the offer is done up to typical share i and says m + 1 above it, which
 -- is right above m. The measure is what is left of m.
 use Prim.Native.Nat.{_+_, _-_, _≤_}
 use mathlib.Core.Path.{_≡_, sym, ap, _∙_}
@@ -9,18 +9,18 @@ use Rattle.shares.proofs.Least.{least-bound, least-past}
 use Rattle.shares.proofs.Walk.{number-answer}
 use Rattle.basics.specs.Lists.{cellsFrom}
 use Rattle.basics.proofs.Cells.{cells-none, cells-store-from}
-use Rattle.shares.proofs.Rows.{cells-tabulated}
-use Rattle.shares.proofs.row.high_row.Statement.{statement}
-use Rattle.shares.proofs.row.high_row.Tie as tie
+use Rattle.shares.proofs.Offers.{cells-tabulated}
+use Rattle.shares.proofs.offer.high_offer.Statement.{statement}
+use Rattle.shares.proofs.offer.high_offer.Tie as tie
 
 abbrev Inv-loop : tie.InvT-loop
-Inv-loop f m row₀ end i₀ row i = (i ≤ m) × (row ≡ cellsFrom 1 64 (leastCritical m f) (m + 1) (i + 1))
+Inv-loop f m offer₀ end i₀ offer i = (i ≤ m) × (offer ≡ cellsFrom 1 64 (leastCritical m f) (m + 1) (i + 1))
 
 abbrev μ-loop : tie.MeasureT-loop
-μ-loop f m row₀ end i₀ row i = m - i
+μ-loop f m offer₀ end i₀ offer i = m - i
 
-add-row : tie.Need-add-row Inv-loop μ-loop
-add-row c = search needs
+add-offer : tie.Need-add-offer Inv-loop μ-loop
+add-offer c = search needs
 
 loop-holds : tie.Need-loop-holds Inv-loop μ-loop
 loop-holds c =
@@ -38,8 +38,8 @@ least-critical-requires c κs = search needs
 number-of-requires : tie.Need-number-of-requires Inv-loop μ-loop
 number-of-requires c κs = search needs
 
-array-write-row : tie.Need-array-write-row Inv-loop μ-loop
-array-write-row c = omega arith
+array-write-offer : tie.Need-array-write-offer Inv-loop μ-loop
+array-write-offer c = omega arith
 
 add-i : tie.Need-add-i Inv-loop μ-loop
 add-i c = omega arith
@@ -69,19 +69,19 @@ returns c =
     loop .inv .1
     ∙ cells-tabulated (leastCritical (args .m) (args .f)) (args .m + 1) 1 64 (loop .i + 1) (λ a past. least-past (args .m) (args .f) a (omega arith))
 
-pub high-row-spec : {M : Type 1} → statement M
-high-row-spec =
+pub high-offer-spec : {M : Type 1} → statement M
+high-offer-spec =
     tie.close
     (tie.spec
     Inv-loop
     μ-loop
-    add-row
+    add-offer
     loop-holds
     cast-least-critical
     add-least-critical
     least-critical-requires
     number-of-requires
-    array-write-row
+    array-write-offer
     add-i
     loop-less
     loop-again

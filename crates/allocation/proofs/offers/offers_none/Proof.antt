@@ -1,4 +1,4 @@
--- `rows::offers_none` meets its contract. The loop's invariant: what the cells left say is what all of them say. The measure
+-- `offers::offers_none` meets its contract. The loop's invariant: what the cells left say is what all of them say. The measure
 -- is what is left of 64.
 use lib.ListN.{length, drop, getD}
 use Prim.Native.Nat.{_-_, _≤_, _<_}
@@ -6,8 +6,8 @@ use mathlib.Core.Path.{_≡_, refl, sym, _∙_}
 use native.Mathlib.Omega.{arith}
 use Rattle.allocation.specs.means.Selection.{offersNone}
 use Rattle.allocation.proofs.Cells.{offers-on, offers-stop, offers-end}
-use Rattle.allocation.proofs.rows.offers_none.Statement.{statement}
-use Rattle.allocation.proofs.rows.offers_none.Tie as tie
+use Rattle.allocation.proofs.offers.offers_none.Statement.{statement}
+use Rattle.allocation.proofs.offers.offers_none.Tie as tie
 
 abbrev Inv-loop : tie.InvT-loop
 Inv-loop m cells i₀ i = (i ≤ 64) × (offersNone m (drop i cells) ≡ offersNone m cells)
