@@ -17,12 +17,12 @@ use Rattle.sheet.specs.Format.{processorsOf, countOf, offsetOf, lengthOf, level
 use Rattle.basics.specs.Numbers.{within}
 use Rattle.sheet.specs.Level.{levelLawful, bytesBeforeMasks}
 use Rattle.sheet.specs.Rules.{shapeLawful, figuresLawful, masksLawful, isHeavy, taskAnswer}
-use Rattle.reader.specs.Reading.{headerLawful, headerAnswer, placeAnswer, endAnswer, shapeAnswer, recordAnswer, answerOf, readingOf, readOf}
+use Rattle.reader.specs.Reading.{headerLawful, headerAnswer, placeAnswer, endAnswer, shapeAnswer, recordAnswer, readingOf, readOf, readAnswer}
 use Rattle.basics.proofs.Cells.{cells-length}
 use Rattle.basics.proofs.Logic.{left-true, right-true}
 use Rattle.shares.specs.declared.share.Share.{Share}
 use Rattle.basics.specs.Lists.{isNone}
-use Rattle.allocation.specs.Allocation.{noFit, chosenFor, shareAnswer, choiceAnswer, sharesOf}
+use Rattle.allocation.specs.Allocation.{noFit, chosenFor, shareAnswer, choiceAnswer, sharesChosen}
 use Rattle.allocation.specs.Lawful.{LawfulTask, LawfulSet}
 use Rattle.allocation.proofs.Lawfulness.{within-from, within-to, all-four}
 use Rattle.allocation.proofs.Lines.{cells-at}
@@ -49,16 +49,16 @@ over-accepted offer first (suc count) i e from to =
     go rest here (no not-later) = let same : i ≡ first = omega arith in ap offer same ∙ here
 
 module _ (s : List ℕ) where
-  read-answer : readOf s .answer ≡ answerOf s
+  read-answer : readOf s .answer ≡ readAnswer s
   unfolding readOf
-  read-answer = go (answerOf s)
+  read-answer = go (readAnswer s)
     where
       go : (a : Answer) → readingOf a s .answer ≡ a
       go Accepted = refl
       go (Refused number task) = refl
 
   module _ (accepted : readOf s .answer ≡ Accepted) where
-    answer-accepted : answerOf s ≡ Accepted
+    answer-accepted : readAnswer s ≡ Accepted
     answer-accepted = sym read-answer ∙ accepted
 
     -- The task set is the sheet's.
@@ -67,7 +67,7 @@ module _ (s : List ℕ) where
     accepted-set = ap (λ (a : Answer). readingOf a s .set) answer-accepted
 
     header-kept : headerLawful s ≡ true
-    unfolding answerOf headerAnswer
+    unfolding readAnswer headerAnswer
     header-kept = rule-kept (headerLawful s) badHeader noTask (both-accepted (headerAnswer s) _ answer-accepted .0)
 
     ranges : (within 1 64 (processorsOf s) ≡ true) × (within 1 16 (countOf s) ≡ true)
@@ -77,7 +77,7 @@ module _ (s : List ℕ) where
         (all .1, all .2)
 
     records-accepted : firstOver (recordAnswer s) 0 (countOf s) ≡ Accepted
-    unfolding answerOf
+    unfolding readAnswer
     records-accepted =
         let later = both-accepted (headerAnswer s) _ answer-accepted .1 in
         let last = both-accepted (firstOver (placeAnswer s) 0 (countOf s)) _ later .1 in
@@ -141,10 +141,10 @@ module _ (s : List ℕ) where
     accepted-lawful = subst LawfulSet (sym accepted-set) sheet-lawful
 
 -- The answer on a task set that is accepted comes with a choice.
-pub accepted-choice : (set : TaskSet) → choiceAnswer set ≡ Accepted → chosenFor set ≡ some (sharesOf (chosenFor set))
+pub accepted-choice : (set : TaskSet) → choiceAnswer set ≡ Accepted → chosenFor set ≡ some (sharesChosen (chosenFor set))
 unfolding choiceAnswer
 accepted-choice set e = go (chosenFor set) (both-accepted (firstOver (shareAnswer set) 0 (set .count)) _ e .1)
   where
-    go : (o : Option (List Share)) → refusedIf (isNone o) noFit noTask ≡ Accepted → o ≡ some (sharesOf o)
+    go : (o : Option (List Share)) → refusedIf (isNone o) noFit noTask ≡ Accepted → o ≡ some (sharesChosen o)
     go none h = absurd (let z : _≡_ {A = ℕ} 0 1 = cc in omega arith)
     go (some choice) h = refl

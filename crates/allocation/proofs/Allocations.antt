@@ -22,7 +22,7 @@ use Rattle.shares.specs.Totals.{noProcessors, shareAt, shareTotal}
 use Rattle.allocation.specs.declared.allocate.Allocation.{Allocation}
 use Rattle.allocation.specs.Blocks.{offsetIn, lengthIn, BlocksInOrder}
 use Rattle.allocation.specs.Lawful.{LawfulSet}
-use Rattle.allocation.specs.Allocation.{tasksOf, chosenFor, choiceAnswer, sharesOf, sixteen, allocationOf, noAllocation, allocationsOf, allocationAt, allocationAnswer, allocatedWith, allocatedOf}
+use Rattle.allocation.specs.Allocation.{tasksOf, chosenFor, choiceAnswer, sixteen, allocationOf, noAllocation, allocationsOf, allocationAt, allocationAnswer, allocatedWith, allocatedOf, sharesChosen}
 use Rattle.allocation.specs.means.Bounds.{SharesFit, Bounded, AllBounded}
 use Rattle.allocation.proofs.Accepted.{both-accepted, accepted-lawful, accepted-choice}
 use Rattle.allocation.proofs.Blocks.{total-part, chosen-blocks}
@@ -171,19 +171,19 @@ module _ (s : List ℕ) where
     pub read-lawful : LawfulSet (readOf s .set)
     read-lawful = accepted-lawful s (both-passed .0)
 
-    pub read-chosen : chosenFor (readOf s .set) ≡ some (sharesOf (chosenFor (readOf s .set)))
+    pub read-chosen : chosenFor (readOf s .set) ≡ some (sharesChosen (chosenFor (readOf s .set)))
     read-chosen = accepted-choice (readOf s .set) (both-passed .1)
 
     pub allocated-count : allocatedOf s .count ≡ readOf s .set .count
     unfolding allocatedOf
     allocated-count = rw accepted
 
-    pub allocated-line : allocatedOf s .allocations ≡ allocationsOf (readOf s .set) (sharesOf (chosenFor (readOf s .set)))
+    pub allocated-line : allocatedOf s .allocations ≡ allocationsOf (readOf s .set) (sharesChosen (chosenFor (readOf s .set)))
     unfolding allocatedOf
     allocated-line = rw accepted
 
     -- What is fixed by the line of sixteen shares.
-    pub line-fixed : allocationsOf (readOf s .set) (sixteen (sharesOf (chosenFor (readOf s .set)))) ≡ allocatedOf s .allocations
+    pub line-fixed : allocationsOf (readOf s .set) (sixteen (sharesChosen (chosenFor (readOf s .set)))) ≡ allocatedOf s .allocations
     line-fixed = allocations-same (readOf s .set) read-lawful _ read-chosen ∙ sym allocated-line
 
     pub allocated-accepted : (count : ℕ) (allocations : List Allocation) → count ≡ readOf s .set .count →
@@ -192,7 +192,7 @@ module _ (s : List ℕ) where
     allocated-accepted count allocations e f = rw (e, f, accepted)
 
     pub allocated-at : (i : ℕ) → i < readOf s .set .count →
-        allocationAt (allocatedOf s .allocations) i ≡ allocationOf (readOf s .set) (sharesOf (chosenFor (readOf s .set))) i
+        allocationAt (allocatedOf s .allocations) i ≡ allocationOf (readOf s .set) (sharesChosen (chosenFor (readOf s .set))) i
     allocated-at i inside = rw allocated-line (allocations-at (readOf s .set) _ (read-lawful .few-tasks) i inside)
 
     pub allocated-length : length (allocatedOf s .allocations) ≡ 16

@@ -15,7 +15,7 @@ use Rattle.sheet.specs.declared.task.TaskSet.{TaskSet}
 use Rattle.sheet.specs.Format.{taskIn}
 use Rattle.basics.proofs.Logic.{left-true, right-true}
 use Rattle.shares.specs.declared.share.Share.{Share}
-use Rattle.shares.specs.Deadline.{virtualOf}
+use Rattle.shares.specs.Deadline.{virtualDeadlineOf}
 use Rattle.sheet.specs.Level.{isLow, figureLimit}
 use Rattle.shares.specs.Test.{virtualDeadline}
 use Rattle.shares.specs.Totals.{typicalTotal, criticalTotal, noProcessors}
@@ -134,8 +134,8 @@ module _ (set : TaskSet) (lawful : LawfulSet set) (choice : List Share) (chosen-
     chosen-positive = offer-of (set .processors) (taskIn set i) (lawful .lawful i inside) .positive (getD choice i noProcessors) chosen-option
 
     -- The virtual deadline is at most the deadline.
-    pub chosen-virtual : virtualOf (taskIn set i) (lengthIn false choice i) ≤ taskIn set i .figures .deadline
-    unfolding virtualOf lengthIn
+    pub chosen-virtual : virtualDeadlineOf (taskIn set i) (lengthIn false choice i) ≤ taskIn set i .figures .deadline
+    unfolding virtualDeadlineOf lengthIn
     chosen-virtual = go (isLow (taskIn set i .level)) refl
       where
         go : (l : Bool) → isLow (taskIn set i .level) ≡ l →
@@ -147,7 +147,7 @@ module _ (set : TaskSet) (lawful : LawfulSet set) (choice : List Share) (chosen-
             virtual-within (taskIn set i .figures) (getD choice i noProcessors .typical) (getD choice i noProcessors .critical)
             (pair .positive) (pair .ordered) (kept .spans) (subst T (sym (pair .passing)) tt)
 
-    pub chosen-deadline : virtualOf (taskIn set i) (lengthIn false choice i) < 65536
+    pub chosen-deadline : virtualDeadlineOf (taskIn set i) (lengthIn false choice i) < 65536
     unfolding figureLimit
     chosen-deadline =
         let kept = figures-kept (taskIn set i .level) (taskIn set i .figures) (lawful .lawful i inside .figures) in

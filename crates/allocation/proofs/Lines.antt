@@ -16,7 +16,7 @@ use Rattle.shares.proofs.Offers.{tabulate-at, tabulate-length, tabulated}
 use Rattle.allocation.specs.declared.selection.Totals.{Totals}
 use Rattle.shares.specs.Totals.{noProcessors}
 use Rattle.allocation.specs.Allocation.{sixteen}
-use Rattle.allocation.specs.means.Selection.{cellAt, entryAt, leastFrom, sumAt, bestShare, totalWith, leastTotal, totalsOf, offered, sharesAt, bestTotal, missingOffer, offersUpTo, lastTotals}
+use Rattle.allocation.specs.means.Selection.{cellAt, leastFrom, sumAt, bestShare, totalWith, leastTotal, totalsOf, offered, sharesAt, bestTotal, missingOffer, offersUpTo, lastTotals, totalAt}
 use Rattle.allocation.proofs.Firsts.{least-same, least-to}
 use Rattle.allocation.proofs.Optimal.{best-from, best-to, with-positive, with-best, with-none, with-past, with-some}
 
@@ -47,8 +47,8 @@ tabulate-same g h n same =
     tabulate-at g 0 n i inside ∙ ap g e ∙ same i inside ∙ ap h (sym e))
 
 -- What totals say.
-pub entry-totals : (M : ℕ) (offers : List (ℕ → ℕ)) (t : ℕ) → t ≤ 64 → entryAt (totalsOf M offers) t ≡ leastTotal M offers t
-unfolding entryAt totalsOf
+pub entry-totals : (M : ℕ) (offers : List (ℕ → ℕ)) (t : ℕ) → t ≤ 64 → totalAt (totalsOf M offers) t ≡ leastTotal M offers t
+unfolding totalAt totalsOf
 entry-totals M offers t within =
     let e : 0 + t ≡ t = omega arith in
     tabulate-at (leastTotal M offers) 0 65 t (omega arith) ∙ ap (leastTotal M offers) e
@@ -78,11 +78,11 @@ module _ (M : ℕ) (offer rest rest′ : ℕ → ℕ) (t : ℕ) (same : (x : ℕ
 
 -- The totals of one task more.
 pub totals-more : (M : ℕ) (offer : ℕ → ℕ) (offers : List (ℕ → ℕ)) →
-    tabulate (totalWith M offer (entryAt (totalsOf M offers))) 0 65 ≡ totalsOf M (offer ∷ offers)
+    tabulate (totalWith M offer (totalAt (totalsOf M offers))) 0 65 ≡ totalsOf M (offer ∷ offers)
 unfolding totalsOf leastTotal
 totals-more M offer offers =
-    tabulate-same (totalWith M offer (entryAt (totalsOf M offers))) (totalWith M offer (leastTotal M offers)) 65
-    (λ t inside. with-same M offer (entryAt (totalsOf M offers)) (leastTotal M offers) t (λ x below. entry-totals M offers x (omega arith)))
+    tabulate-same (totalWith M offer (totalAt (totalsOf M offers))) (totalWith M offer (leastTotal M offers)) 65
+    (λ t inside. with-same M offer (totalAt (totalsOf M offers)) (leastTotal M offers) t (λ x below. entry-totals M offers x (omega arith)))
 
 -- The first n offers.
 module _ (n : ℕ) (offers : List (List ℕ)) (there : n ≤ length offers) where
@@ -142,7 +142,7 @@ module _ (M n : ℕ) (offers : List (ℕ → ℕ)) (all-there : length offers �
 
 -- The line that the loop stores, from the offer of the task and the line before.
 pub line-more : (M n : ℕ) (offers : List (List ℕ)) → n ≤ length offers → (k : ℕ) → k < n →
-    tabulate (totalWith M (cellAt (getD offers (n - 1 - k) missingOffer)) (entryAt (line M (offersUpTo n offers) n k .cells))) 0 65
+    tabulate (totalWith M (cellAt (getD offers (n - 1 - k) missingOffer)) (totalAt (line M (offersUpTo n offers) n k .cells))) 0 65
     ≡ line M (offersUpTo n offers) n (k + 1) .cells
 line-more M n offers there k inside =
     let place : n - 1 - k ≡ n - (k + 1) = omega arith in
@@ -170,10 +170,10 @@ module _ (M n : ℕ) (offers : List (ℕ → ℕ)) (all-there : length offers �
       ∙ ap (λ (x : ℕ). totalsOf M (drop x offers)) place)
 
 -- The best typical total.
-pub best-total-is : (M : ℕ) (offers : List (ℕ → ℕ)) → M ≤ 64 → leastFrom (entryAt (totalsOf M offers)) 0 M ≡ bestTotal M offers
+pub best-total-is : (M : ℕ) (offers : List (ℕ → ℕ)) → M ≤ 64 → leastFrom (totalAt (totalsOf M offers)) 0 M ≡ bestTotal M offers
 unfolding bestTotal
 best-total-is M offers small =
-    least-same (entryAt (totalsOf M offers)) (leastTotal M offers) 0 M (λ t from to. entry-totals M offers t (omega arith))
+    least-same (totalAt (totalsOf M offers)) (leastTotal M offers) 0 M (λ t from to. entry-totals M offers t (omega arith))
 
 pub best-total-within : (M : ℕ) (offers : List (ℕ → ℕ)) → bestTotal M offers ≤ M
 unfolding bestTotal
@@ -181,7 +181,7 @@ best-total-within M offers = omega (arith, least-to (leastTotal M offers) 0 M)
 
 -- One step of the walk: the first task's share, and what is left for the tasks after it.
 module _ (M : ℕ) (offer : ℕ → ℕ) (offers : List (ℕ → ℕ)) (t a : ℕ) (small : t ≤ 64) (within : leastTotal M (offer ∷ offers) t ≤ M)
-    (best : a ≡ bestShare offer (entryAt (totalsOf M offers)) t) where
+    (best : a ≡ bestShare offer (totalAt (totalsOf M offers)) t) where
   pub step-some : 1 ≤ t
   unfolding leastTotal
   step-some = with-positive M offer (leastTotal M offers) t within
@@ -189,7 +189,7 @@ module _ (M : ℕ) (offer : ℕ → ℕ) (offers : List (ℕ → ℕ)) (t a : �
   step-best : a ≡ bestShare offer (leastTotal M offers) t
   step-best =
       best
-      ∙ best-same M offer (entryAt (totalsOf M offers)) (leastTotal M offers) t (λ x below. entry-totals M offers x (omega arith)) step-some
+      ∙ best-same M offer (totalAt (totalsOf M offers)) (leastTotal M offers) t (λ x below. entry-totals M offers x (omega arith)) step-some
 
   pub step-from : 1 ≤ a
   step-from = rw step-best (best-from M offer (leastTotal M offers) t)

@@ -14,7 +14,7 @@ use Rattle.shares.specs.declared.share.Share.{Share}
 use Rattle.allocation.specs.declared.selection.Totals.{Totals}
 use Rattle.shares.specs.Totals.{noProcessors}
 use Rattle.allocation.specs.Allocation.{noFit, sixteen}
-use Rattle.allocation.specs.means.Selection.{cellAt, entryAt, leastFrom, bestShare, leastTotal, totalsOf, offered, sharesAt, bestTotal, selected, missingOffer, offersUpTo, lastTotals, selectionOf}
+use Rattle.allocation.specs.means.Selection.{cellAt, leastFrom, bestShare, leastTotal, totalsOf, offered, sharesAt, bestTotal, selected, missingOffer, offersUpTo, lastTotals, selectionOf, totalAt}
 use Rattle.allocation.proofs.Lines.{missingTotals, offers-length, offers-open, whole-line, rest-line, entry-totals, best-total-is, step-some, step-from, step-to, step-within, step-shares, shares-length, open-at, open-rest, sixteen-is, sixteen-none}
 
 -- The answers that the walk ends in.
@@ -43,11 +43,11 @@ module _ (M n : ℕ) (offers : List (List ℕ)) (there : n ≤ length offers) (f
   whole-is : getD all n missingTotals .cells ≡ totalsOf M (offersUpTo n offers)
   whole-is = rw lines (whole-line M n (offersUpTo n offers) (offers-length n offers there) few)
 
-  pub first-is : leastFrom (entryAt (getD all n missingTotals .cells)) 0 M ≡ bestTotal M (offersUpTo n offers)
+  pub first-is : leastFrom (totalAt (getD all n missingTotals .cells)) 0 M ≡ bestTotal M (offersUpTo n offers)
   first-is = rw whole-is (best-total-is M (offersUpTo n offers) small)
 
   pub total-is : (t : ℕ) → t ≤ M → getD (getD all n missingTotals .cells) t 0 ≡ leastTotal M (offersUpTo n offers) t
-  unfolding entryAt
+  unfolding totalAt
   total-is t to = rw whole-is (entry-totals M (offersUpTo n offers) t (omega arith))
 
 -- What the walk has at task i, where the tasks from i on have `left` typical processors and task i takes a of them.
@@ -70,9 +70,9 @@ module _ (M n : ℕ) (offers : List (List ℕ)) (there : n ≤ length offers) (f
       step-some M (cellAt (getD offers i missingOffer)) (drop (i + 1) (offersUpTo n offers)) left _ (omega arith) here refl
 
   module _ (all : List Totals) (lines : all ≡ lastTotals M (offersUpTo n offers) n) (a : ℕ)
-      (best : a ≡ bestShare (cellAt (getD offers i missingOffer)) (entryAt (getD all (n - 1 - i) missingTotals .cells)) left)
+      (best : a ≡ bestShare (cellAt (getD offers i missingOffer)) (totalAt (getD all (n - 1 - i) missingTotals .cells)) left)
       (shares : List Share) (from : drop i shares ≡ sharesAt M (drop i (offersUpTo n offers)) left) where
-    best-is : a ≡ bestShare (cellAt (getD offers i missingOffer)) (entryAt (totalsOf M (drop (i + 1) (offersUpTo n offers)))) left
+    best-is : a ≡ bestShare (cellAt (getD offers i missingOffer)) (totalAt (totalsOf M (drop (i + 1) (offersUpTo n offers)))) left
     best-is = rw (lines, rest-line M n (offersUpTo n offers) (offers-length n offers there) few i inside) at best
 
     opened : drop i shares ≡ offered (cellAt (getD offers i missingOffer)) a ∷ sharesAt M (drop (i + 1) (offersUpTo n offers)) (left - a)

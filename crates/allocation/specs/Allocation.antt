@@ -13,7 +13,7 @@ use Rattle.basics.specs.Lists.{cells, isEmpty, isNone}
 use Rattle.sheet.specs.Format.{taskIn}
 use Rattle.reader.specs.Reading.{readOf}
 use Rattle.shares.specs.declared.share.Share.{Share}
-use Rattle.shares.specs.Deadline.{virtualOf}
+use Rattle.shares.specs.Deadline.{virtualDeadlineOf}
 use Rattle.shares.specs.Totals.{noProcessors, shareAt}
 use Rattle.allocation.specs.declared.allocate.Allocation.{Allocation}
 use Rattle.allocation.specs.declared.allocate.Allocated.{Allocated}
@@ -48,9 +48,9 @@ choiceAnswer set =
     orElse refusedIf (isNone (chosenFor set)) noFit noTask
 
 -- The shares of a choice; none have no shares.
-abbrev pub sharesOf : Option (List Share) → List Share
-sharesOf none = []
-sharesOf (some choice) = choice
+abbrev pub sharesChosen : Option (List Share) → List Share
+sharesChosen none = []
+sharesChosen (some choice) = choice
 
 -- The shares as a line of sixteen, with zeros in the place of the tasks that are not there.
 unfoldable pub sixteen : List Share → List Share
@@ -58,7 +58,7 @@ sixteen shares = cells 16 (λ i. getD shares i noProcessors) noProcessors (lengt
 
 -- The answer on a task set with the shares that are chosen; zeros where nothing is.
 unfoldable pub choiceOf : TaskSet → Chosen
-choiceOf set = record { answer = choiceAnswer set; shares = sixteen (sharesOf (chosenFor set)) }
+choiceOf set = record { answer = choiceAnswer set; shares = sixteen (sharesChosen (chosenFor set)) }
 
 -- What is fixed for task i of a set whose tasks have these shares: its share, where its block begins in each mode (S5.4), and V (S4.5).
 unfoldable pub allocationOf : TaskSet → List Share → ℕ → Allocation
@@ -66,7 +66,7 @@ allocationOf set shares i =
     record {
       share = shareAt shares i;
       offset = record { typical = offsetIn false shares i; critical = offsetIn true shares i };
-      «virtual_deadline» = virtualOf (taskIn set i) (shareAt shares i .typical);
+      «virtual_deadline» = virtualDeadlineOf (taskIn set i) (shareAt shares i .typical);
     }
 
 -- What stands for a task that is not there.
@@ -95,4 +95,4 @@ allocatedWith (Refused number task) count allocations =
 unfoldable pub allocatedOf : List ℕ → Allocated
 allocatedOf sheet =
     allocatedWith (allocationAnswer sheet) (readOf sheet .set .count)
-    (allocationsOf (readOf sheet .set) (sharesOf (chosenFor (readOf sheet .set))))
+    (allocationsOf (readOf sheet .set) (sharesChosen (chosenFor (readOf sheet .set))))

@@ -6,7 +6,7 @@ ghost use Rattle.allocation.specs.Allocation.{noAllocation, allocationsO
 ghost use Rattle.allocation.specs.means.Bounds.{SharesFit};
 use crate::choice::choose;
 use reader::read;
-use shares::deadline::virtual_of;
+use shares::deadline::virtual_deadline_of;
 use shares::share::Share;
 use sheet::answer::Answer;
 use sheet::task::TaskSet;
@@ -64,7 +64,7 @@ pub fn allocations_of(set: TaskSet, shares: [Share; 16]) -> [Allocation; 16]
         allocations[i] = Allocation {
             share,
             offset: Offset { typical, critical },
-            virtual_deadline: virtual_of(task, share.typical),
+            virtual_deadline: virtual_deadline_of(task, share.typical),
         };
         typical += share.typical;
         critical += share.critical;

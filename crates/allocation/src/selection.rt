@@ -4,7 +4,7 @@ ghost use mathlib.Core.List.{[]};
 ghost use Prim.Native.Nat.{_+_, _≤_, min};
 ghost use lib.ListN.{length};
 ghost use Rattle.shares.specs.Offer.{tabulate};
-ghost use Rattle.allocation.specs.means.Selection.{cellAt, entryAt, leastFrom, bestShare, sumAt, totalWith, totalsOf, offersUpTo, lastTotals, selectionOf};
+ghost use Rattle.allocation.specs.means.Selection.{cellAt, leastFrom, bestShare, sumAt, totalWith, totalsOf, offersUpTo, lastTotals, selectionOf, totalAt};
 use crate::choice::Chosen;
 use shares::share::Share;
 use sheet::answer::Answer;
@@ -32,8 +32,8 @@ fn sum(x: u8, y: u8) -> u16
 // The first share of a task from 1 to t at which its critical share and the rest's total come to the least.
 fn best_share(offer: &[u8; 64], rest: &[u8; 65], t: u8) -> Best
     requires { ⌜ (1 ≤ t) × (t ≤ 64) ⌝ }
-    ensures share { λ r. ⌜ r .share ≡ bestShare (cellAt (now (offer .entry))) (entryAt (now (rest .entry))) t ⌝ }
-    ensures total { λ r. ⌜ r .sum ≡ sumAt (cellAt (now (offer .entry))) (entryAt (now (rest .entry))) t (r .share) ⌝ }
+    ensures share { λ r. ⌜ r .share ≡ bestShare (cellAt (now (offer .entry))) (totalAt (now (rest .entry))) t ⌝ }
+    ensures total { λ r. ⌜ r .sum ≡ sumAt (cellAt (now (offer .entry))) (totalAt (now (rest .entry))) t (r .share) ⌝ }
 {
     let end = t as usize;
     let mut best: usize = 1;
@@ -64,7 +64,7 @@ fn capped(x: u16, m: u8) -> u8
 // The totals of a task and of the tasks after it, which have the totals rest.
 fn totals_with(offer: [u8; 64], rest: [u8; 65], m: u8) -> [u8; 65]
     requires { ⌜ m ≤ 64 ⌝ }
-    ensures { λ r. ⌜ r ≡ tabulate (totalWith m (cellAt offer) (entryAt rest)) 0 65 ⌝ }
+    ensures { λ r. ⌜ r ≡ tabulate (totalWith m (cellAt offer) (totalAt rest)) 0 65 ⌝ }
 {
     let mut totals = [m + 1; 65];
     let mut t: u8 = 1;
@@ -110,7 +110,7 @@ fn last_totals(offers: &[[u8; 64]; 16], n: u8, m: u8) -> [Totals; 17]
 // The first typical total within m at which the critical total is least.
 fn first_least(totals: [u8; 65], m: u8) -> u8
     requires { ⌜ m ≤ 64 ⌝ }
-    ensures { λ r. ⌜ r ≡ leastFrom (entryAt totals) 0 m ⌝ }
+    ensures { λ r. ⌜ r ≡ leastFrom (totalAt totals) 0 m ⌝ }
 {
     let mut best: u8 = 0;
     let mut t: u8 = 0;

@@ -11,7 +11,7 @@ use borrow.Author.Tests.{not-true}
 use lib.ListN.{length, getD, take, drop, length-map, length-take, List·getD-map}
 use Rattle.sheet.specs.declared.answer.Answer.the-variants.{Refused}
 use Rattle.shares.specs.Totals.{shareIn}
-use Rattle.model.specs.Row.{Fixed, Job, Row, allEnded, fixedOf as rowFixed}
+use Rattle.model.specs.Row.{Fixed, Job, Row, allEnded, fixedPart as rowFixed}
 use Rattle.model.specs.Step.{Model, Call, release, tick, Refusal, step, stepBy, releaseRefusal, tickRefusal, released, ticked, switching, switchedTo, lowestLate, tickedRows, noRow, rowAt}
 use Rattle.model.proofs.Lasting.{KeptSound, fixed-step, length-step, sound-step}
 use Rattle.entries.specs.declared.state.TaskState.{TaskState}

@@ -5,7 +5,7 @@ use mathlib.Core.Bool.{Bool}
 use mathlib.Core.List.{List, [], _∷_, _++_, map}
 use native.Mathlib.Omega.{arith}
 use lib.ListN.{length, getD, set, take, drop, length-map, List·getD-map}
-use Rattle.model.specs.Row.{Fixed, Row, fixedOf as rowFixed}
+use Rattle.model.specs.Row.{Fixed, Row, fixedPart as rowFixed}
 use Rattle.shares.specs.Totals.{shareIn}
 use Rattle.model.specs.Step.{Model, noRow, rowAt, granted}
 use Rattle.entries.specs.declared.state.TaskState.{TaskState}

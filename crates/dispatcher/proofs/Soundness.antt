@@ -10,12 +10,12 @@ use Rattle.shares.specs.Totals.{shareTotal}
 use Rattle.model.specs.Row.{Row}
 use Rattle.entries.proofs.Soundness.{within-bounds}
 use Rattle.dispatcher.specs.declared.state.State.{State}
-use Rattle.dispatcher.specs.Holds.{entriesOf, modelOf, sharesOf}
+use Rattle.dispatcher.specs.Holds.{entriesOf, modelOf, rowShares}
 use Rattle.dispatcher.specs.Sound.{entriesSound, isSound}
 
 -- The sum of the rows' shares in one mode.
 abbrev pub sharesIn : Bool → List Row → ℕ
-sharesIn critical rows = shareTotal critical (sharesOf rows)
+sharesIn critical rows = shareTotal critical (rowShares rows)
 
 -- The state's tests: the ranges of M and n first, then what the entries say.
 pub ranges-broken : (s : State) → (within 1 64 (s .processors) && within 1 16 (s .count)) ≡ false → isSound s ≡ false

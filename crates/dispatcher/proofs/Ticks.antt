@@ -12,7 +12,7 @@ use lib.ListN.{length, getD, set, take, drop, length-map}
 use lib.Seq.{drop-cons, take-all, length-take-le}
 use Rattle.sheet.specs.Answers.{noTask}
 use Rattle.basics.specs.Numbers.{within}
-use Rattle.model.specs.Row.{Fixed, Row, isSubset, runningSet, tickedRow, isLate, switchedRow, fixedOf as rowFixed}
+use Rattle.model.specs.Row.{Fixed, Row, isSubset, runningSet, tickedRow, isLate, switchedRow, fixedPart as rowFixed}
 use Rattle.model.specs.Step.{Model, Refusal, refusal, wrongCount, notRunning, step, ticked, noRow, rowAt, granted, reportRefusal, tickRefusal, tickedRows, lowestLate, switching}
 use Rattle.model.proofs.Steps.{length-ticked}
 use Rattle.entries.specs.declared.state.TaskState.{TaskState}

@@ -12,7 +12,7 @@ use Rattle.model.specs.Row.{Row, running}
 use Rattle.model.specs.Step.{Model, granted}
 use Rattle.dispatcher.specs.declared.state.State.{State}
 use Rattle.dispatcher.specs.declared.board.Boarded.{Boarded}
-use Rattle.dispatcher.specs.Holds.{modelOf, sharesOf}
+use Rattle.dispatcher.specs.Holds.{modelOf, rowShares}
 use Rattle.dispatcher.specs.Sound.{isSound}
 use Rattle.dispatcher.specs.Answers.{notSound, wrongLength}
 
@@ -41,7 +41,7 @@ blocks grants i (r ∷ rows) = block (grants i) i r ++ blocks grants (suc i) row
 -- S8.8: the board: the blocks, and the processors behind all of them.
 unfoldable pub boardBytes : ℕ → Model → List ℕ
 boardBytes processors m =
-    blocks (granted m) 0 (m .rows) ++ idle (processors - shareTotal (m .critical) (sharesOf (m .rows)))
+    blocks (granted m) 0 (m .rows) ++ idle (processors - shareTotal (m .critical) (rowShares (m .rows)))
 
 -- S9.10, S9.16: Board's answer, where the buffer has so many bytes.
 unfoldable pub boardAnswer : State → ℕ → Answer

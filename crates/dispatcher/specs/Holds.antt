@@ -17,8 +17,8 @@ unfoldable pub modelOf : State → Model
 modelOf s = record { critical = s .critical; rows = map rowOf (entriesOf s) }
 
 -- S7.1: the shares of the tasks, in their order.
-abbrev pub sharesOf : List Row → List Share
-sharesOf rows = map (λ r. r .fixed .share) rows
+abbrev pub rowShares : List Row → List Share
+rowShares rows = map (λ r. r .fixed .share) rows
 
 -- The entries with the ages and the jobs of the rows. S7.3: one that no row stands for comes back as it was.
 abbrev pub withRows : List TaskState → List Row → List TaskState

@@ -7,7 +7,7 @@ use Rattle.shares.specs.Totals.{typicalTotal, criticalTotal}
 use Rattle.entries.specs.declared.state.TaskState.{TaskState}
 use Rattle.entries.specs.Sound.{entrySound}
 use Rattle.dispatcher.specs.declared.state.State.{State}
-use Rattle.dispatcher.specs.Holds.{entriesOf, modelOf, sharesOf}
+use Rattle.dispatcher.specs.Holds.{entriesOf, modelOf, rowShares}
 
 -- S7.2: whether each of these entries is sound.
 abbrev pub entriesSound : List TaskState → Bool
@@ -20,5 +20,5 @@ isSound s =
     within 1 64 (s .processors)
     && within 1 16 (s .count)
     && entriesSound (entriesOf s)
-    && leb (typicalTotal (sharesOf (modelOf s .rows))) (s .processors)
-    && leb (criticalTotal (sharesOf (modelOf s .rows))) (s .processors)
+    && leb (typicalTotal (rowShares (modelOf s .rows))) (s .processors)
+    && leb (criticalTotal (rowShares (modelOf s .rows))) (s .processors)

@@ -5,7 +5,7 @@ ghost use Prim.Native.Nat.{_≤_};
 ghost use lib.Dec.{leb};
 ghost use Rattle.basics.specs.Numbers.{within};
 ghost use Rattle.shares.specs.Totals.{typicalTotal, criticalTotal};
-ghost use Rattle.dispatcher.specs.Holds.{entriesOf, modelOf, sharesOf};
+ghost use Rattle.dispatcher.specs.Holds.{entriesOf, modelOf, rowShares};
 ghost use Rattle.dispatcher.specs.Sound.{entriesSound, isSound};
 use crate::state::State;
 use basics::numbers::is_within;
@@ -16,7 +16,7 @@ pub const NOT_SOUND: u8 = 10;
 // S7.2: whether each of the first n entries is sound and their shares fit M processors in either mode.
 fn entries_sound(state: State) -> bool
     requires { ⌜ state .count ≤ 16 ⌝ }
-    ensures { λ r. ⌜ r ≡ (entriesSound (entriesOf state) && leb (typicalTotal (sharesOf (modelOf state .rows))) (state .processors) && leb (criticalTotal (sharesOf (modelOf state .rows))) (state .processors)) ⌝ }
+    ensures { λ r. ⌜ r ≡ (entriesSound (entriesOf state) && leb (typicalTotal (rowShares (modelOf state .rows))) (state .processors) && leb (criticalTotal (rowShares (modelOf state .rows))) (state .processors)) ⌝ }
 {
     let n = state.count as usize;
     let processors = state.processors as u32;

@@ -30,7 +30,7 @@ use Rattle.model.proofs.Fresh.{fresh-length, fresh-row}
 use Rattle.entries.specs.declared.state.TaskState.{TaskState}
 use Rattle.dispatcher.specs.declared.state.State.{State}
 use Rattle.entries.specs.Entry.{fixedOf, jobOf, rowOf}
-use Rattle.dispatcher.specs.Holds.{entriesOf, modelOf, sharesOf}
+use Rattle.dispatcher.specs.Holds.{entriesOf, modelOf, rowShares}
 use Rattle.entries.specs.Sound.{entrySound}
 use Rattle.dispatcher.specs.Sound.{entriesSound, isSound}
 use Rattle.start.specs.Fresh.{freshEntry, zeroEntry}
@@ -53,7 +53,7 @@ all-sound [] each = refl
 all-sound (e ∷ es) each = ap₂ _&&_ (each 0 (omega arith)) (all-sound es (λ i h. each (suc i) (omega arith)))
 
 -- The shares of fresh rows total what the shares do.
-shares-fresh : (critical : Bool) (tasks : List Task) (shares : List Share) → shareTotal critical (sharesOf (freshRows tasks shares)) ≤ shareTotal critical shares
+shares-fresh : (critical : Bool) (tasks : List Task) (shares : List Share) → shareTotal critical (rowShares (freshRows tasks shares)) ≤ shareTotal critical shares
 unfolding freshRow
 shares-fresh critical [] shares = omega arith
 shares-fresh critical (t ∷ tasks) [] = omega arith
@@ -125,7 +125,7 @@ module _ (tasks : TaskSet) (lawful : LawfulSet tasks) (shares : List Share) (cho
       let inside : i < tasks .count = omega (arith, entries-length state entries-long, count-is) in
       rw (entries-at state entries-long i (omega (arith, count-is)), entry-is i inside) (entry-sound i inside))
 
-  shares-fit : (critical : Bool) → shareTotal critical (sharesOf (modelOf state .rows)) ≤ tasks .processors
+  shares-fit : (critical : Bool) → shareTotal critical (rowShares (modelOf state .rows)) ≤ tasks .processors
   unfolding fresh
   shares-fit critical =
       rw rows-is

@@ -20,7 +20,7 @@ use Rattle.dispatcher.specs.Holds.{modelOf}
 use Rattle.dispatcher.specs.Sound.{isSound}
 use Rattle.start.specs.Start.{freshState, startedWith, startOf}
 use Rattle.guarantee.specs.Runs.{allModelSaid}
-use Rattle.guarantee.specs.Guarantee.{tasksOf, sharesFor, modelFor, startState, Guaranteed, Guarantee, BesideGuarantee}
+use Rattle.guarantee.specs.Guarantee.{sharesFor, modelFor, startState, Guaranteed, Guarantee, BesideGuarantee, tasksFor}
 use Rattle.guarantee.proofs.Together.{run-said, run-model}
 use Rattle.guarantee.proofs.Planning.{planned}
 use Rattle.guarantee.proofs.Freshness.{fresh-model, fresh-sound}
@@ -35,37 +35,37 @@ module _ (sheet : List ℕ) (accepted : startOf sheet .answer ≡ Accepted) wher
   unfolding startOf
   answered = sym (answer-returned (allocationAnswer sheet) _) ∙ accepted
 
-  lawful : LawfulSet (tasksOf sheet)
-  unfolding tasksOf
+  lawful : LawfulSet (tasksFor sheet)
+  unfolding tasksFor
   lawful = read-lawful sheet answered
 
-  chosen-it : chosenFor (tasksOf sheet) ≡ some (sharesFor sheet)
-  unfolding tasksOf sharesFor
+  chosen-it : chosenFor (tasksFor sheet) ≡ some (sharesFor sheet)
+  unfolding tasksFor sharesFor
   chosen-it = read-chosen sheet answered
 
   -- What is fixed for the sheet's tasks.
-  fixed : (i : ℕ) → i < tasksOf sheet .count → allocationAt (allocatedOf sheet .allocations) i ≡ allocationOf (tasksOf sheet) (sharesFor sheet) i
-  unfolding tasksOf sharesFor
+  fixed : (i : ℕ) → i < tasksFor sheet .count → allocationAt (allocatedOf sheet .allocations) i ≡ allocationOf (tasksFor sheet) (sharesFor sheet) i
+  unfolding tasksFor sharesFor
   fixed = allocated-at sheet answered
 
-  state-is : startState sheet ≡ freshState (tasksOf sheet) (allocatedOf sheet .allocations)
-  unfolding startState startOf tasksOf
+  state-is : startState sheet ≡ freshState (tasksFor sheet) (allocatedOf sheet .allocations)
+  unfolding startState startOf tasksFor
   state-is = ap (λ (a : Answer). startedWith a (freshState (readOf sheet .set) (allocatedOf sheet .allocations)) .state) answered
 
   pub state-sound : isSound (startState sheet) ≡ true
-  state-sound = rw state-is (fresh-sound (tasksOf sheet) lawful (sharesFor sheet) chosen-it (allocatedOf sheet .allocations) fixed)
+  state-sound = rw state-is (fresh-sound (tasksFor sheet) lawful (sharesFor sheet) chosen-it (allocatedOf sheet .allocations) fixed)
 
   pub state-model : modelOf (startState sheet) ≡ modelFor sheet
   unfolding modelFor
-  state-model = rw state-is (fresh-model (tasksOf sheet) lawful (sharesFor sheet) chosen-it (allocatedOf sheet .allocations) fixed)
+  state-model = rw state-is (fresh-model (tasksFor sheet) lawful (sharesFor sheet) chosen-it (allocatedOf sheet .allocations) fixed)
 
-  sheet-planned : Planned (tasksOf sheet) (sharesFor sheet)
-  sheet-planned = planned (tasksOf sheet) lawful (sharesFor sheet) chosen-it
+  sheet-planned : Planned (tasksFor sheet) (sharesFor sheet)
+  sheet-planned = planned (tasksFor sheet) lawful (sharesFor sheet) chosen-it
 
   guaranteed : (calls : List Call) → Guaranteed sheet calls
   unfolding modelFor
   guaranteed calls =
-      let whole = demand3 (tasksOf sheet) (sharesFor sheet) sheet-planned calls in
+      let whole = demand3 (tasksFor sheet) (sharesFor sheet) sheet-planned calls in
       record {
         answers = run-said (startState sheet) state-sound calls ∙ ap (λ (m : Model). allModelSaid m calls) state-model;
         states = run-model (startState sheet) state-sound calls ∙ ap (λ (m : Model). after m calls) state-model;
@@ -74,8 +74,8 @@ module _ (sheet : List ℕ) (accepted : startOf sheet .answer ≡ Accepted) wher
         nominal = whole .nominal;
       }
 
-  besides : (calls : List Call) → Beside (tasksOf sheet) (sharesFor sheet) calls
-  besides calls = beside (tasksOf sheet) (sharesFor sheet) sheet-planned calls
+  besides : (calls : List Call) → Beside (tasksFor sheet) (sharesFor sheet) calls
+  besides calls = beside (tasksFor sheet) (sharesFor sheet) sheet-planned calls
 
 pub guarantee : Guarantee
 unfolding Guarantee

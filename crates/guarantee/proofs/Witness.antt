@@ -16,19 +16,19 @@ use Rattle.sheet.specs.declared.task.TaskSet.{TaskSet}
 use Rattle.sheet.specs.Answers.{_orElse_, firstOver}
 use Rattle.basics.specs.Numbers.{byteAt, u16At, u32At}
 use Rattle.basics.specs.Lists.{cellsFrom, allBelow, range}
-use Rattle.sheet.specs.Format.{processorsOf, countOf, offsetOf, lengthOf, startOf as placeOf, levelAt, nodesAt, figuresAt, masksAt, taskAt, zeroTask, tasksBelow, taskSetOf, taskIn}
+use Rattle.sheet.specs.Format.{processorsOf, countOf, offsetOf, lengthOf, levelAt, nodesAt, figuresAt, masksAt, taskAt, zeroTask, tasksBelow, taskSetOf, taskIn, placeOf}
 use Rattle.sheet.specs.Level.{levelLawful, isLow, isHigh, bytesBeforeMasks, figureLimit}
 use Rattle.sheet.specs.Rules.{shapeLawful, inRange, inOrder, lowLawful, figuresLawful, maskLawful, masksLawful, isHeavy, taskAnswer}
 use Rattle.reader.specs.declared.Reading.{Reading}
-use Rattle.reader.specs.Reading.{headerLawful, headerAnswer, placeAnswer, endAnswer, shapeAnswer, recordAnswer, answerOf, readOf}
+use Rattle.reader.specs.Reading.{headerLawful, headerAnswer, placeAnswer, endAnswer, shapeAnswer, recordAnswer, readOf, readAnswer}
 use Rattle.shares.specs.declared.share.Share.{Share}
 use Rattle.shares.specs.Test.{excess, demand, passes, virtualDeadline}
 use Rattle.shares.specs.Low.{ceilDiv, lowShare, hasLowShare}
-use Rattle.shares.specs.Deadline.{virtualOf}
+use Rattle.shares.specs.Deadline.{virtualDeadlineOf}
 use Rattle.nodes.specs.Sets.{has}
 use Rattle.nodes.proofs.Bits.{has-zero, has-power}
 use Rattle.allocation.specs.Choice.{lowOptions, pairsWithin, highOptions, optionsOf, fits, leastOf, fitting, chosen}
-use Rattle.allocation.specs.Allocation.{chosenFor, shareAnswer, choiceAnswer, sharesOf, allocationAnswer}
+use Rattle.allocation.specs.Allocation.{chosenFor, shareAnswer, choiceAnswer, allocationAnswer, sharesChosen}
 use Rattle.model.specs.Budget.{sumBelow, Chain, alone, link, along}
 use Rattle.model.specs.Row.{isSubset, allEnded, predecessorsOf, precedes, isReady, ready, running, runningSet, releasedRow, joined, tickedRow, isLate, survives, switchedRow}
 use Rattle.model.specs.Step.{Model, Call, release, tick, step, rowAt, granted, runningAt, unknownTask, lowInCritical, tooEarly, wrongCount, notRunning, releaseRefusal, tickRefusal, released, ticked}
@@ -38,7 +38,7 @@ use Rattle.model.specs.Claim.{begun, KeepsBudget, NominalJob, Ended, StaysTypic
 use Rattle.model.specs.Beside.{LowDeadline, TypicalUntil}
 use Rattle.start.specs.Start.{startOf}
 use Rattle.guarantee.specs.Runs.{allModelSaid}
-use Rattle.guarantee.specs.Guarantee.{tasksOf, sharesFor, modelFor, Guarantee, BesideGuarantee}
+use Rattle.guarantee.specs.Guarantee.{sharesFor, modelFor, Guarantee, BesideGuarantee, tasksFor}
 use Rattle.guarantee.specs.Witness.{twoTasks, highTask, longLengths, overrun, overrunSaid, shortLengths, usual, lowTask, lowAlone, InTimeAsked, NominalAsked, DeadlineMet, NominalMet, LowMet}
 use Rattle.guarantee.proofs.Theorem.{answer-returned, guarantee, beside-guarantee}
 use Rattle.guarantee.proofs.Truths.{allTrue, true-reports, allTypical, typical-until, at-releases}
@@ -72,11 +72,11 @@ pairs = record { typical = 1; critical = 2 } ∷ record { typical = 2; critical 
 
 -- S2, S5: the sheet gives these tasks and shares.
 read-both : readOf twoTasks ≡ record { answer = Accepted; set = both }
-unfolding firstOver byteAt u16At u32At processorsOf countOf offsetOf lengthOf placeOf cellsFrom levelAt nodesAt figuresAt masksAt taskAt zeroTask tasksBelow taskSetOf levelLawful shapeLawful inRange inOrder lowLawful figuresLawful maskLawful allBelow masksLawful isHeavy taskAnswer headerLawful headerAnswer placeAnswer endAnswer shapeAnswer recordAnswer answerOf readOf isHigh figureLimit bytesBeforeMasks
+unfolding firstOver byteAt u16At u32At processorsOf countOf offsetOf lengthOf placeOf cellsFrom levelAt nodesAt figuresAt masksAt taskAt zeroTask tasksBelow taskSetOf levelLawful shapeLawful inRange inOrder lowLawful figuresLawful maskLawful allBelow masksLawful isHeavy taskAnswer headerLawful headerAnswer placeAnswer endAnswer shapeAnswer recordAnswer readAnswer readOf isHigh figureLimit bytesBeforeMasks
 read-both = refl
 
-read-set : tasksOf twoTasks ≡ both
-unfolding tasksOf
+read-set : tasksFor twoTasks ≡ both
+unfolding tasksFor
 read-set = ap (λ (r : Reading). r .set) read-both
 
 both-chosen : (choiceAnswer both ≡ Accepted) × (chosenFor both ≡ some pairs)
@@ -111,8 +111,8 @@ firstLow = step start (release 1) .model
 model-is : modelFor twoTasks ≡ start
 unfolding modelFor sharesFor
 model-is =
-    ap (λ (ts : TaskSet). fresh ts (sharesOf (chosenFor ts))) read-set
-    ∙ ap (λ (c : Option (List Share)). fresh both (sharesOf c)) (both-chosen .1)
+    ap (λ (ts : TaskSet). fresh ts (sharesChosen (chosenFor ts))) read-set
+    ∙ ap (λ (c : Option (List Share)). fresh both (sharesChosen c)) (both-chosen .1)
 
 -- The high task has one edge, from node 1 to node 2, so that a chain is a node alone or these two.
 no-mask : (n v : ℕ) → _≡_ {A = ℕ} (getD (replicate n 0) v 0) 0
@@ -212,7 +212,7 @@ record Runs : Type 0 where
   pub low-again : isAccepted (after start lowAlone) (release 1) ≡ true
 
 runs : Runs
-unfolding fresh freshRow virtualOf isLow virtualDeadline has range isHigh isSubset allEnded predecessorsOf isReady ready running runningSet releasedRow joined tickedRow isLate survives switchedRow step rowAt granted runningAt unknownTask lowInCritical tooEarly wrongCount notRunning releaseRefusal tickRefusal released ticked isAccepted isRunning isDue
+unfolding fresh freshRow virtualDeadlineOf isLow virtualDeadline has range isHigh isSubset allEnded predecessorsOf isReady ready running runningSet releasedRow joined tickedRow isLate survives switchedRow step rowAt granted runningAt unknownTask lowInCritical tooEarly wrongCount notRunning releaseRefusal tickRefusal released ticked isAccepted isRunning isDue
 runs =
     record {
       begins = refl;

@@ -6,7 +6,7 @@ use Rattle.sheet.specs.declared.answer.Answer.the-variants.{Accepted}
 use Rattle.sheet.specs.declared.task.TaskSet.{TaskSet}
 use Rattle.reader.specs.Reading.{readOf}
 use Rattle.shares.specs.declared.share.Share.{Share}
-use Rattle.allocation.specs.Allocation.{chosenFor, sharesOf}
+use Rattle.allocation.specs.Allocation.{chosenFor, sharesChosen}
 use Rattle.model.specs.Step.{Model, Call}
 use Rattle.model.specs.Run.{after}
 use Rattle.model.specs.Plan.{fresh}
@@ -18,16 +18,16 @@ use Rattle.start.specs.Start.{startOf}
 use Rattle.guarantee.specs.Runs.{stateAfter, allSaid, allModelSaid}
 
 -- S2: the tasks that a sheet tells of.
-unfoldable pub tasksOf : List ℕ → TaskSet
-tasksOf sheet = readOf sheet .set
+unfoldable pub tasksFor : List ℕ → TaskSet
+tasksFor sheet = readOf sheet .set
 
 -- S5.3: the shares chosen for these tasks.
 unfoldable pub sharesFor : List ℕ → List Share
-sharesFor sheet = sharesOf (chosenFor (tasksOf sheet))
+sharesFor sheet = sharesChosen (chosenFor (tasksFor sheet))
 
 -- S10.2: the model of a run before its first call: fresh, and made of the sheet and its shares alone.
 unfoldable pub modelFor : List ℕ → Model
-modelFor sheet = fresh (tasksOf sheet) (sharesFor sheet)
+modelFor sheet = fresh (tasksFor sheet) (sharesFor sheet)
 
 -- S10.1: the state that a run starts from is Start's.
 unfoldable pub startState : List ℕ → State
@@ -40,11 +40,11 @@ pub record Guaranteed (sheet : List ℕ) (calls : List Call) : Type 0 where
   -- S10.3: the state holds what the model holds.
   pub states : modelOf (stateAfter (startState sheet) calls) ≡ after (modelFor sheet) calls
   -- S10.7: a high job that keeps the overload budget, with true reports, has ended with its D-th tick.
-  pub deadline : Deadline (tasksOf sheet) (sharesFor sheet) calls
+  pub deadline : Deadline (tasksFor sheet) (sharesFor sheet) calls
   -- S10.8: no task runs more nodes than its share, and all of them together run at most M.
-  pub capacity : Capacity (tasksOf sheet) (sharesFor sheet) (after (modelFor sheet) calls)
+  pub capacity : Capacity (tasksFor sheet) (sharesFor sheet) (after (modelFor sheet) calls)
   -- S10.9: while each high job keeps the nominal budget, with true reports, the mode stays typical and no tick says that it switched.
-  pub nominal : Nominal (tasksOf sheet) (sharesFor sheet) calls
+  pub nominal : Nominal (tasksFor sheet) (sharesFor sheet) calls
 
 -- S10.1: it holds of every sheet that Start accepts and of every list of calls, whatever their arguments and answers.
 unfoldable pub Guarantee : Type 0
@@ -53,4 +53,4 @@ Guarantee = (sheet : List ℕ) → startOf sheet .answer ≡ Accepted → (calls
 -- S10.10: what holds of the same runs beside it.
 unfoldable pub BesideGuarantee : Type 0
 BesideGuarantee =
-    (sheet : List ℕ) → startOf sheet .answer ≡ Accepted → (calls : List Call) → Beside (tasksOf sheet) (sharesFor sheet) calls
+    (sheet : List ℕ) → startOf sheet .answer ≡ Accepted → (calls : List Call) → Beside (tasksFor sheet) (sharesFor sheet) calls

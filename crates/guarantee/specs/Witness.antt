@@ -18,7 +18,7 @@ use Rattle.model.specs.Beside.{TypicalUntil}
 use Rattle.dispatcher.specs.declared.tick.TickAnswer.the-variants.{Ran, Switched, Refused as TickRefused}
 use Rattle.start.specs.Start.{startOf}
 use Rattle.guarantee.specs.Runs.{Said, released, ticked, allSaid}
-use Rattle.guarantee.specs.Guarantee.{tasksOf, modelFor, startState}
+use Rattle.guarantee.specs.Guarantee.{modelFor, startState, tasksFor}
 
 -- S2.6: the record of task 0. It is high, with D 8, CN 4, CO 9, LN 2, LO 3 and four nodes; node 2 waits for node 1, the others for
 -- none. Its shares are (1, 2), and its V is 4.
@@ -36,11 +36,11 @@ twoTasks = 3 ∷ 2 ∷ 10 ∷ 0 ∷ 28 ∷ 0 ∷ 38 ∷ 0 ∷ 20 ∷ 0 ∷ (high
 
 -- S2.5: task 0 of that sheet.
 abbrev pub highTask : Task
-highTask = taskIn (tasksOf twoTasks) 0
+highTask = taskIn (tasksFor twoTasks) 0
 
 -- S2.5: task 1 of that sheet.
 abbrev pub lowTask : Task
-lowTask = taskIn (tasksOf twoTasks) 1
+lowTask = taskIn (tasksFor twoTasks) 1
 
 -- S10.6: lengths of task 0's nodes that use up the overload budget: together 9, and 3 along the chain of nodes 1 and 2.
 abbrev pub longLengths : ℕ → ℕ
@@ -144,7 +144,7 @@ pub record NominalMet : Type 0 where
   pub high : isHigh (highTask .level) ≡ true
   pub jobs : releasesIn 0 (modelFor twoTasks) usual ≡ 2
   -- All that the nominal clause asks holds of it.
-  pub asked : NominalAsked (tasksOf twoTasks) (modelFor twoTasks) usual
+  pub asked : NominalAsked (tasksFor twoTasks) (modelFor twoTasks) usual
 
 -- S10.10 is met by a low job in typical mode, and by its task's next release.
 pub record LowMet : Type 0 where

@@ -13,7 +13,7 @@ use Rattle.basics.specs.Lists.{range}
 use Rattle.shares.specs.declared.share.Share.{Share}
 use Rattle.shares.specs.Totals.{shareIn, shareAt, shareTotal}
 use Rattle.model.specs.Budget.{sumBelow}
-use Rattle.model.specs.Row.{Fixed, Row, fixedOf, ready, running}
+use Rattle.model.specs.Row.{Fixed, Row, ready, running, fixedPart}
 use Rattle.model.specs.Step.{Model, Call, rowAt, noRow, granted, runningAt}
 use Rattle.model.specs.Run.{after}
 use Rattle.model.specs.Plan.{freshRow, freshRows, fresh, Planned}
@@ -42,7 +42,7 @@ totalFixed f (x ∷ xs) = f x + totalFixed f xs
 
 -- The same by the numbers of the rows.
 total-numbered : (f : Fixed → ℕ) (rows : List Row) →
-    sumBelow (length rows) (λ i. f (getD rows i noRow .fixed)) ≡ totalFixed f (map fixedOf rows)
+    sumBelow (length rows) (λ i. f (getD rows i noRow .fixed)) ≡ totalFixed f (map fixedPart rows)
 unfolding sumBelow
 total-numbered f [] = refl
 total-numbered f (r ∷ rows) =
@@ -50,7 +50,7 @@ total-numbered f (r ∷ rows) =
     ∙ ap (λ (n : ℕ). f (r .fixed) + n) (total-numbered f rows)
 
 total-fresh : (critical : Bool) (tasks : List Task) (shares : List Share) →
-    totalFixed (shareOf critical) (map fixedOf (freshRows tasks shares)) ≤ shareTotal critical shares
+    totalFixed (shareOf critical) (map fixedPart (freshRows tasks shares)) ≤ shareTotal critical shares
 unfolding freshRow
 total-fresh critical [] shares = zero-le
 total-fresh critical (t ∷ tasks) [] = zero-le

@@ -10,7 +10,7 @@ use Rattle.sheet.specs.declared.task.TaskSet.{TaskSet}
 use Rattle.shares.specs.declared.share.Share.{Share}
 use Rattle.shares.specs.Test.{excess, demand, passes, virtualDeadline}
 use Rattle.sheet.specs.Level.{isLow, isHigh}
-use Rattle.shares.specs.Deadline.{virtualOf}
+use Rattle.shares.specs.Deadline.{virtualDeadlineOf}
 use Rattle.nodes.proofs.Bits.{has-zero}
 use Rattle.model.specs.Budget.{sumBelow, Chain, alone as single, link, along}
 use Rattle.sheet.specs.Format.{taskIn}
@@ -50,7 +50,7 @@ sharesA = record { typical = 1; critical = 2 } ∷ []
 
 -- S11.2: V is 9, and its fresh model is the one of the worked facts.
 fresh-alone : fresh sheetA sharesA ≡ alone
-unfolding fresh freshRow virtualOf isLow isHigh virtualDeadline
+unfolding fresh freshRow virtualDeadlineOf isLow isHigh virtualDeadline
 fresh-alone = refl
 
 -- The task set and the shares are planned.

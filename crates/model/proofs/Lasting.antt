@@ -12,64 +12,64 @@ use lib.ListN.{length, getD, length-map, List·getD-map, List·getD-eq-default}
 use lib.Pow.{pow-pos}
 use lib.Seq.{map-set-same}
 use Rattle.nodes.proofs.Bits.{has-zero}
-use Rattle.model.specs.Row.{Fixed, Row, fixedOf, isSubset, allEnded, runningSet, releasedRow, joined, tickedRow, switchedRow}
+use Rattle.model.specs.Row.{Fixed, Row, isSubset, allEnded, runningSet, releasedRow, joined, tickedRow, switchedRow, fixedPart}
 use Rattle.model.specs.Step.{Model, Call, release, tick, Step, rowAt, noRow, granted, released, tickedRows, lowestLate, switchedTo, switching, ticked}
 use Rattle.model.specs.Run.{after, isAccepted, isReleaseOf}
 use Rattle.model.specs.Beside.{SoundRow}
 use Rattle.model.proofs.Nodes.{running-below, subset-below, all-ended-at}
 use Rattle.model.proofs.Steps.{next, Turn, same, begins, ticks, Settled, stays-critical, stays-typical, turns, turn, release-of, accepted-step, refused-step}
 
-fixed-ticked : (rows : List Row) (reports : List ℕ) → map fixedOf (tickedRows rows reports) ≡ map fixedOf rows
+fixed-ticked : (rows : List Row) (reports : List ℕ) → map fixedPart (tickedRows rows reports) ≡ map fixedPart rows
 unfolding tickedRow
 fixed-ticked [] reports = refl
 fixed-ticked (r ∷ rows) [] = refl
 fixed-ticked (r ∷ rows) (x ∷ reports) = ap (λ (fs : List Fixed). r .fixed ∷ fs) (fixed-ticked rows reports)
 
-fixed-switched : (rows : List Row) → map fixedOf (map switchedRow rows) ≡ map fixedOf rows
+fixed-switched : (rows : List Row) → map fixedPart (map switchedRow rows) ≡ map fixedPart rows
 unfolding switchedRow
 fixed-switched [] = refl
 fixed-switched (r ∷ rows) = ap (λ (fs : List Fixed). r .fixed ∷ fs) (fixed-switched rows)
 
-fixed-switching : (critical : Bool) (rows : List Row) → map fixedOf (switching critical rows .model .rows) ≡ map fixedOf rows
+fixed-switching : (critical : Bool) (rows : List Row) → map fixedPart (switching critical rows .model .rows) ≡ map fixedPart rows
 fixed-switching true rows = refl
 fixed-switching false rows = go (lowestLate 0 rows)
   where
-    go : (o : Option ℕ) → map fixedOf (switchedTo rows o .model .rows) ≡ map fixedOf rows
+    go : (o : Option ℕ) → map fixedPart (switchedTo rows o .model .rows) ≡ map fixedPart rows
     go none = refl
     go (some j) = fixed-switched rows
 
-fixed-accepted : (m : Model) (c : Call) → isAccepted m c ≡ true → map fixedOf (next m c .rows) ≡ map fixedOf (m .rows)
+fixed-accepted : (m : Model) (c : Call) → isAccepted m c ≡ true → map fixedPart (next m c .rows) ≡ map fixedPart (m .rows)
 unfolding released ticked releasedRow rowAt
 fixed-accepted m (release i) e =
-    ap (λ (s : Step). map fixedOf (s .model .rows)) (accepted-step m (release i) e)
-    ∙ map-set-same fixedOf (m .rows) i (releasedRow (rowAt m i)) noRow refl
+    ap (λ (s : Step). map fixedPart (s .model .rows)) (accepted-step m (release i) e)
+    ∙ map-set-same fixedPart (m .rows) i (releasedRow (rowAt m i)) noRow refl
 fixed-accepted m (tick reports) e =
-    ap (λ (s : Step). map fixedOf (s .model .rows)) (accepted-step m (tick reports) e)
+    ap (λ (s : Step). map fixedPart (s .model .rows)) (accepted-step m (tick reports) e)
     ∙ fixed-switching (m .critical) (tickedRows (m .rows) reports)
     ∙ fixed-ticked (m .rows) reports
 
 -- No call changes what is fixed.
-pub fixed-step : (m : Model) (c : Call) → map fixedOf (next m c .rows) ≡ map fixedOf (m .rows)
+pub fixed-step : (m : Model) (c : Call) → map fixedPart (next m c .rows) ≡ map fixedPart (m .rows)
 fixed-step m c = go (isAccepted m c) refl
   where
-    go : (t : Bool) → isAccepted m c ≡ t → map fixedOf (next m c .rows) ≡ map fixedOf (m .rows)
+    go : (t : Bool) → isAccepted m c ≡ t → map fixedPart (next m c .rows) ≡ map fixedPart (m .rows)
     go true e = fixed-accepted m c e
-    go false e = ap (λ (n : Model). map fixedOf (n .rows)) (refused-step m c e)
+    go false e = ap (λ (n : Model). map fixedPart (n .rows)) (refused-step m c e)
 
-pub fixed-after : (m : Model) (calls : List Call) → map fixedOf (after m calls .rows) ≡ map fixedOf (m .rows)
+pub fixed-after : (m : Model) (calls : List Call) → map fixedPart (after m calls .rows) ≡ map fixedPart (m .rows)
 fixed-after m [] = refl
 fixed-after m (c ∷ calls) = fixed-after (next m c) calls ∙ fixed-step m c
 
 -- Rows with the same fixed parts: there are as many, and each has its own.
-pub same-length : (m n : Model) → map fixedOf (m .rows) ≡ map fixedOf (n .rows) → length (m .rows) ≡ length (n .rows)
-same-length m n e = sym (length-map (m .rows) fixedOf) ∙ ap length e ∙ length-map (n .rows) fixedOf
+pub same-length : (m n : Model) → map fixedPart (m .rows) ≡ map fixedPart (n .rows) → length (m .rows) ≡ length (n .rows)
+same-length m n e = sym (length-map (m .rows) fixedPart) ∙ ap length e ∙ length-map (n .rows) fixedPart
 
-pub same-fixed : (m n : Model) → map fixedOf (m .rows) ≡ map fixedOf (n .rows) → (i : ℕ) → rowAt m i .fixed ≡ rowAt n i .fixed
+pub same-fixed : (m n : Model) → map fixedPart (m .rows) ≡ map fixedPart (n .rows) → (i : ℕ) → rowAt m i .fixed ≡ rowAt n i .fixed
 unfolding rowAt
 same-fixed m n e i =
-    sym (List·getD-map fixedOf (m .rows) i noRow)
+    sym (List·getD-map fixedPart (m .rows) i noRow)
     ∙ ap (λ (fs : List Fixed). getD fs i (noRow .fixed)) e
-    ∙ List·getD-map fixedOf (n .rows) i noRow
+    ∙ List·getD-map fixedPart (n .rows) i noRow
 
 pub length-step : (m : Model) (c : Call) → length (next m c .rows) ≡ length (m .rows)
 length-step m c = same-length (next m c) m (fixed-step m c)

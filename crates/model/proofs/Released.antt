@@ -11,7 +11,7 @@ use Rattle.sheet.specs.declared.task.TaskSet.{TaskSet}
 use Rattle.shares.specs.declared.share.Share.{Share}
 use Rattle.shares.specs.Test.{virtualDeadline}
 use Rattle.sheet.specs.Level.{isLow, isHigh}
-use Rattle.shares.specs.Deadline.{virtualOf}
+use Rattle.shares.specs.Deadline.{virtualDeadlineOf}
 use Rattle.model.specs.Budget.{Keeps}
 use Rattle.model.specs.Row.{Fixed, Row, precedes, allEnded}
 use Rattle.model.specs.Step.{Model, Call, release, rowAt}
@@ -36,7 +36,7 @@ plannedFixed ts shares i = freshRow (taskIn ts i) (shareAt shares i) .fixed
 pub high-fixed : (ts : TaskSet) (shares : List Share) (i : ℕ) → isHigh (taskIn ts i .level) ≡ true →
     (isHigh (plannedFixed ts shares i .level) ≡ true)
     × (plannedFixed ts shares i .virtualDeadline ≡ virtualDeadline (taskIn ts i .figures) (shareAt shares i .typical))
-unfolding freshRow virtualOf isLow
+unfolding freshRow virtualDeadlineOf isLow
 high-fixed ts shares i e = (e, ap (λ (high : Bool). cond (not high) 0 (virtualDeadline (taskIn ts i .figures) (shareAt shares i .typical))) e)
 
 module _ (ts : TaskSet) (shares : List Share) (planned : Planned ts shares) where

@@ -9,7 +9,7 @@ use Rattle.shares.specs.declared.share.Share.{Share}
 use Rattle.sheet.specs.Format.{taskIn}
 use Rattle.nodes.specs.Sets.{has}
 use Rattle.sheet.specs.Level.{isLow}
-use Rattle.model.specs.Row.{Row, fixedOf, precedes, allEnded, ready, running}
+use Rattle.model.specs.Row.{Row, precedes, allEnded, ready, running, fixedPart}
 use Rattle.model.specs.Step.{Model, Call, release, rowAt}
 use Rattle.model.specs.Run.{after, isAccepted, ticksIn, TrueReports}
 use Rattle.model.specs.Plan.{fresh}
@@ -47,7 +47,7 @@ pub record SoundRow (r : Row) : Type 0 where
 
 -- S10.10: what the sheet and the plan fix stays as it was at the start, and each task's job stays sound.
 pub record Lasting (ts : TaskSet) (shares : List Share) (m : Model) : Type 0 where
-  pub fixed : map fixedOf (m .rows) ≡ map fixedOf (fresh ts shares .rows)
+  pub fixed : map fixedPart (m .rows) ≡ map fixedPart (fresh ts shares .rows)
   pub sound : (i : ℕ) → SoundRow (rowAt m i)
 
 -- S8.2, node by node: v is a node of an alive job, it has not ended, and each of its predecessors has.

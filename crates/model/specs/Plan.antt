@@ -12,7 +12,7 @@ use Rattle.sheet.specs.Format.{taskIn}
 use Rattle.shares.specs.Totals.{shareAt, shareTotal}
 use Rattle.shares.specs.Test.{passes}
 use Rattle.shares.specs.Low.{lowShare}
-use Rattle.shares.specs.Deadline.{virtualOf}
+use Rattle.shares.specs.Deadline.{virtualDeadlineOf}
 use Rattle.sheet.specs.Level.{isHigh, isLow}
 use Rattle.model.specs.Row.{Row, predecessorsOf}
 use Rattle.model.specs.Step.{Model}
@@ -27,7 +27,7 @@ freshRow t s =
             nodes = t .nodes;
             predecessors = t .predecessors;
             deadline = t .figures .deadline;
-            virtualDeadline = virtualOf t (s .typical);
+            virtualDeadline = virtualDeadlineOf t (s .typical);
             share = s;
           };
       age = t .figures .deadline;

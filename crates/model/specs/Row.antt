@@ -31,8 +31,8 @@ pub record Row : Type 0 where
   pub job : Job
 
 -- What is fixed of a row.
-abbrev pub fixedOf : Row → Fixed
-fixedOf r = r .fixed
+abbrev pub fixedPart : Row → Fixed
+fixedPart r = r .fixed
 
 -- S1.2: whether each node of one set is in the other: what both have is all of the one.
 unfoldable pub isSubset : ℕ → ℕ → Bool

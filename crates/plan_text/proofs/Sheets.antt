@@ -4,14 +4,14 @@ use mathlib.Core.List.{[], _∷_, _++_}
 use Rattle.sheet.specs.Answers.{firstOver}
 use Rattle.basics.specs.Numbers.{byteAt, u16At, u32At}
 use Rattle.basics.specs.Lists.{cellsFrom, allBelow, range}
-use Rattle.sheet.specs.Format.{processorsOf, countOf, offsetOf, lengthOf, startOf, levelAt, nodesAt, figuresAt, masksAt, taskAt, zeroTask, tasksBelow, taskSetOf, zeroTaskSet, taskIn}
+use Rattle.sheet.specs.Format.{processorsOf, countOf, offsetOf, lengthOf, levelAt, nodesAt, figuresAt, masksAt, taskAt, zeroTask, tasksBelow, taskSetOf, zeroTaskSet, taskIn, placeOf}
 use Rattle.sheet.specs.Level.{levelLawful, isLow, bytesBeforeMasks, figureLimit, isHigh}
 use Rattle.sheet.specs.Rules.{shapeLawful, inRange, inOrder, lowLawful, figuresLawful, maskLawful, masksLawful, isHeavy, taskAnswer}
 use Rattle.reader.proofs.Worked.{sheetABE}
-use Rattle.reader.specs.Reading.{headerLawful, headerAnswer, placeAnswer, endAnswer, shapeAnswer, recordAnswer, answerOf, readOf}
+use Rattle.reader.specs.Reading.{headerLawful, headerAnswer, placeAnswer, endAnswer, shapeAnswer, recordAnswer, readOf, readAnswer}
 use Rattle.shares.specs.Test.{excess, demand, passes, virtualDeadline}
 use Rattle.shares.specs.Low.{ceilDiv, lowShare, hasLowShare}
-use Rattle.shares.specs.Deadline.{virtualOf}
+use Rattle.shares.specs.Deadline.{virtualDeadlineOf}
 use Rattle.allocation.specs.Choice.{lowOptions, pairsWithin, highOptions, optionsOf, fits, leastOf, fitting, chosen}
 use Rattle.shares.specs.Totals.{shareAt}
 use Rattle.allocation.specs.Blocks.{offsetIn}
@@ -35,5 +35,5 @@ pub record Sheets : Type 0 where
   pub too-long : textOf (sheetABE 8 ++ 0 ∷ []) ≡ 114 ∷ 101 ∷ 102 ∷ 117 ∷ 115 ∷ 101 ∷ 100 ∷ 32 ∷ 50 ∷ 32 ∷ 50 ∷ 10 ∷ []
 
 sheets : Sheets
-unfolding firstOver byteAt u16At u32At processorsOf countOf offsetOf lengthOf startOf cellsFrom levelAt nodesAt figuresAt masksAt taskAt zeroTask tasksBelow taskSetOf zeroTaskSet taskIn levelLawful shapeLawful inRange inOrder lowLawful figuresLawful maskLawful allBelow masksLawful isHeavy taskAnswer headerLawful headerAnswer placeAnswer endAnswer shapeAnswer recordAnswer answerOf readOf excess demand passes virtualDeadline isLow ceilDiv lowShare hasLowShare virtualOf range lowOptions pairsWithin highOptions optionsOf fits leastOf fitting chosen offsetIn chosenFor shareAnswer choiceAnswer shareAt allocationOf allocationsOf allocationAt allocationAnswer allocatedOf digitsWithin decimal fieldsOf planLines refusalLine textOf isHigh figureLimit bytesBeforeMasks
+unfolding firstOver byteAt u16At u32At processorsOf countOf offsetOf lengthOf placeOf cellsFrom levelAt nodesAt figuresAt masksAt taskAt zeroTask tasksBelow taskSetOf zeroTaskSet taskIn levelLawful shapeLawful inRange inOrder lowLawful figuresLawful maskLawful allBelow masksLawful isHeavy taskAnswer headerLawful headerAnswer placeAnswer endAnswer shapeAnswer recordAnswer readAnswer readOf excess demand passes virtualDeadline isLow ceilDiv lowShare hasLowShare virtualDeadlineOf range lowOptions pairsWithin highOptions optionsOf fits leastOf fitting chosen offsetIn chosenFor shareAnswer choiceAnswer shareAt allocationOf allocationsOf allocationAt allocationAnswer allocatedOf digitsWithin decimal fieldsOf planLines refusalLine textOf isHigh figureLimit bytesBeforeMasks
 sheets = record { no-bytes = refl; printed = refl; no-fit = refl; no-share = refl; too-long = refl }

@@ -8,19 +8,19 @@ use Rattle.sheet.specs.declared.answer.Answer.the-variants.{Accepted, Refused}
 use Rattle.sheet.specs.Answers.{firstOver}
 use Rattle.basics.specs.Numbers.{byteAt, u16At, u32At}
 use Rattle.basics.specs.Lists.{cellsFrom, allBelow, range}
-use Rattle.sheet.specs.Format.{processorsOf, countOf, offsetOf, lengthOf, startOf, levelAt, nodesAt, figuresAt, masksAt, taskAt, zeroTask, tasksBelow, taskSetOf, taskIn}
+use Rattle.sheet.specs.Format.{processorsOf, countOf, offsetOf, lengthOf, levelAt, nodesAt, figuresAt, masksAt, taskAt, zeroTask, tasksBelow, taskSetOf, taskIn, placeOf}
 use Rattle.sheet.specs.Level.{levelLawful, isLow, bytesBeforeMasks, figureLimit, isHigh}
 use Rattle.sheet.specs.Rules.{shapeLawful, inRange, inOrder, lowLawful, figuresLawful, maskLawful, masksLawful, isHeavy, taskAnswer}
 use Rattle.reader.proofs.Worked.{sheetABE}
-use Rattle.reader.specs.Reading.{headerLawful, headerAnswer, placeAnswer, endAnswer, shapeAnswer, recordAnswer, answerOf, readOf}
-use Rattle.shares.specs.Deadline.{virtualOf}
+use Rattle.reader.specs.Reading.{headerLawful, headerAnswer, placeAnswer, endAnswer, shapeAnswer, recordAnswer, readOf, readAnswer}
+use Rattle.shares.specs.Deadline.{virtualDeadlineOf}
 use Rattle.shares.specs.Low.{ceilDiv, lowShare, hasLowShare}
 use Rattle.shares.specs.Test.{excess, demand, passes, virtualDeadline}
 use Rattle.allocation.specs.Choice.{lowOptions, pairsWithin, highOptions, optionsOf, fits, leastOf, fitting, chosen}
 use Rattle.shares.specs.Totals.{shareAt}
 use Rattle.sheet.specs.declared.task.TaskSet.{TaskSet}
 use Rattle.allocation.specs.Blocks.{offsetIn}
-use Rattle.allocation.specs.Allocation.{chosenFor, shareAnswer, choiceAnswer, sharesOf, allocationOf, allocationsOf, allocationAt, allocationAnswer, allocatedOf}
+use Rattle.allocation.specs.Allocation.{chosenFor, shareAnswer, choiceAnswer, allocationOf, allocationsOf, allocationAt, allocationAnswer, allocatedOf, sharesChosen}
 use Rattle.allocation.specs.declared.allocate.Allocation.{Allocation}
 use Rattle.allocation.proofs.Worked.{pair, on, ab}
 use Rattle.planner.specs.Plan.{blockBytes, wordBytes, virtualBytes, planBytes, planAnswer, planned}
@@ -54,7 +54,7 @@ three = allocationsOf (record { processors = 64; count = 3; tasks = [] }) (pair 
 
 -- The plan of a task set, with the shares that are chosen for it.
 abbrev planFor : TaskSet → List ℕ
-planFor set = planBytes (set .count) (allocationsOf set (sharesOf (chosenFor set)))
+planFor set = planBytes (set .count) (allocationsOf set (sharesChosen (chosenFor set)))
 
 pub record Worked : Type 0 where
   -- S5.4: the blocks of three tasks, the last of which has none in critical mode.
@@ -82,7 +82,7 @@ pub record Worked : Type 0 where
   pub sheet-room : planAnswer (sheetABE 8) 17 ≡ Refused 9 255
 
 pub worked : Worked
-unfolding byteAt u16At u32At processorsOf countOf offsetOf lengthOf startOf cellsFrom levelAt nodesAt figuresAt masksAt taskAt zeroTask tasksBelow taskSetOf taskIn levelLawful shapeLawful inRange inOrder lowLawful figuresLawful maskLawful allBelow masksLawful isHeavy taskAnswer firstOver headerLawful headerAnswer placeAnswer endAnswer shapeAnswer recordAnswer answerOf readOf virtualOf isLow ceilDiv lowShare hasLowShare excess demand passes virtualDeadline range lowOptions pairsWithin highOptions optionsOf fits leastOf fitting chosen offsetIn chosenFor shareAnswer choiceAnswer shareAt allocationOf allocationsOf allocationAt allocationAnswer allocatedOf blockBytes virtualBytes planBytes planAnswer planned isHigh figureLimit bytesBeforeMasks
+unfolding byteAt u16At u32At processorsOf countOf offsetOf lengthOf placeOf cellsFrom levelAt nodesAt figuresAt masksAt taskAt zeroTask tasksBelow taskSetOf taskIn levelLawful shapeLawful inRange inOrder lowLawful figuresLawful maskLawful allBelow masksLawful isHeavy taskAnswer firstOver headerLawful headerAnswer placeAnswer endAnswer shapeAnswer recordAnswer readAnswer readOf virtualDeadlineOf isLow ceilDiv lowShare hasLowShare excess demand passes virtualDeadline range lowOptions pairsWithin highOptions optionsOf fits leastOf fitting chosen offsetIn chosenFor shareAnswer choiceAnswer shareAt allocationOf allocationsOf allocationAt allocationAnswer allocatedOf blockBytes virtualBytes planBytes planAnswer planned isHigh figureLimit bytesBeforeMasks
 worked =
     record {
       typical-blocks = refl;

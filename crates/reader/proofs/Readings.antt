@@ -13,7 +13,7 @@ use Rattle.sheet.specs.declared.task.TaskSet.{TaskSet}
 use Rattle.sheet.specs.Answers.{_orElse_, firstOver}
 use Rattle.sheet.specs.Format.{processorsOf, countOf, tasksBelow, taskSetOf, zeroTaskSet}
 use Rattle.basics.specs.Numbers.{within}
-use Rattle.reader.specs.Reading.{headerLawful, headerAnswer, placeAnswer, endAnswer, recordAnswer, answerOf, readingOf}
+use Rattle.reader.specs.Reading.{headerLawful, headerAnswer, placeAnswer, endAnswer, recordAnswer, readingOf, readAnswer}
 use Rattle.basics.proofs.Logic.{left-true, right-true}
 use Rattle.sheet.proofs.Faults.{kept, broken, after-accepted, after-refused}
 
@@ -36,21 +36,21 @@ orElse-assoc (Refused number task) y z = refl
 
 -- The whole answer, cause by cause, for a sheet whose directory has the answer `places`.
 module _ (s : List ℕ) (n : ℕ) (count : n ≡ countOf s) where
-  pub answer-header : headerLawful s ≡ false → answerOf s ≡ Refused 1 255
-  unfolding answerOf headerAnswer
+  pub answer-header : headerLawful s ≡ false → readAnswer s ≡ Refused 1 255
+  unfolding readAnswer headerAnswer
   answer-header e = after-refused _ _ (broken (headerLawful s) 1 255 e)
 
-  answer-directory : headerLawful s ≡ true → answerOf s ≡ ((firstOver (placeAnswer s) 0 n orElse endAnswer s) orElse firstOver (recordAnswer s) 0 n)
-  unfolding answerOf headerAnswer
+  answer-directory : headerLawful s ≡ true → readAnswer s ≡ ((firstOver (placeAnswer s) 0 n orElse endAnswer s) orElse firstOver (recordAnswer s) 0 n)
+  unfolding readAnswer headerAnswer
   answer-directory e =
       after-accepted _ _ (kept (headerLawful s) 1 255 e)
       ∙ rw (← count) (sym (orElse-assoc (firstOver (placeAnswer s) 0 n) (endAnswer s) (firstOver (recordAnswer s) 0 n)))
 
-  pub answer-places : (places : Answer) {number task : ℕ} → headerLawful s ≡ true → places ≡ (firstOver (placeAnswer s) 0 n orElse endAnswer s) → places ≡ Refused number task → answerOf s ≡ places
+  pub answer-places : (places : Answer) {number task : ℕ} → headerLawful s ≡ true → places ≡ (firstOver (placeAnswer s) 0 n orElse endAnswer s) → places ≡ Refused number task → readAnswer s ≡ places
   answer-places places e same refused =
       answer-directory e ∙ rw (← same) (after-refused _ _ refused ∙ sym refused)
 
-  pub answer-records : (places : Answer) → headerLawful s ≡ true → places ≡ (firstOver (placeAnswer s) 0 n orElse endAnswer s) → places ≡ Accepted → answerOf s ≡ firstOver (recordAnswer s) 0 n
+  pub answer-records : (places : Answer) → headerLawful s ≡ true → places ≡ (firstOver (placeAnswer s) 0 n orElse endAnswer s) → places ≡ Accepted → readAnswer s ≡ firstOver (recordAnswer s) 0 n
   answer-records places e same accepted = answer-directory e ∙ rw (← same) (after-accepted _ _ accepted)
 
 -- A lawful header names 1 to 16 tasks.

@@ -8,11 +8,11 @@ use Rattle.sheet.specs.declared.task.Task.{Task}
 use Rattle.sheet.specs.Answers.{firstOver}
 use Rattle.basics.specs.Numbers.{byteAt, u16At, u32At}
 use Rattle.basics.specs.Lists.{cellsFrom, allBelow}
-use Rattle.sheet.specs.Format.{processorsOf, countOf, offsetOf, lengthOf, startOf, levelAt, nodesAt, figuresAt, masksAt, taskAt, zeroTask, tasksBelow, taskSetOf, zeroTaskSet}
+use Rattle.sheet.specs.Format.{processorsOf, countOf, offsetOf, lengthOf, levelAt, nodesAt, figuresAt, masksAt, taskAt, zeroTask, tasksBelow, taskSetOf, zeroTaskSet, placeOf}
 use Rattle.sheet.specs.Level.{levelLawful, bytesBeforeMasks, figureLimit, isHigh}
 use Rattle.sheet.specs.Rules.{shapeLawful, inRange, inOrder, lowLawful, figuresLawful, maskLawful, masksLawful, isHeavy, taskAnswer}
 use Rattle.sheet.proofs.Worked.{figures}
-use Rattle.reader.specs.Reading.{headerLawful, headerAnswer, placeAnswer, endAnswer, shapeAnswer, recordAnswer, answerOf, readOf}
+use Rattle.reader.specs.Reading.{headerLawful, headerAnswer, placeAnswer, endAnswer, shapeAnswer, recordAnswer, readOf, readAnswer}
 
 -- A record of one node with small figures: level, D, CN, CO, LN, LO and the mask.
 abbrev small : ℕ → ℕ → ℕ → ℕ → ℕ → ℕ → ℕ → List ℕ
@@ -59,47 +59,47 @@ many n = 8 ∷ n ∷ entries (2 + 4 * n) n ++ copies n
 
 pub record Worked : Type 0 where
   -- S9.1: fewer than two bytes, and a directory that the sheet cuts short.
-  pub empty : answerOf [] ≡ Refused 1 255
-  pub one-byte : answerOf (8 ∷ []) ≡ Refused 1 255
-  pub cut-short : answerOf (8 ∷ 1 ∷ 6 ∷ 0 ∷ 16 ∷ []) ≡ Refused 1 255
+  pub empty : readAnswer [] ≡ Refused 1 255
+  pub one-byte : readAnswer (8 ∷ []) ≡ Refused 1 255
+  pub cut-short : readAnswer (8 ∷ 1 ∷ 6 ∷ 0 ∷ 16 ∷ []) ≡ Refused 1 255
   -- S2.1: M from 1 to 64.
-  pub no-processor : answerOf (0 ∷ 1 ∷ 6 ∷ 0 ∷ 16 ∷ 0 ∷ taskA) ≡ Refused 1 255
-  pub one-processor : answerOf (1 ∷ 1 ∷ 6 ∷ 0 ∷ 16 ∷ 0 ∷ taskA) ≡ Accepted
-  pub most-processors : answerOf (64 ∷ 1 ∷ 6 ∷ 0 ∷ 16 ∷ 0 ∷ taskA) ≡ Accepted
-  pub processors-above : answerOf (65 ∷ 1 ∷ 6 ∷ 0 ∷ 16 ∷ 0 ∷ taskA) ≡ Refused 1 255
+  pub no-processor : readAnswer (0 ∷ 1 ∷ 6 ∷ 0 ∷ 16 ∷ 0 ∷ taskA) ≡ Refused 1 255
+  pub one-processor : readAnswer (1 ∷ 1 ∷ 6 ∷ 0 ∷ 16 ∷ 0 ∷ taskA) ≡ Accepted
+  pub most-processors : readAnswer (64 ∷ 1 ∷ 6 ∷ 0 ∷ 16 ∷ 0 ∷ taskA) ≡ Accepted
+  pub processors-above : readAnswer (65 ∷ 1 ∷ 6 ∷ 0 ∷ 16 ∷ 0 ∷ taskA) ≡ Refused 1 255
   -- S2.2: n from 1 to 16.
-  pub no-task : answerOf (8 ∷ 0 ∷ []) ≡ Refused 1 255
-  pub one-task : answerOf (many 1) ≡ Accepted
-  pub most-tasks : answerOf (many 16) ≡ Accepted
-  pub tasks-above : answerOf (many 17) ≡ Refused 1 255
+  pub no-task : readAnswer (8 ∷ 0 ∷ []) ≡ Refused 1 255
+  pub one-task : readAnswer (many 1) ≡ Accepted
+  pub most-tasks : readAnswer (many 16) ≡ Accepted
+  pub tasks-above : readAnswer (many 17) ≡ Refused 1 255
   -- S9.2: the first record out of place, and the second.
-  pub first-place : answerOf (8 ∷ 1 ∷ 7 ∷ 0 ∷ 16 ∷ 0 ∷ 0 ∷ taskA) ≡ Refused 2 0
-  pub second-place : answerOf (8 ∷ 2 ∷ 10 ∷ 0 ∷ 16 ∷ 0 ∷ 27 ∷ 0 ∷ 16 ∷ 0 ∷ taskA ++ 0 ∷ taskB) ≡ Refused 2 1
+  pub first-place : readAnswer (8 ∷ 1 ∷ 7 ∷ 0 ∷ 16 ∷ 0 ∷ 0 ∷ taskA) ≡ Refused 2 0
+  pub second-place : readAnswer (8 ∷ 2 ∷ 10 ∷ 0 ∷ 16 ∷ 0 ∷ 27 ∷ 0 ∷ 16 ∷ 0 ∷ taskA ++ 0 ∷ taskB) ≡ Refused 2 1
   -- S9.2: the last record ends before the sheet, or past it: a fault of the last task.
-  pub bytes-behind : answerOf (both taskA taskB ++ 0 ∷ []) ≡ Refused 2 1
-  pub end-past : answerOf (8 ∷ 2 ∷ 10 ∷ 0 ∷ 16 ∷ 0 ∷ 26 ∷ 0 ∷ 17 ∷ 0 ∷ taskA ++ taskB) ≡ Refused 2 1
+  pub bytes-behind : readAnswer (both taskA taskB ++ 0 ∷ []) ≡ Refused 2 1
+  pub end-past : readAnswer (8 ∷ 2 ∷ 10 ∷ 0 ∷ 16 ∷ 0 ∷ 26 ∷ 0 ∷ 17 ∷ 0 ∷ taskA ++ taskB) ≡ Refused 2 1
   -- S9.3: the level, the number of nodes, the length; a record of one byte.
-  pub level-two : answerOf (alone 16 (small 2 45 9 52 4 20 0)) ≡ Refused 3 0
-  pub no-node : answerOf (alone 12 (1 ∷ 0 ∷ 45 ∷ 0 ∷ 9 ∷ 0 ∷ 52 ∷ 0 ∷ 4 ∷ 0 ∷ 20 ∷ 0 ∷ [])) ≡ Refused 3 0
-  pub most-nodes : answerOf (alone 140 (1 ∷ 32 ∷ 45 ∷ 0 ∷ 9 ∷ 0 ∷ 52 ∷ 0 ∷ 4 ∷ 0 ∷ 20 ∷ 0 ∷ replicate 128 0)) ≡ Accepted
-  pub nodes-above : answerOf (alone 144 (1 ∷ 33 ∷ 45 ∷ 0 ∷ 9 ∷ 0 ∷ 52 ∷ 0 ∷ 4 ∷ 0 ∷ 20 ∷ 0 ∷ replicate 132 0)) ≡ Refused 3 0
-  pub length-long : answerOf (alone 17 (taskA ++ 0 ∷ [])) ≡ Refused 3 0
-  pub record-of-one-byte : answerOf (alone 1 (1 ∷ [])) ≡ Refused 3 0
+  pub level-two : readAnswer (alone 16 (small 2 45 9 52 4 20 0)) ≡ Refused 3 0
+  pub no-node : readAnswer (alone 12 (1 ∷ 0 ∷ 45 ∷ 0 ∷ 9 ∷ 0 ∷ 52 ∷ 0 ∷ 4 ∷ 0 ∷ 20 ∷ 0 ∷ [])) ≡ Refused 3 0
+  pub most-nodes : readAnswer (alone 140 (1 ∷ 32 ∷ 45 ∷ 0 ∷ 9 ∷ 0 ∷ 52 ∷ 0 ∷ 4 ∷ 0 ∷ 20 ∷ 0 ∷ replicate 128 0)) ≡ Accepted
+  pub nodes-above : readAnswer (alone 144 (1 ∷ 33 ∷ 45 ∷ 0 ∷ 9 ∷ 0 ∷ 52 ∷ 0 ∷ 4 ∷ 0 ∷ 20 ∷ 0 ∷ replicate 132 0)) ≡ Refused 3 0
+  pub length-long : readAnswer (alone 17 (taskA ++ 0 ∷ [])) ≡ Refused 3 0
+  pub record-of-one-byte : readAnswer (alone 1 (1 ∷ [])) ≡ Refused 3 0
   -- S9.4: CO of 10,000 is the greatest, 10,001 is not lawful; D of 0; CN above CO; a low task with CN below CO.
-  pub figure-greatest : answerOf (alone 16 (1 ∷ 1 ∷ 15 ∷ 39 ∷ 9 ∷ 0 ∷ 16 ∷ 39 ∷ 4 ∷ 0 ∷ 20 ∷ 0 ∷ 0 ∷ 0 ∷ 0 ∷ 0 ∷ [])) ≡ Accepted
-  pub figure-above : answerOf (alone 16 (1 ∷ 1 ∷ 15 ∷ 39 ∷ 9 ∷ 0 ∷ 17 ∷ 39 ∷ 4 ∷ 0 ∷ 20 ∷ 0 ∷ 0 ∷ 0 ∷ 0 ∷ 0 ∷ [])) ≡ Refused 4 0
-  pub figure-zero : answerOf (both taskA (small 1 0 9 52 4 20 0)) ≡ Refused 4 1
-  pub figure-order : answerOf (alone 16 (small 1 45 53 52 4 20 0)) ≡ Refused 4 0
-  pub low-figures : answerOf (alone 16 (small 0 18 65 66 6 6 0)) ≡ Refused 4 0
+  pub figure-greatest : readAnswer (alone 16 (1 ∷ 1 ∷ 15 ∷ 39 ∷ 9 ∷ 0 ∷ 16 ∷ 39 ∷ 4 ∷ 0 ∷ 20 ∷ 0 ∷ 0 ∷ 0 ∷ 0 ∷ 0 ∷ [])) ≡ Accepted
+  pub figure-above : readAnswer (alone 16 (1 ∷ 1 ∷ 15 ∷ 39 ∷ 9 ∷ 0 ∷ 17 ∷ 39 ∷ 4 ∷ 0 ∷ 20 ∷ 0 ∷ 0 ∷ 0 ∷ 0 ∷ 0 ∷ [])) ≡ Refused 4 0
+  pub figure-zero : readAnswer (both taskA (small 1 0 9 52 4 20 0)) ≡ Refused 4 1
+  pub figure-order : readAnswer (alone 16 (small 1 45 53 52 4 20 0)) ≡ Refused 4 0
+  pub low-figures : readAnswer (alone 16 (small 0 18 65 66 6 6 0)) ≡ Refused 4 0
   -- S9.5: node 0 before itself.
-  pub own-bit : answerOf (both taskA (small 1 45 9 52 4 20 1)) ≡ Refused 5 1
+  pub own-bit : readAnswer (both taskA (small 1 45 9 52 4 20 1)) ≡ Refused 5 1
   -- S9.6: CO equal to D.
-  pub not-heavy : answerOf (both taskA (small 1 52 9 52 4 20 0)) ≡ Refused 6 1
+  pub not-heavy : readAnswer (both taskA (small 1 52 9 52 4 20 0)) ≡ Refused 6 1
   -- S3.3: causes 4 and 5 in one task; causes in both tasks; a place before any record; the header before all.
-  pub lower-first : answerOf (alone 16 (small 1 0 9 52 4 20 1)) ≡ Refused 4 0
-  pub first-task : answerOf (both (small 1 52 9 52 4 20 0) (small 2 45 9 52 4 20 0)) ≡ Refused 6 0
-  pub places-first : answerOf (both (small 2 45 9 52 4 20 0) taskB ++ 0 ∷ []) ≡ Refused 2 1
-  pub header-first : answerOf (65 ∷ 1 ∷ 7 ∷ 0 ∷ 16 ∷ 0 ∷ small 2 45 9 52 4 20 0) ≡ Refused 1 255
+  pub lower-first : readAnswer (alone 16 (small 1 0 9 52 4 20 1)) ≡ Refused 4 0
+  pub first-task : readAnswer (both (small 1 52 9 52 4 20 0) (small 2 45 9 52 4 20 0)) ≡ Refused 6 0
+  pub places-first : readAnswer (both (small 2 45 9 52 4 20 0) taskB ++ 0 ∷ []) ≡ Refused 2 1
+  pub header-first : readAnswer (65 ∷ 1 ∷ 7 ∷ 0 ∷ 16 ∷ 0 ∷ small 2 45 9 52 4 20 0) ≡ Refused 1 255
   -- S11.14: the sheet has 62 bytes, and this is what it says.
   pub whole-length : length (sheetABE 8) ≡ 62
   pub whole : readOf (sheetABE 8)
@@ -118,7 +118,7 @@ pub record Worked : Type 0 where
       ≡ record { answer = Refused 6 1; set = record { processors = 0; count = 0; tasks = replicate 16 zeroTask } }
 
 worked : Worked
-unfolding firstOver byteAt u16At u32At processorsOf countOf offsetOf lengthOf startOf cellsFrom levelAt nodesAt figuresAt masksAt taskAt tasksBelow taskSetOf zeroTaskSet levelLawful shapeLawful inRange inOrder lowLawful figuresLawful maskLawful allBelow masksLawful isHeavy taskAnswer headerLawful headerAnswer placeAnswer endAnswer shapeAnswer recordAnswer answerOf readOf entries copies isHigh figureLimit bytesBeforeMasks
+unfolding firstOver byteAt u16At u32At processorsOf countOf offsetOf lengthOf placeOf cellsFrom levelAt nodesAt figuresAt masksAt taskAt tasksBelow taskSetOf zeroTaskSet levelLawful shapeLawful inRange inOrder lowLawful figuresLawful maskLawful allBelow masksLawful isHeavy taskAnswer headerLawful headerAnswer placeAnswer endAnswer shapeAnswer recordAnswer readAnswer readOf entries copies isHigh figureLimit bytesBeforeMasks
 worked =
     record {
       empty = refl;

@@ -8,7 +8,7 @@ use Rattle.sheet.specs.declared.answer.Answer.{Answer}
 use Rattle.sheet.specs.declared.answer.Answer.the-variants.{Accepted, Refused}
 use Rattle.reader.specs.declared.Reading.{Reading}
 use Rattle.sheet.specs.Answers.{noTask, badHeader, badDirectory, badRecord, refusedIf, _orElse_, firstOver}
-use Rattle.sheet.specs.Format.{processorsOf, countOf, offsetOf, lengthOf, startOf, levelAt, nodesAt, taskAt, taskSetOf, zeroTaskSet}
+use Rattle.sheet.specs.Format.{processorsOf, countOf, offsetOf, lengthOf, levelAt, nodesAt, taskAt, taskSetOf, zeroTaskSet, placeOf}
 use Rattle.basics.specs.Numbers.{within}
 use Rattle.sheet.specs.Rules.{shapeLawful, taskAnswer}
 
@@ -26,11 +26,11 @@ headerAnswer s = refusedIf (not (headerLawful s)) badHeader noTask
 
 -- S9.2, for task i: its record does not begin where it has to.
 unfoldable pub placeAnswer : List ℕ → ℕ → Answer
-placeAnswer s i = refusedIf (not (eqb (offsetOf s i) (startOf s i))) badDirectory i
+placeAnswer s i = refusedIf (not (eqb (offsetOf s i) (placeOf s i))) badDirectory i
 
 -- S9.2, for the end: the last record does not end with the sheet, a fault of the last task.
 unfoldable pub endAnswer : List ℕ → Answer
-endAnswer s = refusedIf (not (eqb (startOf s (countOf s)) (length s))) badDirectory (countOf s - 1)
+endAnswer s = refusedIf (not (eqb (placeOf s (countOf s)) (length s))) badDirectory (countOf s - 1)
 
 -- S9.3, for task i.
 unfoldable pub shapeAnswer : List ℕ → ℕ → Answer
@@ -42,8 +42,8 @@ unfoldable pub recordAnswer : List ℕ → ℕ → Answer
 recordAnswer s i = shapeAnswer s i orElse taskAnswer (taskAt s (offsetOf s i)) i
 
 -- S3.3: the header; the place of each record and then the end; and then each task's record.
-unfoldable pub answerOf : List ℕ → Answer
-answerOf s =
+unfoldable pub readAnswer : List ℕ → Answer
+readAnswer s =
     headerAnswer s
     orElse firstOver (placeAnswer s) 0 (countOf s)
     orElse endAnswer s
@@ -56,4 +56,4 @@ readingOf (Refused number task) s = record { answer = Refused number task; set =
 
 -- S2, S3: what the reader makes of a list of bytes.
 unfoldable pub readOf : List ℕ → Reading
-readOf s = readingOf (answerOf s) s
+readOf s = readingOf (readAnswer s) s

@@ -10,7 +10,7 @@ use Rattle.sheet.specs.declared.task.Figures.{Figures}
 use Rattle.shares.specs.declared.search.Found.the-variants.{At, Nothing}
 use Rattle.shares.specs.Test.{excess, demand, passes}
 use Rattle.shares.specs.means.Terms.{termsOf, meets}
-use Rattle.shares.specs.Search.{first, leastCritical, answerOf, numberOf}
+use Rattle.shares.specs.Search.{first, leastCritical, foundOf, numberFound}
 
 module _ (test : ℕ → Bool) (M b : ℕ) where
   pub search-past : M < b → first test (M + 1) b (M + 1 - b) ≡ M + 1
@@ -44,19 +44,19 @@ pub least-by-terms : (M : ℕ) (f : Figures) (a : ℕ) →
 unfolding leastCritical
 least-by-terms M f a = ap (λ (test : ℕ → Bool). first test (M + 1) a (M + 1 - a)) (fun-ext (λ b. sym (meets-passes f a b)))
 
-pub answer-none : (M : ℕ) → answerOf M (M + 1) ≡ Nothing
-unfolding answerOf
+pub answer-none : (M : ℕ) → foundOf M (M + 1) ≡ Nothing
+unfolding foundOf
 answer-none M = rw (lt-leb (M + 1) M (omega arith))
 
-pub answer-at : (M b : ℕ) → b ≤ M → answerOf M b ≡ At b
-unfolding answerOf
+pub answer-at : (M b : ℕ) → b ≤ M → foundOf M b ≡ At b
+unfolding foundOf
 answer-at M b within = rw (le-leb b M within)
 
 -- A number up to M + 1 is said by its answer.
-pub number-answer : (M x : ℕ) → x ≤ M + 1 → numberOf M (answerOf M x) ≡ x
-unfolding numberOf answerOf
+pub number-answer : (M x : ℕ) → x ≤ M + 1 → numberFound M (foundOf M x) ≡ x
+unfolding numberFound foundOf
 number-answer M x most = go (leb x M) refl
   where
-    go : (t : Bool) → leb x M ≡ t → numberOf M (cond t (At x) Nothing) ≡ x
+    go : (t : Bool) → leb x M ≡ t → numberFound M (cond t (At x) Nothing) ≡ x
     go true e = refl
     go false e = omega (arith, leb-false x M e)

@@ -10,7 +10,7 @@ use Rattle.sheet.specs.Level.{isLow, isHigh}
 use Rattle.shares.specs.Low.{ceilDiv, lowShare, hasLowShare}
 use Rattle.shares.specs.Search.{first, leastCritical}
 use Rattle.shares.specs.Offer.{lowCritical, criticalAt, tabulate}
-use Rattle.shares.specs.Deadline.{virtualOf}
+use Rattle.shares.specs.Deadline.{virtualDeadlineOf}
 use Rattle.shares.specs.Cases.{figures, taskA, taskB, lowTask}
 
 -- A task of a level, with these figures and one node.
@@ -34,11 +34,11 @@ pub record Worked : Type 0 where
   pub low-offer-none : tabulate (criticalAt 1 (ofLevel 0 (lowTask 30))) 1 4 ≡ 2 ∷ 2 ∷ 2 ∷ 2 ∷ []
   pub no-slack : hasLowShare 64 (figures 6 30 6 30 6) ≡ false
   -- S4.5: V of a high task and of a low one.
-  pub high-virtual : virtualOf (ofLevel 1 taskB) 3 ≡ 6
-  pub low-virtual : virtualOf (ofLevel 0 (lowTask 30)) 2 ≡ 0
+  pub high-virtual : virtualDeadlineOf (ofLevel 1 taskB) 3 ≡ 6
+  pub low-virtual : virtualDeadlineOf (ofLevel 0 (lowTask 30)) 2 ≡ 0
 
 pub worked : Worked
-unfolding excess demand passes virtualDeadline isLow ceilDiv lowShare hasLowShare first leastCritical lowCritical criticalAt tabulate virtualOf isHigh
+unfolding excess demand passes virtualDeadline isLow ceilDiv lowShare hasLowShare first leastCritical lowCritical criticalAt tabulate virtualDeadlineOf isHigh
 worked =
     record {
       itself = refl;

@@ -6,5 +6,5 @@ use Rattle.shares.specs.Test.{virtualDeadline}
 use Rattle.sheet.specs.Level.{isLow}
 
 -- S4.5: V of a task with typical share a; a low task has 0.
-unfoldable pub virtualOf : Task → ℕ → ℕ
-virtualOf t a = cond (isLow (t .level)) 0 (virtualDeadline (t .figures) a)
+unfoldable pub virtualDeadlineOf : Task → ℕ → ℕ
+virtualDeadlineOf t a = cond (isLow (t .level)) 0 (virtualDeadline (t .figures) a)

@@ -17,10 +17,10 @@ unfoldable pub leastCritical : ℕ → Figures → ℕ → ℕ
 leastCritical M f a = first (passes f a) (M + 1) a (M + 1 - a)
 
 -- The answer that says a number: a share within M, or none.
-unfoldable pub answerOf : ℕ → ℕ → Found
-answerOf M b = cond (leb b M) (At b) Nothing
+unfoldable pub foundOf : ℕ → ℕ → Found
+foundOf M b = cond (leb b M) (At b) Nothing
 
 -- The number that an answer says: the share found, or M + 1 for none.
-unfoldable pub numberOf : ℕ → Found → ℕ
-numberOf M (At b) = b
-numberOf M Nothing = M + 1
+unfoldable pub numberFound : ℕ → Found → ℕ
+numberFound M (At b) = b
+numberFound M Nothing = M + 1

@@ -2,7 +2,7 @@
 use crate::low::low_share;
 use crate::search::Found;
 use crate::search::least_critical;
-use crate::search::number_of;
+use crate::search::number_found;
 use sheet::level::is_low;
 use sheet::task::Figures;
 use sheet::task::Task;
@@ -34,7 +34,7 @@ fn high_offer(f: Figures, m: u8) -> [u8; 64]
     let mut offer = [m + 1; 64];
     let end = m as usize;
     for i in 0..end {
-        offer[i] = number_of(least_critical(f, m, i as u8 + 1), m);
+        offer[i] = number_found(least_critical(f, m, i as u8 + 1), m);
     }
     offer
 }

@@ -4,7 +4,7 @@ use crate::test::terms_of;
 use sheet::task::Figures;
 ghost use mathlib.Core.Path.{_≡_};
 ghost use Prim.Native.Nat.{_≤_};
-ghost use Rattle.shares.specs.Search.{leastCritical, answerOf, numberOf};
+ghost use Rattle.shares.specs.Search.{leastCritical, foundOf, numberFound};
 
 // What a search for a share finds: a share, or none.
 pub enum Found {
@@ -15,7 +15,7 @@ pub enum Found {
 // The least critical share from a up to m that passes at typical share a.
 pub fn least_critical(f: Figures, m: u8, a: u8) -> Found
     requires { ⌜ m ≤ 64 ⌝ }
-    ensures { λ r. ⌜ r ≡ answerOf m (leastCritical m f a) ⌝ }
+    ensures { λ r. ⌜ r ≡ foundOf m (leastCritical m f a) ⌝ }
 {
     let t = terms_of(f, a);
     let mut b = a;
@@ -31,9 +31,9 @@ pub fn least_critical(f: Figures, m: u8, a: u8) -> Found
 }
 
 // S4.4: the number that stands for an answer in an offer: m + 1 for none.
-pub fn number_of(r: Found, m: u8) -> u8
+pub fn number_found(r: Found, m: u8) -> u8
     requires { ⌜ m ≤ 64 ⌝ }
-    ensures { λ n. ⌜ n ≡ numberOf m r ⌝ }
+    ensures { λ n. ⌜ n ≡ numberFound m r ⌝ }
 {
     match r {
         Found::At(b) => b,

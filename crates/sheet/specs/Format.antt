@@ -27,9 +27,9 @@ lengthOf s i = u16At s (4 + 4 * i)
 
 -- S2.4: where task i's record has to begin: the first behind the directory, each other one at the end of the one before it.
 -- For i = n it is the end of the last record.
-unfoldable pub startOf : List ℕ → ℕ → ℕ
-startOf s zero = 2 + 4 * countOf s
-startOf s (suc i) = offsetOf s i + lengthOf s i
+unfoldable pub placeOf : List ℕ → ℕ → ℕ
+placeOf s zero = 2 + 4 * countOf s
+placeOf s (suc i) = offsetOf s i + lengthOf s i
 
 -- S2.6: the level, in the record that begins at a place.
 unfoldable pub levelAt : List ℕ → ℕ → ℕ

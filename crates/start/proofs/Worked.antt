@@ -7,7 +7,7 @@ use Rattle.sheet.specs.declared.answer.Answer.the-variants.{Refused}
 use Rattle.sheet.specs.Answers.{numberOf, taskOf}
 use Rattle.basics.specs.Numbers.{byteAt}
 use Rattle.sheet.specs.Format.{processorsOf, countOf}
-use Rattle.reader.specs.Reading.{headerLawful, headerAnswer, answerOf, readOf}
+use Rattle.reader.specs.Reading.{headerLawful, headerAnswer, readOf, readAnswer}
 use Rattle.sheet.specs.declared.task.Task.{Task}
 use Rattle.allocation.specs.declared.allocate.Allocation.{Allocation}
 use Rattle.allocation.specs.Allocation.{allocationAnswer}
@@ -54,7 +54,7 @@ pub record Worked : Type 0 where
   pub empty-task : taskOf (startOf [] .answer) ≡ 255
 
 worked : Worked
-unfolding byteAt processorsOf countOf headerLawful headerAnswer answerOf readOf freshEntry zeroEntry allocationAnswer zeroState startOf
+unfolding byteAt processorsOf countOf headerLawful headerAnswer readAnswer readOf freshEntry zeroEntry allocationAnswer zeroState startOf
 worked =
     record {
       fresh = refl;

@@ -11,7 +11,7 @@ use Rattle.shares.specs.Offer.{tabulate, offerOf}
 use Rattle.allocation.specs.declared.choice.Chosen.{Chosen}
 use Rattle.allocation.specs.declared.selection.Totals.{Totals}
 use Rattle.basics.specs.Lists.{all, isNone, cells}
-use Rattle.allocation.specs.Allocation.{noShare, noFit, sharesOf, sixteen}
+use Rattle.allocation.specs.Allocation.{noShare, noFit, sixteen, sharesChosen}
 use Rattle.sheet.specs.declared.answer.Answer.{Answer}
 use Rattle.sheet.specs.declared.task.TaskSet.{TaskSet}
 use Rattle.sheet.specs.Answers.{noTask, refusedIf}
@@ -23,8 +23,8 @@ unfoldable pub cellAt : List ℕ → ℕ → ℕ
 cellAt cells a = getD cells (a - 1) 0
 
 -- What 65 totals say at typical total t.
-unfoldable pub entryAt : List ℕ → ℕ → ℕ
-entryAt totals t = getD totals t 0
+unfoldable pub totalAt : List ℕ → ℕ → ℕ
+totalAt totals t = getD totals t 0
 
 -- Of two numbers the first, unless f is smaller at the second.
 abbrev pub better : (ℕ → ℕ) → ℕ → ℕ → ℕ
@@ -111,5 +111,5 @@ unfoldable pub selectionOf : ℕ → List (ℕ → ℕ) → Chosen
 selectionOf M offers =
     record {
       answer = refusedIf (isNone (selected M offers)) noFit noTask;
-      shares = sixteen (sharesOf (selected M offers));
+      shares = sixteen (sharesChosen (selected M offers));
     }

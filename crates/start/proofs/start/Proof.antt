@@ -7,7 +7,7 @@ use Rattle.sheet.proofs.Said.{with-said}
 use Rattle.reader.specs.Reading.{readOf}
 use Rattle.sheet.specs.declared.task.TaskSet.{TaskSet}
 use Rattle.allocation.specs.declared.choice.Chosen.{Chosen}
-use Rattle.allocation.specs.Allocation.{chosenFor, choiceAnswer, choiceOf, sharesOf, sixteen, allocationsOf, allocationAnswer, allocatedOf}
+use Rattle.allocation.specs.Allocation.{chosenFor, choiceAnswer, choiceOf, sixteen, allocationsOf, allocationAnswer, allocatedOf, sharesChosen}
 use Rattle.allocation.specs.Lawful.{LawfulSet}
 use Rattle.allocation.proofs.Accepted.{accepted-lawful, accepted-choice}
 use Rattle.allocation.proofs.Allocations.{shares-fit, answer-read, answer-choice, line-fixed}
@@ -58,7 +58,7 @@ choice-answer : (c : tie.After-choose) → c .choose .result .answer ≡ choiceA
 unfolding choiceOf
 choice-answer c = ap (λ (r : Chosen). r .answer) (c .choose .ensures .0)
 
-choice-shares : (c : tie.After-choose) → c .choose .result .shares ≡ sixteen (sharesOf (chosenFor (c .before .before .before .before .read .result .set)))
+choice-shares : (c : tie.After-choose) → c .choose .result .shares ≡ sixteen (sharesChosen (chosenFor (c .before .before .before .before .read .result .set)))
 unfolding choiceOf
 choice-shares c = ap (λ (r : Chosen). r .shares) (c .choose .ensures .0)
 
@@ -108,7 +108,7 @@ returns-3 c =
     ∙ ap (freshState tasks)
     (c .before .allocations-of .ensures
     ∙ ap (allocationsOf tasks) (choice-shares at)
-    ∙ ap (λ (t : TaskSet). allocationsOf t (sixteen (sharesOf (chosenFor t)))) set-is
+    ∙ ap (λ (t : TaskSet). allocationsOf t (sixteen (sharesChosen (chosenFor t)))) set-is
     ∙ line-fixed _ accepted)
     ∙ ap (λ (t : TaskSet). freshState t (allocatedOf s .allocations)) set-is))
 

@@ -9,7 +9,7 @@ use Rattle.reader.specs.Reading.{readOf}
 use Rattle.allocation.specs.declared.allocate.Allocated.{Allocated}
 use Rattle.allocation.specs.declared.choice.Chosen.{Chosen}
 use Rattle.allocation.specs.Lawful.{LawfulSet}
-use Rattle.allocation.specs.Allocation.{chosenFor, choiceAnswer, sharesOf, sixteen, choiceOf, allocationsOf, allocationAnswer}
+use Rattle.allocation.specs.Allocation.{chosenFor, choiceAnswer, sixteen, choiceOf, allocationsOf, allocationAnswer, sharesChosen}
 use Rattle.allocation.proofs.Accepted.{accepted-lawful, accepted-choice}
 use Rattle.allocation.proofs.Allocations.{shares-fit, answer-read, answer-choice, allocated-refused, line-fixed, allocated-accepted}
 use borrow.Author.Needs.{needs}
@@ -58,7 +58,7 @@ choice-answer : (c : tie.After-choose) → c .choose .result .answer ≡ choiceA
 unfolding choiceOf
 choice-answer c = ap (λ (r : Chosen). r .answer) (c .choose .ensures .0)
 
-choice-shares : (c : tie.After-choose) → c .choose .result .shares ≡ sixteen (sharesOf (chosenFor (c .before .before .before .before .read .result .set)))
+choice-shares : (c : tie.After-choose) → c .choose .result .shares ≡ sixteen (sharesChosen (chosenFor (c .before .before .before .before .read .result .set)))
 unfolding choiceOf
 choice-shares c = ap (λ (r : Chosen). r .shares) (c .choose .ensures .0)
 
@@ -98,7 +98,7 @@ returns-3 c =
     (allocated-accepted _ accepted _ _ (ap (λ (t : TaskSet). t .count) (reading-set (at .before .before)))
     (c .allocations-of .ensures
     ∙ ap (allocationsOf tasks) (choice-shares at)
-    ∙ ap (λ (t : TaskSet). allocationsOf t (sixteen (sharesOf (chosenFor t)))) (reading-set (at .before .before))
+    ∙ ap (λ (t : TaskSet). allocationsOf t (sixteen (sharesChosen (chosenFor t)))) (reading-set (at .before .before))
     ∙ line-fixed _ accepted))
 
 pub allocate-spec : {M : Type 1} → statement M

@@ -55,9 +55,9 @@ mul-share c = search needs
 array-copy-out-share : tie.Need-array-copy-out-share Inv-loop μ-loop
 array-copy-out-share c = search needs
 
-virtual-of-requires : tie.Need-virtual-of-requires Inv-loop μ-loop
+virtual-deadline-of-requires : tie.Need-virtual-deadline-of-requires Inv-loop μ-loop
 unfolding lengthIn
-virtual-of-requires c κs =
+virtual-deadline-of-requires c κs =
     let start = c .before .before .before .before .before in
     start .pre .some-share (c .before .before .before .loop .i) (omega arith)
 
@@ -109,15 +109,15 @@ loop-less : tie.Need-loop-less Inv-loop μ-loop
 loop-less c = search needs
 
 -- What is fixed for the task.
-fixed : (c : tie.After-virtual-of Inv-loop μ-loop) →
+fixed : (c : tie.After-virtual-deadline-of Inv-loop μ-loop) →
     let args = c .before .before .before .before .before .before .args in
     let loop = c .before .before .before .before .loop in
-    record { share = shareAt (args .t2) (loop .i); offset = record { typical = loop .typical; critical = loop .critical }; «virtual_deadline» = c .virtual-of .result }
+    record { share = shareAt (args .t2) (loop .i); offset = record { typical = loop .typical; critical = loop .critical }; «virtual_deadline» = c .virtual-deadline-of .result }
     ≡ allocationOf (args .t1) (args .t2) (loop .i)
 unfolding shareAt allocationOf taskIn
 fixed c =
     let loop = c .before .before .before .before .loop in
-    rw (loop .inv .1, loop .inv .2, c .virtual-of .ensures)
+    rw (loop .inv .1, loop .inv .2, c .virtual-deadline-of .ensures)
 
 loop-again : tie.Need-loop-again Inv-loop μ-loop
 unfolding shareAt
@@ -154,7 +154,7 @@ allocations-of-spec =
     element-copy-out-task
     mul-share
     array-copy-out-share
-    virtual-of-requires
+    virtual-deadline-of-requires
     mul-allocations
     array-set-from-allocations
     add-typical

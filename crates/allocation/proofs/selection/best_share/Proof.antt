@@ -5,7 +5,7 @@ use Prim.Native.Nat.{_+_, _-_, _≤_}
 use mathlib.Core.Path.{_≡_}
 use native.Mathlib.Omega.{arith}
 use denote.Ref.{now}
-use Rattle.allocation.specs.means.Selection.{cellAt, entryAt, sumAt, bestShare, leastFrom}
+use Rattle.allocation.specs.means.Selection.{cellAt, sumAt, bestShare, leastFrom, totalAt}
 use Rattle.allocation.proofs.Firsts.{least-start, least-taken, least-kept, least-to}
 use Rattle.allocation.proofs.selection.best_share.Statement.{statement}
 use Rattle.allocation.proofs.selection.best_share.Tie as tie
@@ -14,8 +14,8 @@ abbrev Inv-loop : tie.InvT-loop
 Inv-loop offer rest t end best₀ least₀ a₀ best least a =
     (1 ≤ a)
     × (a ≤ t)
-    × (best ≡ leastFrom (sumAt (cellAt offer) (entryAt rest) t) 1 (a - 1))
-    × (least ≡ sumAt (cellAt offer) (entryAt rest) t best)
+    × (best ≡ leastFrom (sumAt (cellAt offer) (totalAt rest) t) 1 (a - 1))
+    × (least ≡ sumAt (cellAt offer) (totalAt rest) t best)
 
 abbrev μ-loop : tie.MeasureT-loop
 μ-loop offer rest t end best₀ least₀ a₀ best least a = t - a
@@ -33,9 +33,9 @@ sum-requires : tie.Need-sum-requires Inv-loop μ-loop
 sum-requires c κs = search needs
 
 loop-holds : tie.Need-loop-holds Inv-loop μ-loop
-unfolding cellAt entryAt sumAt
+unfolding cellAt totalAt sumAt
 loop-holds c =
-    let f = sumAt (cellAt (now (c .before .before .before .args .offer))) (entryAt (now (c .before .before .before .args .rest))) (c .before .before .before .args .t) in
+    let f = sumAt (cellAt (now (c .before .before .before .args .offer))) (totalAt (now (c .before .before .before .args .rest))) (c .before .before .before .args .t) in
     (omega arith, omega arith, least-start f 1, c .sum .ensures)
 
 add-a : tie.Need-add-a Inv-loop μ-loop
@@ -60,11 +60,11 @@ loop-less : tie.Need-loop-less Inv-loop μ-loop
 loop-less c = omega arith
 
 loop-again : tie.Need-loop-again Inv-loop μ-loop
-unfolding cellAt entryAt sumAt
+unfolding cellAt totalAt sumAt
 loop-again c =
     let loop = c .before .before .before .before .before .loop in
     let args = c .before .before .before .before .before .before .before .before .before .args in
-    let f = sumAt (cellAt (now (args .offer))) (entryAt (now (args .rest))) (args .t) in
+    let f = sumAt (cellAt (now (args .offer))) (totalAt (now (args .rest))) (args .t) in
     let next : c .before .sum2 .result ≡ f (loop .a + 1) = omega arith in (
       omega arith,
       omega arith,
@@ -76,11 +76,11 @@ loop-less-2 : tie.Need-loop-less-2 Inv-loop μ-loop
 loop-less-2 c = omega arith
 
 loop-again-2 : tie.Need-loop-again-2 Inv-loop μ-loop
-unfolding cellAt entryAt sumAt
+unfolding cellAt totalAt sumAt
 loop-again-2 c =
     let loop = c .before .before .before .before .before .loop in
     let args = c .before .before .before .before .before .before .before .before .before .args in
-    let f = sumAt (cellAt (now (args .offer))) (entryAt (now (args .rest))) (args .t) in
+    let f = sumAt (cellAt (now (args .offer))) (totalAt (now (args .rest))) (args .t) in
     let next : c .before .sum2 .result ≡ f (loop .a + 1) = omega arith in (
       omega arith,
       omega arith,
@@ -92,7 +92,7 @@ cast-t11 : tie.Need-cast-t11 Inv-loop μ-loop
 cast-t11 c =
     let loop = c .before .loop in
     let args = c .before .before .before .before .before .args in
-    let f = sumAt (cellAt (now (args .offer))) (entryAt (now (args .rest))) (args .t) in
+    let f = sumAt (cellAt (now (args .offer))) (totalAt (now (args .rest))) (args .t) in
     omega (arith, least-to f 1 (loop .a - 1), loop .inv .2)
 
 returns : tie.Need-returns Inv-loop μ-loop

@@ -3,19 +3,19 @@
 use Prim.Native.Nat.{_-_, _≤_}
 use mathlib.Core.Path.{_≡_}
 use native.Mathlib.Omega.{arith}
-use Rattle.allocation.specs.means.Selection.{entryAt, leastFrom}
+use Rattle.allocation.specs.means.Selection.{leastFrom, totalAt}
 use Rattle.allocation.proofs.Firsts.{least-start, least-taken, least-kept}
 use Rattle.allocation.proofs.selection.first_least.Statement.{statement}
 use Rattle.allocation.proofs.selection.first_least.Tie as tie
 
 abbrev Inv-loop : tie.InvT-loop
-Inv-loop m totals best₀ t₀ best t = (t ≤ m) × (best ≤ t) × (best ≡ leastFrom (entryAt totals) 0 (t - 0))
+Inv-loop m totals best₀ t₀ best t = (t ≤ m) × (best ≤ t) × (best ≡ leastFrom (totalAt totals) 0 (t - 0))
 
 abbrev μ-loop : tie.MeasureT-loop
 μ-loop m totals best₀ t₀ best t = m - t
 
 loop-holds : tie.Need-loop-holds Inv-loop μ-loop
-loop-holds c = (omega arith, omega arith, least-start (entryAt (c .args .t1)) 0)
+loop-holds c = (omega arith, omega arith, least-start (totalAt (c .args .t1)) 0)
 
 add-t : tie.Need-add-t Inv-loop μ-loop
 add-t c = omega arith
@@ -36,20 +36,20 @@ loop-less : tie.Need-loop-less Inv-loop μ-loop
 loop-less c = omega arith
 
 loop-again : tie.Need-loop-again Inv-loop μ-loop
-unfolding entryAt
+unfolding totalAt
 loop-again c =
     let loop = c .before .before .loop in
-    let f = entryAt (c .before .before .before .args .t1) in
+    let f = totalAt (c .before .before .before .args .t1) in
     (omega arith, omega arith, least-taken f 0 (loop .t) (loop .best) (omega arith) (loop .inv .2) (omega arith))
 
 loop-less-2 : tie.Need-loop-less-2 Inv-loop μ-loop
 loop-less-2 c = omega arith
 
 loop-again-2 : tie.Need-loop-again-2 Inv-loop μ-loop
-unfolding entryAt
+unfolding totalAt
 loop-again-2 c =
     let loop = c .before .before .loop in
-    let f = entryAt (c .before .before .before .args .t1) in
+    let f = totalAt (c .before .before .before .args .t1) in
     (omega arith, omega arith, least-kept f 0 (loop .t) (loop .best) (omega arith) (loop .inv .2) (omega arith))
 
 returns : tie.Need-returns Inv-loop μ-loop

@@ -3,7 +3,7 @@
 use lib.ListN.{getD, set, replicate}
 use Rattle.shares.specs.Offer.{tabulate}
 use Rattle.allocation.specs.declared.selection.Totals.{Totals}
-use Rattle.allocation.specs.means.Selection.{cellAt, entryAt, totalWith, missingOffer, offersUpTo}
+use Rattle.allocation.specs.means.Selection.{cellAt, totalWith, missingOffer, offersUpTo, totalAt}
 use Rattle.allocation.proofs.Lines.{line, missingTotals, lines, offers-length, lines-start, lines-at, lines-store, lines-last, line-more}
 use borrow.Author.Needs.{needs}
 use Prim.Native.Nat.{ℕ, _+_, _-_, _≤_}
@@ -76,8 +76,8 @@ loop-again c =
     let with = totalWith (args .m) (cellAt (getD (now (args .offers)) (args .n - 1 - loop .k) missingOffer)) in
     let stored : c .totals-with .result ≡ line (args .m) offers (args .n) (loop .k + 1) .cells =
     c .totals-with .ensures
-    ∙ ap (λ (l : List Totals). tabulate (with (entryAt (getD l (loop .k) missingTotals .cells))) 0 65) (loop .inv .1)
-    ∙ ap (λ (x : Totals). tabulate (with (entryAt (x .cells))) 0 65) (lines-at (args .m) (args .n) offers long (loop .k) (loop .k) (omega arith) (omega arith))
+    ∙ ap (λ (l : List Totals). tabulate (with (totalAt (getD l (loop .k) missingTotals .cells))) 0 65) (loop .inv .1)
+    ∙ ap (λ (x : Totals). tabulate (with (totalAt (x .cells))) 0 65) (lines-at (args .m) (args .n) offers long (loop .k) (loop .k) (omega arith) (omega arith))
     ∙ line-more (args .m) (args .n) (now (args .offers)) (omega arith) (loop .k) (omega arith) in (
       omega arith,
       ap (λ (x : List ℕ). set (loop .all) (loop .k + 1) (record { cells = x })) stored

@@ -5,7 +5,7 @@ use mathlib.Core.Path.{_≡_, sym, ap, _∙_}
 use lib.ListN.{length}
 use denote.Ref.{now}
 use Rattle.sheet.specs.Answers.{firstOver}
-use Rattle.sheet.specs.Format.{startOf}
+use Rattle.sheet.specs.Format.{placeOf}
 use Rattle.reader.specs.Reading.{placeAnswer}
 use Rattle.sheet.proofs.Faults.{after-accepted, after-refused, over-next, over-stop, over-end, over-all}
 use Rattle.reader.proofs.Places.{start-first, start-next, place-kept, place-broken, end-kept, end-broken}
@@ -15,7 +15,7 @@ use Rattle.reader.proofs.directory.places_answer.Statement.{statement}
 use Rattle.reader.proofs.directory.places_answer.Tie as tie
 
 abbrev Inv-loop : tie.InvT-loop
-Inv-loop s n start₀ i₀ start i = (i ≤ n) × (start ≡ startOf s i) × (start < 262144) × (firstOver (placeAnswer s) i (n - i) ≡ firstOver (placeAnswer s) 0 n)
+Inv-loop s n start₀ i₀ start i = (i ≤ n) × (start ≡ placeOf s i) × (start < 262144) × (firstOver (placeAnswer s) i (n - i) ≡ firstOver (placeAnswer s) 0 n)
 
 abbrev μ-loop : tie.MeasureT-loop
 μ-loop s n start₀ i₀ start i = n - i
@@ -93,7 +93,7 @@ returns-2 c =
     let all : loop .i ≡ n = omega arith in
     let places = sym (loop .inv .3) ∙ over-end (placeAnswer s) (loop .i) n (omega arith) in
     let ends : loop .start ≡ length s = omega arith in
-    let last : startOf s n ≡ length s = ap (startOf s) (sym all) ∙ sym (loop .inv .1) ∙ ends in
+    let last : placeOf s n ≡ length s = ap (placeOf s) (sym all) ∙ sym (loop .inv .1) ∙ ends in
     sym (after-accepted _ _ places ∙ end-kept s n (c .before .before .before .before .pre .0) last)
 
 returns-3 : tie.Need-returns-3 Inv-loop μ-loop
@@ -103,7 +103,7 @@ returns-3 c =
     let loop = c .before .before .loop in
     let all : loop .i ≡ n = omega arith in
     let places = sym (loop .inv .3) ∙ over-end (placeAnswer s) (loop .i) n (omega arith) in
-    let start : startOf s n ≡ loop .start = ap (startOf s) (sym all) ∙ sym (loop .inv .1) in
+    let start : placeOf s n ≡ loop .start = ap (placeOf s) (sym all) ∙ sym (loop .inv .1) in
     sym
     (after-accepted _ _ places
     ∙ end-broken s n (c .before .before .before .before .pre .0) (λ e. let ends : loop .start ≡ length s = sym start ∙ e in omega arith))

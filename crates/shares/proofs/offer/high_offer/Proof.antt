@@ -4,7 +4,7 @@ use Prim.Native.Nat.{_+_, _-_, _≤_}
 use mathlib.Core.Path.{_≡_, sym, ap, _∙_}
 use native.Mathlib.Omega.{arith}
 use borrow.Author.Needs.{needs}
-use Rattle.shares.specs.Search.{leastCritical, numberOf}
+use Rattle.shares.specs.Search.{leastCritical, numberFound}
 use Rattle.shares.proofs.Least.{least-bound, least-past}
 use Rattle.shares.proofs.Walk.{number-answer}
 use Rattle.basics.specs.Lists.{cellsFrom}
@@ -35,8 +35,8 @@ add-least-critical c = omega arith
 least-critical-requires : tie.Need-least-critical-requires Inv-loop μ-loop
 least-critical-requires c κs = search needs
 
-number-of-requires : tie.Need-number-of-requires Inv-loop μ-loop
-number-of-requires c κs = search needs
+number-found-requires : tie.Need-number-found-requires Inv-loop μ-loop
+number-found-requires c κs = search needs
 
 array-write-offer : tie.Need-array-write-offer Inv-loop μ-loop
 array-write-offer c = omega arith
@@ -48,12 +48,12 @@ loop-less : tie.Need-loop-less Inv-loop μ-loop
 loop-less c = omega arith
 
 -- The cell that the loop stores.
-cell : (c : tie.After-number-of Inv-loop μ-loop) →
-    c .number-of .result
+cell : (c : tie.After-number-found Inv-loop μ-loop) →
+    c .number-found .result
     ≡ leastCritical (c .before .before .before .before .args .m) (c .before .before .before .before .args .f) (c .before .before .before .loop .i + 1)
 cell c =
     let m = c .before .before .before .before .args .m in
-    c .number-of .ensures ∙ ap (numberOf m) (c .before .least-critical .ensures)
+    c .number-found .ensures ∙ ap (numberFound m) (c .before .least-critical .ensures)
     ∙ number-answer m _ (least-bound m (c .before .before .before .before .args .f) (c .before .before .before .loop .i + 1))
 
 loop-again : tie.Need-loop-again Inv-loop μ-loop
@@ -80,7 +80,7 @@ high-offer-spec =
     cast-least-critical
     add-least-critical
     least-critical-requires
-    number-of-requires
+    number-found-requires
     array-write-offer
     add-i
     loop-less

@@ -6,7 +6,7 @@ use native.Mathlib.Omega.{arith}
 use borrow.Author.Needs.{needs}
 use Rattle.shares.specs.declared.test.Terms.{Terms}
 use Rattle.shares.specs.means.Terms.{meets}
-use Rattle.shares.specs.Search.{first, leastCritical, answerOf}
+use Rattle.shares.specs.Search.{first, leastCritical, foundOf}
 use Rattle.shares.proofs.Walk.{search-past, search-here, search-on, least-by-terms, answer-none, answer-at}
 use Rattle.shares.proofs.search.least_critical.Statement.{statement}
 use Rattle.shares.proofs.search.least_critical.Tie as tie
@@ -53,7 +53,7 @@ returns : tie.Need-returns Inv-loop μ-loop
 returns c =
     let m = c .before .before .before .args .m in
     let past : m < c .before .loop .b = omega arith in
-    sym (ap (answerOf m) (least-from-b (c .before) ∙ search-past _ m _ past) ∙ answer-none m)
+    sym (ap (foundOf m) (least-from-b (c .before) ∙ search-past _ m _ past) ∙ answer-none m)
 
 returns-2 : tie.Need-returns-2 Inv-loop μ-loop
 returns-2 c =
@@ -61,7 +61,7 @@ returns-2 c =
     let m = at .before .before .args .m in
     let within : at .loop .b ≤ m = omega arith in
     let here = search-here _ m (at .loop .b) within (sym (c .before .meets .ensures) ∙ c .if2 .taken) in
-    sym (ap (answerOf m) (least-from-b at ∙ here) ∙ answer-at m (at .loop .b) within)
+    sym (ap (foundOf m) (least-from-b at ∙ here) ∙ answer-at m (at .loop .b) within)
 
 pub least-critical-spec : {M : Type 1} → statement M
 least-critical-spec =
