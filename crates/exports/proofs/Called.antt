@@ -2,10 +2,9 @@
 -- and the words of what a line says are the line's.
 use Prim.Native.Nat.{ℕ}
 use mathlib.Core.Path.{_≡_, refl, sym, ap, _∙_}
-use mathlib.Core.Bool.{Bool, true, false}
+use mathlib.Core.Bool.{true, false}
 use mathlib.Core.List.{List}
 use native.Mathlib.Omega.{arith}
-use lib.Dec.{eqb}
 use lib.ListN.{length}
 use borrow.Author.Tests.{eq-eqb, ne-eqb}
 use Rattle.sheet.specs.declared.answer.Answer.{Answer}
@@ -13,8 +12,7 @@ use Rattle.sheet.specs.declared.answer.Answer.the-variants.{Accepted, Refused}
 use Rattle.dispatcher.specs.declared.state.State.{State}
 use Rattle.dispatcher.specs.declared.release.Released.{Released}
 use Rattle.dispatcher.specs.declared.tick.Ticked.{Ticked}
-use Rattle.dispatcher.specs.declared.tick.TickAnswer.{TickAnswer}
-use Rattle.dispatcher.specs.declared.tick.TickAnswer.the-variants.{Ran, Switched, Refused as TickRefused}
+use Rattle.dispatcher.specs.declared.tick.TickAnswer.the-variants.{Refused as TickRefused}
 use Rattle.dispatcher.specs.declared.board.Boarded.{Boarded}
 use Rattle.dispatcher.specs.Calls.{releaseOf, tickOf}
 use Rattle.dispatcher.specs.Board.{boardedOf, boardOf}

@@ -8,8 +8,7 @@ use native.Mathlib.Omega.{arith}
 use lib.ListN.{length, getD, take, drop, length-append, length-drop, length-map, take-append-drop, drop-of-length-le}
 use lib.Seq.{take-at, drop-at, take-add, drop-drop, drop-cons, getD-append-add, length-take-le}
 use Rattle.basics.specs.Lists.{range}
-use Rattle.basics.proofs.Lists.{length-range, getD-range}
-use Rattle.shares.specs.declared.share.Share.{Share}
+use Rattle.basics.proofs.Lists.{length-range}
 use Rattle.entries.specs.declared.state.TaskState.{TaskState}
 use Rattle.start.specs.Fresh.{zeroEntry}
 use Rattle.dispatcher.specs.declared.state.State.{State}

@@ -1,6 +1,6 @@
 -- Entries read one after the other: cells that are all filled are the whole.
 use Prim.Native.Nat.{ℕ, zero, suc, _+_, _≤_, _<_}
-use mathlib.Core.Path.{_≡_, refl, sym, ap, ap₂, _∙_}
+use mathlib.Core.Path.{_≡_, refl, ap, ap₂, _∙_}
 use mathlib.Core.Bool.{not}
 use mathlib.Core.List.{List, map}
 use native.Mathlib.Nat.{add-zero}
@@ -14,7 +14,7 @@ use Rattle.basics.proofs.Cells.{cells-none, cells-store}
 use Rattle.entries.specs.declared.state.TaskState.{TaskState}
 use Rattle.start.specs.Fresh.{zeroEntry}
 use Rattle.dispatcher.specs.declared.state.State.{State}
-use Rattle.exports.specs.Words.{isSet, entryFrom, entryAt, entryStart, stateFrom}
+use Rattle.exports.specs.Words.{isSet, entryFrom, entryAt, stateFrom}
 
 cells-full : {A : Type 0} (f : ℕ → A) (none : A) (first size count : ℕ) → first + size ≤ count →
     cellsFrom first size f none count ≡ map f (range first size)

@@ -1,12 +1,12 @@
 -- S13.5, S13.6, S13.8: a refused call leaves what stood there, a line that is no state is answered first, and a line that is a state stays
 -- one. By the cases of the answer: an accepted one has number 0, and a refused one hands back what it was given.
-use Prim.Native.Nat.{ℕ, zero, suc, _≤_, _<_}
+use Prim.Native.Nat.{ℕ, zero, suc, _≤_}
 use mathlib.Core.Path.{_≡_, refl, ap, _∙_}
 use mathlib.Core.Bool.{Bool, true, false, cond}
 use mathlib.Core.List.{List, [], _∷_, _++_}
 use native.Mathlib.Omega.{arith}
 use lib.Dec.{eqb, leb}
-use lib.ListN.{length, getD, drop, replicate, getD-replicate, length-replicate}
+use lib.ListN.{length, getD, drop, getD-replicate, length-replicate}
 use Rattle.sheet.specs.declared.answer.Answer.{Answer}
 use Rattle.sheet.specs.declared.answer.Answer.the-variants.{Accepted, Refused}
 use Rattle.reader.specs.Reading.{readOf}
@@ -35,7 +35,7 @@ use Rattle.guarantee.specs.Encoding.{callsOf}
 use Rattle.exports.specs.Fields.{answerWord}
 use Rattle.exports.specs.Ticks.{tickWord}
 use Rattle.exports.specs.Words.{stateSize, stateWords, stateFrom, isState, EntryHeld, StateHeld}
-use Rattle.exports.specs.Calls.{Called, noState, numberIn, startLeft, startCall, releaseCall, tickCall, boardCall, planCall, bytesWritten, replayCall, Leaves, RefusalLeaves, NoStateFirst, StaysState, SomeStates}
+use Rattle.exports.specs.Calls.{noState, numberIn, startLeft, startCall, releaseCall, tickCall, boardCall, planCall, bytesWritten, replayCall, Leaves, RefusalLeaves, NoStateFirst, StaysState, SomeStates}
 use Rattle.exports.proofs.Codec.{same-said}
 use Rattle.exports.proofs.Called.{release-none, tick-none, board-none}
 

@@ -13,7 +13,6 @@ use Rattle.dispatcher.specs.Board.{boardedOf, boardOf}
 use Rattle.exports.specs.Fields.{answerWord}
 use Rattle.exports.specs.Ticks.{acceptedWord, tickWord}
 use Rattle.exports.specs.Words.{stateFrom, isState}
-use Rattle.exports.specs.Calls.{noState}
 use Rattle.exports.specs.Repeats.{ticksWord, lastWord, boardsOf, ticksCall, releasesCall, boardsCall}
 use Rattle.exports.proofs.Called.{Does}
 

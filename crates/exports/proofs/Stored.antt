@@ -1,19 +1,19 @@
 -- Words read and stored one behind the other: what is done, with what is left, is the whole.
-use Prim.Native.Nat.{ℕ, zero, suc, _+_, _*_, _≤_, _<_}
-use mathlib.Core.Path.{_≡_, refl, sym, ap, subst, _∙_}
+use Prim.Native.Nat.{ℕ, zero, suc, _+_, _≤_, _<_}
+use mathlib.Core.Path.{_≡_, refl, sym, subst, _∙_}
 use mathlib.Core.Bool.{Bool, _&&_}
 use mathlib.Core.List.{List, [], _∷_, _++_, append-nil}
 use native.Mathlib.Numerals.{add-one}
 use native.Mathlib.Omega.{arith}
 use native.Mathlib.Decide.{decLt}
-use lib.ListN.{length, getD, take, drop, set, length-append, length-drop, length-set, drop-of-length-le}
-use lib.Seq.{take-suc, take-suc-set, take-all, drop-cons, getD-drop, sets, length-sets, sets-eq}
+use lib.ListN.{length, getD, take, drop, set, length-drop, drop-of-length-le}
+use lib.Seq.{take-suc, take-suc-set, drop-cons, getD-drop, sets, length-sets, sets-eq}
 use Rattle.basics.specs.Lists.{allBelow}
 use Rattle.guarantee.proofs.Records.{sets-append}
 use Rattle.entries.specs.declared.state.TaskState.{TaskState}
 use Rattle.start.specs.Fresh.{zeroEntry}
 use Rattle.dispatcher.specs.declared.state.State.{State}
-use Rattle.exports.specs.Words.{entrySize, entryStart, stateSize, mark, entryWords, entriesWords, stateWords, EntryHeld, StateHeld}
+use Rattle.exports.specs.Words.{entryStart, stateSize, mark, entryWords, entriesWords, stateWords, EntryHeld, StateHeld}
 use Rattle.exports.proofs.Codec.{entry-long, same-said}
 
 -- One more number tested.
@@ -53,7 +53,6 @@ module _ (line : List ℕ) (at : ℕ) (e : TaskState) (masks : length (e .predec
       ≡ sets line at (entryWords e)
   unfolding entryWords
   entry-stored mid alive so-far last =
-      let end = suc (suc at) + length (e .predecessors) in
       let one : at + 1 ≡ suc at = omega arith in
       let two : at + 2 ≡ suc (suc at) = omega arith in
       let p0 : at + 34 ≡ suc (suc at) + length (e .predecessors) = omega arith in

@@ -3,7 +3,6 @@
 use Prim.Native.Nat.{_+_, _-_, _≤_}
 use mathlib.Core.Path.{_≡_, refl, _∙_}
 use native.Mathlib.Omega.{arith}
-use denote.Ref.{now}
 use lib.ListN.{length, getD, drop, length-set}
 use Rattle.exports.proofs.Stored.{store-next, store-none}
 use lib.Seq.{sets}

@@ -1,6 +1,6 @@
 -- `exports::encoding::write_state` meets its contract. The loop's invariant: what is written, with the entries left, is the whole. The
 -- measure is the entries left. Assumes nothing.
-use Prim.Native.Nat.{_-_, _≤_}
+use Prim.Native.Nat.{_-_}
 use mathlib.Core.Path.{_≡_, sym, _∙_}
 use native.Mathlib.Omega.{arith}
 use lib.ListN.{length, length-set, length-map}
