@@ -1,13 +1,13 @@
 -- Numbers in bytes: bytes in front move each place by their number, a number of two or four bytes is the sum of its bytes, and four
 -- stores write one.
 use Prim.Native.Nat.{ℕ, suc, _<_, _+_, _*_, _/_, _%_}
-use mathlib.Core.List.{List, _++_}
+use mathlib.Core.List.{List, [], _∷_, _++_}
 use mathlib.Core.Path.{_≡_, sym, ap, _∙_}
 use native.Mathlib.Omega.{arith}
 use native.Mathlib.Nat.{mod-add-div, mod-eq-of-lt, div-div-eq-div-mul}
 use lib.ListN.{length, set}
 use lib.Seq.{getD-append-add, sets}
-use Rattle.basics.specs.Numbers.{byteAt, u16At, u32At, u32Bytes}
+use Rattle.basics.specs.Numbers.{byteAt, u16At, u32At, u16Bytes, u32Bytes}
 
 -- Bytes in front move each place.
 module _ (front s : List ℕ) where
@@ -53,3 +53,17 @@ u32-stored out at x =
     let two : at + 2 ≡ suc (suc at) = omega arith in
     let three : at + 3 ≡ suc (suc (suc at)) = omega arith in
     rw (one, two, three)
+
+-- A number that two bytes hold has no more than these.
+pub u16-small : (x : ℕ) → x < 65536 → u16Bytes x ≡ x % 256 ∷ x / 256 ∷ []
+unfolding u16Bytes
+u16-small x h =
+    let high : x / 256 % 256 ≡ x / 256 = omega arith in
+    rw high
+
+-- A run of stores in two parts.
+pub sets-append : {A : Type 0} (out : List A) (at : ℕ) (xs ys : List A) → sets out at (xs ++ ys) ≡ sets (sets out at xs) (at + length xs) ys
+sets-append out at [] ys = let e : at + 0 ≡ at = omega arith in rw e
+sets-append out at (x ∷ xs) ys =
+    let e : at + suc (length xs) ≡ suc at + length xs = omega arith in
+    rw e (sets-append (set out at x) (suc at) xs ys)

@@ -7,24 +7,24 @@ use mathlib.Core.List.{List, [], _∷_, _++_, map, append-assoc}
 use native.Mathlib.Omega.{arith}
 use lib.ListN.{length, getD, take, drop, length-append, length-drop, length-map, take-append-drop, drop-of-length-le}
 use lib.Seq.{take-at, drop-at, take-add, drop-drop, drop-cons, getD-append-add, length-take-le}
-use Rattle.basics.specs.Lists.{range}
+use Rattle.basics.specs.Lists.{range, bit}
 use Rattle.basics.proofs.Lists.{length-range}
 use Rattle.entries.specs.declared.state.TaskState.{TaskState}
 use Rattle.start.specs.Fresh.{zeroEntry}
 use Rattle.dispatcher.specs.declared.state.State.{State}
-use Rattle.exports.specs.Words.{entrySize, entryStart, stateSize, mark, entryWords, entriesWords, stateWords, isSet, entryFrom, entryAt, stateFrom, entryFits, isState, EntryHeld, StateHeld, SameSaid}
+use Rattle.exports.specs.Words.{entrySize, entryStart, stateSize, entryWords, entriesWords, stateWords, isSet, entryFrom, entryAt, stateFrom, entryFits, isState, EntryHeld, StateHeld, SameSaid}
 use Rattle.exports.proofs.Lines.{Fitting, entry-fitting, fitting-entry, StateLine, state-line, line-state}
 
-mark-said : (b : Bool) → isSet (mark b) ≡ b
+mark-said : (b : Bool) → isSet (bit b) ≡ b
 unfolding isSet
 mark-said true = refl
 mark-said false = refl
 
-mark-small : (b : Bool) → mark b < 2
+mark-small : (b : Bool) → bit b < 2
 mark-small true = omega arith
 mark-small false = omega arith
 
-mark-word : (w : ℕ) → w < 2 → mark (isSet w) ≡ w
+mark-word : (w : ℕ) → w < 2 → bit (isSet w) ≡ w
 unfolding isSet
 mark-word zero h = refl
 mark-word (suc zero) h = refl
@@ -41,7 +41,7 @@ module _ (e : TaskState) (held : EntryHeld e) (rest : List ℕ) where
       ∷ e .share .critical
       ∷ e .age
       ∷ e .job .ended
-      ∷ mark (e .job .alive)
+      ∷ bit (e .job .alive)
       ∷ []
 
   apart : entryWords e ++ rest ≡ e .level ∷ e .nodes ∷ e .predecessors ++ (tail ++ rest)
@@ -85,7 +85,7 @@ pub entry-long : (e : TaskState) → length (e .predecessors) ≡ 32 → length 
 unfolding entryWords
 entry-long e masks =
     let tail =
-    e .deadline ∷ e .«virtual_deadline» ∷ e .share .typical ∷ e .share .critical ∷ e .age ∷ e .job .ended ∷ mark (e .job .alive) ∷ [] in
+    e .deadline ∷ e .«virtual_deadline» ∷ e .share .typical ∷ e .share .critical ∷ e .age ∷ e .job .ended ∷ bit (e .job .alive) ∷ [] in
     omega (arith, length-append (e .predecessors) tail)
 
 -- The values of each of these entries fit.
@@ -137,7 +137,7 @@ module _ (s : State) (held : StateHeld s) where
 
   -- The three words in front.
   front : List ℕ
-  front = s .processors ∷ s .count ∷ mark (s .critical) ∷ []
+  front = s .processors ∷ s .count ∷ bit (s .critical) ∷ []
 
   state-long : length (stateWords s) ≡ stateSize
   unfolding stateWords

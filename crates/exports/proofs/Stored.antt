@@ -8,12 +8,12 @@ use native.Mathlib.Omega.{arith}
 use native.Mathlib.Decide.{decLt}
 use lib.ListN.{length, getD, take, drop, set, length-drop, drop-of-length-le}
 use lib.Seq.{take-suc, take-suc-set, drop-cons, getD-drop, sets, length-sets, sets-eq}
-use Rattle.basics.specs.Lists.{allBelow}
-use Rattle.guarantee.proofs.Records.{sets-append}
+use Rattle.basics.specs.Lists.{allBelow, bit}
+use Rattle.basics.proofs.Bytes.{sets-append}
 use Rattle.entries.specs.declared.state.TaskState.{TaskState}
 use Rattle.start.specs.Fresh.{zeroEntry}
 use Rattle.dispatcher.specs.declared.state.State.{State}
-use Rattle.exports.specs.Words.{entryStart, stateSize, mark, entryWords, entriesWords, stateWords, EntryHeld, StateHeld}
+use Rattle.exports.specs.Words.{entryStart, stateSize, entryWords, entriesWords, stateWords, EntryHeld, StateHeld}
 use Rattle.exports.proofs.Codec.{entry-long, same-said}
 
 -- One more number tested.
@@ -42,7 +42,7 @@ store-none words line whole at v all left = rw (drop-of-length-le words all) at 
 -- Two words, the masks and seven words are an entry's.
 module _ (line : List ℕ) (at : ℕ) (e : TaskState) (masks : length (e .predecessors) ≡ 32) where
   pub entry-stored : (mid : List ℕ) (alive : ℕ) → mid ≡ sets (set (set line at (e .level)) (at + 1) (e .nodes)) (at + 2) (e .predecessors) →
-      alive ≡ mark (e .job .alive) →
+      alive ≡ bit (e .job .alive) →
       set
       (set
       (set (set (set (set (set mid (at + 34) (e .deadline)) (at + 35) (e .«virtual_deadline»)) (at + 36) (e .share .typical)) (at + 37) (e .share .critical)) (at + 38) (e .age))
@@ -108,7 +108,7 @@ module _ (entries : List TaskState) (sixteen : length entries ≡ 16) where
       (rw (drop-of-length-le entries {i = i} (omega arith)) at (so-far .left), λ j h. so-far .held j (omega arith))
 
 -- Three words in front of the entries', over a line of the same length, are a state's.
-pub state-stored : (s : State) (line : List ℕ) (mode : ℕ) → length line ≡ stateSize → StateHeld s → mode ≡ mark (s .critical) →
+pub state-stored : (s : State) (line : List ℕ) (mode : ℕ) → length line ≡ stateSize → StateHeld s → mode ≡ bit (s .critical) →
     sets (set (set (set line 0 (s .processors)) 1 (s .count)) 2 mode) 3 (entriesWords (s .entries)) ≡ stateWords s
 unfolding stateWords
 state-stored s line mode long held last =

@@ -5,7 +5,7 @@ use mathlib.Core.List.{List, [], _∷_, _++_, map}
 use mathlib.Core.Path.{_≡_}
 use lib.Dec.{ltb, eqb}
 use lib.ListN.{length, getD, take, drop}
-use Rattle.basics.specs.Lists.{range, allBelow}
+use Rattle.basics.specs.Lists.{range, allBelow, bit}
 use Rattle.entries.specs.declared.state.TaskState.{TaskState}
 use Rattle.start.specs.Fresh.{zeroEntry}
 use Rattle.dispatcher.specs.declared.state.State.{State}
@@ -22,11 +22,6 @@ entryStart i = 3 + entrySize * i
 abbrev pub stateSize : ℕ
 stateSize = entryStart 16
 
--- S13.1: a truth value as a word.
-abbrev pub mark : Bool → ℕ
-mark true = 1
-mark false = 0
-
 -- S13.1: the words of an entry: level, k, the masks, D, V, the typical and the critical share, age, ended set, alive.
 unfoldable pub entryWords : TaskState → List ℕ
 entryWords e =
@@ -39,7 +34,7 @@ entryWords e =
     ∷ e .share .critical
     ∷ e .age
     ∷ e .job .ended
-    ∷ mark (e .job .alive)
+    ∷ bit (e .job .alive)
     ∷ []
 
 -- S13.1: the words of entries, one behind the other.
@@ -49,7 +44,7 @@ entriesWords (e ∷ entries) = entryWords e ++ entriesWords entries
 
 -- S13.1: the words of a state: M, n, the mode, the entries.
 unfoldable pub stateWords : State → List ℕ
-stateWords s = s .processors ∷ s .count ∷ mark (s .critical) ∷ entriesWords (s .entries)
+stateWords s = s .processors ∷ s .count ∷ bit (s .critical) ∷ entriesWords (s .entries)
 
 -- A word as a truth value: any but 0 is true.
 unfoldable pub isSet : ℕ → Bool

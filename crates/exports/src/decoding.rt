@@ -7,7 +7,6 @@ ghost use Rattle.exports.specs.Words.{entrySize, entryFrom, stateFrom, e
 use crate::checking::ENTRY_WORDS;
 use dispatcher::state::State;
 use entries::state::Job;
-use entries::state::Job;
 use entries::state::TaskState;
 use shares::share::Share;
 use start::fresh::zero_entry;
@@ -43,10 +42,8 @@ fn entry_from(line: &[u32], at: usize) -> TaskState
         share,
         age: line[at + 38],
         job: Job {
-            job: Job {
-                ended: line[at + 39],
-                alive: line[at + 40] != 0,
-            },
+            ended: line[at + 39],
+            alive: line[at + 40] != 0,
         },
     }
 }

@@ -3,13 +3,14 @@ ghost use mathlib.Core.Path.{_≡_};
 ghost use Prim.Native.Nat.{_+_, _≤_};
 ghost use lib.ListN.{length};
 ghost use lib.Seq.{sets};
-ghost use Rattle.exports.specs.Words.{entrySize, stateSize, mark, entryWords, stateWords, EntryHeld, StateHeld};
+ghost use Rattle.basics.specs.Lists.{bit};
+ghost use Rattle.exports.specs.Words.{entrySize, stateSize, entryWords, stateWords, EntryHeld, StateHeld};
 use crate::checking::ENTRY_WORDS;
 use dispatcher::state::State;
 use entries::state::TaskState;
 
 fn mark(b: bool) -> u32
-    ensures { λ r. ⌜ r ≡ mark b ⌝ }
+    ensures { λ r. ⌜ r ≡ bit b ⌝ }
 {
     if b { 1 } else { 0 }
 }

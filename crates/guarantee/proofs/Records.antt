@@ -6,6 +6,8 @@ use native.Mathlib.Numerals.{add-one}
 use native.Mathlib.Omega.{arith}
 use lib.ListN.{length, drop, set, length-append, length-map}
 use lib.Seq.{sets, length-sets}
+use Rattle.basics.specs.Lists.{bit}
+use Rattle.basics.proofs.Bytes.{sets-append}
 use Rattle.model.specs.Row.{Row}
 use Rattle.model.specs.Step.{Model, release, tick}
 use Rattle.dispatcher.specs.declared.state.State.{State}
@@ -22,14 +24,7 @@ use Rattle.dispatcher.specs.Calls.{releaseOf, tickOf}
 use Rattle.guarantee.specs.declared.turn.Turn.{Turn}
 use Rattle.guarantee.specs.Runs.{Said, released, ticked}
 use Rattle.basics.specs.Numbers.{u32Bytes}
-use Rattle.guarantee.specs.Record.{outcomeOf, markByte, taskBytes, rowsBytes, modelBytes, recordOf, turnOf, turnBytes}
-
--- Bytes stored behind others.
-pub sets-append : (out : List ℕ) (at : ℕ) (xs ys : List ℕ) → sets out at (xs ++ ys) ≡ sets (sets out at xs) (at + length xs) ys
-sets-append out at [] ys = let e : at + 0 ≡ at = omega arith in rw e
-sets-append out at (x ∷ xs) ys =
-    let e : suc at + length xs ≡ at + suc (length xs) = omega arith in
-    sets-append (set out at x) (suc at) xs ys ∙ ap (λ (n : ℕ). sets (sets (set out at x) (suc at) xs) n ys) e
+use Rattle.guarantee.specs.Record.{outcomeOf, taskBytes, rowsBytes, modelBytes, recordOf, turnOf, turnBytes}
 
 pub u32-length : (x : ℕ) → length (u32Bytes x) ≡ 4
 unfolding u32Bytes
@@ -50,16 +45,16 @@ unfolding recordOf modelBytes
 record-length said m = omega (arith, rows-length (m .rows))
 
 -- A task's 9 bytes.
-pub task-stored : (out : List ℕ) (at alive : ℕ) (r : Row) → alive ≡ markByte (r .job .alive) →
+pub task-stored : (out : List ℕ) (at alive : ℕ) (r : Row) → alive ≡ bit (r .job .alive) →
     sets (sets (set out at alive) (at + 1) (u32Bytes (r .age))) (at + 5) (u32Bytes (r .job .ended)) ≡ sets out at (taskBytes r)
 unfolding taskBytes
 task-stored out at alive r e =
     let one : at + 1 ≡ suc at = omega arith in
     let five : at + 5 ≡ suc at + length (u32Bytes (r .age)) = omega (arith, u32-length (r .age)) in
-    rw (e, five, one) (sym (sets-append (set out at (markByte (r .job .alive))) (suc at) (u32Bytes (r .age)) (u32Bytes (r .job .ended))))
+    rw (e, five, one) (sym (sets-append (set out at (bit (r .job .alive))) (suc at) (u32Bytes (r .age)) (u32Bytes (r .job .ended))))
 
 -- The mode's byte, and the tasks behind it.
-pub state-stored : (out : List ℕ) (at mode : ℕ) (m : Model) → mode ≡ markByte (m .critical) →
+pub state-stored : (out : List ℕ) (at mode : ℕ) (m : Model) → mode ≡ bit (m .critical) →
     sets (set out at mode) (at + 1) (rowsBytes (m .rows)) ≡ sets out at (modelBytes m)
 unfolding modelBytes
 state-stored out at mode m e = rw (e, add-one at)

@@ -39,7 +39,8 @@ use Rattle.guarantee.specs.Encoding.{sizeAt, callAt, callsFrom, callsOf}
 use Rattle.guarantee.specs.Record.{answerBytes, recordOf, turnOf, turnBytes}
 use Rattle.guarantee.specs.Replay.{recordsOf, callsRun, replayBytes, replayedOf, replayOver}
 use Rattle.guarantee.proofs.Encodings.{call-left, calls-next, calls-exact}
-use Rattle.guarantee.proofs.Records.{sets-append, record-length, model-rows}
+use Rattle.basics.proofs.Bytes.{sets-append}
+use Rattle.guarantee.proofs.Records.{record-length, model-rows}
 
 -- A product is compared by a quotient.
 pub room-quotient : (room count size : ℕ) → 1 ≤ size → 2 ≤ room → leb count ((room - 2) / size) ≡ leb (2 + count * size) room

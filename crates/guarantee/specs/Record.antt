@@ -2,6 +2,7 @@
 use Prim.Native.Nat.{ℕ}
 use mathlib.Core.Bool.{Bool, cond}
 use mathlib.Core.List.{List, [], _∷_, _++_}
+use Rattle.basics.specs.Lists.{bit}
 use Rattle.sheet.specs.declared.answer.Answer.{Answer}
 use Rattle.sheet.specs.declared.answer.Answer.the-variants.{Accepted, Refused}
 use Rattle.basics.specs.Numbers.{u32Bytes}
@@ -49,13 +50,9 @@ saidTask (ticked a) = tickTask a
 abbrev pub answerBytes : Answer → List ℕ
 answerBytes a = numberOf a ∷ taskOf a ∷ []
 
--- S12.2: a mark is the byte 1, its absence 0.
-unfoldable pub markByte : Bool → ℕ
-markByte b = cond b 1 0
-
 -- S12.2: what is held of a task, in 9 bytes: its alive mark, age and ended set.
 unfoldable pub taskBytes : Row → List ℕ
-taskBytes r = markByte (r .job .alive) ∷ (u32Bytes (r .age) ++ u32Bytes (r .job .ended))
+taskBytes r = bit (r .job .alive) ∷ (u32Bytes (r .age) ++ u32Bytes (r .job .ended))
 
 -- S12.2: the same for each task.
 abbrev pub rowsBytes : List Row → List ℕ
@@ -64,7 +61,7 @@ rowsBytes (r ∷ rows) = taskBytes r ++ rowsBytes rows
 
 -- S12.2: what the model holds: whether the mode is critical, then each task.
 unfoldable pub modelBytes : Model → List ℕ
-modelBytes m = markByte (m .critical) ∷ rowsBytes (m .rows)
+modelBytes m = bit (m .critical) ∷ rowsBytes (m .rows)
 
 -- S12.2: the record of a call: outcome, number and task, and what is held after it.
 unfoldable pub recordOf : Said → Model → List ℕ

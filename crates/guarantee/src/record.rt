@@ -3,10 +3,11 @@ ghost use mathlib.Core.Path.{_≡_};
 ghost use Prim.Native.Nat.{_+_, _*_, _≤_};
 ghost use lib.ListN.{length};
 ghost use lib.Seq.{sets};
+ghost use Rattle.basics.specs.Lists.{bit};
 ghost use Rattle.basics.specs.Numbers.{u32Bytes};
 ghost use Rattle.entries.specs.Entry.{rowOf};
 ghost use Rattle.dispatcher.specs.Holds.{modelOf};
-ghost use Rattle.guarantee.specs.Record.{answerBytes, markByte, taskBytes, modelBytes, turnBytes};
+ghost use Rattle.guarantee.specs.Record.{answerBytes, taskBytes, modelBytes, turnBytes};
 use crate::turn::Turn;
 use basics::numbers::put_u32;
 use dispatcher::state::State;
@@ -15,7 +16,7 @@ use sheet::answer::Answer;
 use sheet::answer::NO_TASK;
 
 fn mark_byte(mark: bool) -> u8
-    ensures { λ r. ⌜ r ≡ markByte mark ⌝ }
+    ensures { λ r. ⌜ r ≡ bit mark ⌝ }
 {
     if mark { 1 } else { 0 }
 }

@@ -1,7 +1,7 @@
 -- Sums, counts and tests over the numbers below k, each by induction on k.
 use Prim.Native.Nat.{ℕ, zero, suc, _+_, _≤_, _<_, min}
 use mathlib.Core.Path.{_≡_, refl, ap, ap₂, _∙_}
-use mathlib.Core.Bool.{Bool, true, false, _&&_, true≢false, false≢true}
+use mathlib.Core.Bool.{Bool, true, false, _&&_, and-true, true≢false, false≢true}
 use native.Mathlib.Omega.{arith}
 use native.Mathlib.Decide.{decLt}
 use lib.Dec.{ltb}
@@ -15,10 +15,6 @@ use Rattle.model.specs.Budget.{sumBelow}
 -- Whether v is among the s lowest numbers that pass the test: it passes, and fewer than s below it do.
 unfoldable pub lowest : ℕ → (ℕ → Bool) → ℕ → Bool
 lowest s p v = p v && ltb (count p v) s
-
-and-true : (x : Bool) → (x && true) ≡ x
-and-true true = refl
-and-true false = refl
 
 pub sum-le : (k : ℕ) (f g : ℕ → ℕ) → ((v : ℕ) → v < k → f v ≤ g v) → sumBelow k f ≤ sumBelow k g
 unfolding sumBelow

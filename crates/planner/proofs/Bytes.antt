@@ -1,4 +1,4 @@
--- Bytes laid over a buffer: what is laid behind what was laid is one piece; and what each task gives, one task after the other.
+-- What each task gives, one task after the other.
 use Prim.Native.Nat.{ℕ, zero, suc, _+_, _*_, _≤_}
 use mathlib.Core.Path.{_≡_, refl, sym, ap, _∙_}
 use mathlib.Core.List.{List, [], _++_, append-assoc, append-nil}
@@ -8,33 +8,6 @@ use native.Mathlib.Omega.{arith}
 use lib.ListN.{length, take, drop, length-append, length-drop, take-append-drop}
 use lib.Seq.{take-at, drop-append-add, drop-drop, length-take-le}
 use Rattle.basics.specs.Lists.{range, each}
-use Rattle.planner.specs.Writing.{laid}
-
-pub laid-none : (at : ℕ) (old : List ℕ) → laid at [] old ≡ old
-unfolding laid
-laid-none at old = rw (add-zero at, append-nil (take at old)) (take-append-drop at old)
-
-pub laid-length : (at : ℕ) (bytes old : List ℕ) → at + length bytes ≤ length old → length (laid at bytes old) ≡ length old
-unfolding laid
-laid-length at bytes old fit =
-    simp (length-append, length-drop) (omega (arith, length-take-le at old (omega arith)))
-
-pub laid-more : (at : ℕ) (bytes more old : List ℕ) → at + length bytes ≤ length old →
-    laid (at + length bytes) more (laid at bytes old) ≡ laid at (bytes ++ more) old
-unfolding laid
-laid-more at bytes more old fit =
-    let front : length (take at old ++ bytes) ≡ at + length bytes =
-    length-append (take at old) bytes ∙ ap (λ (x : ℕ). x + length bytes) (length-take-le at old (omega arith)) in
-    let end : length (take at old ++ bytes) + length more ≡ at + length bytes + length more = ap (λ (x : ℕ). x + length more) front in
-    let all : at + length (bytes ++ more) ≡ at + length bytes + length more = simp length-append (omega arith) in
-    ap (λ (l : List ℕ). l ++ more ++ drop (at + length bytes + length more) (take at old ++ bytes ++ drop (at + length bytes) old))
-    (take-at (take at old ++ bytes) (drop (at + length bytes) old) (at + length bytes) front)
-    ∙ ap (λ (l : List ℕ). take at old ++ bytes ++ more ++ l)
-    (ap (λ (x : ℕ). drop x (take at old ++ bytes ++ drop (at + length bytes) old)) (sym end)
-    ∙ drop-append-add (take at old ++ bytes) (drop (at + length bytes) old) (length more)
-    ∙ drop-drop (length more) (at + length bytes) old
-    ∙ ap (λ (x : ℕ). drop x old) (sym all))
-    ∙ ap (λ (l : List ℕ). l ++ drop (at + length (bytes ++ more)) old) (append-assoc (take at old) bytes more)
 
 -- The bytes of one task more.
 module _ (f : ℕ → List ℕ) where

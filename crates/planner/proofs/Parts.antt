@@ -7,18 +7,13 @@ use native.Mathlib.Nat.{add-zero}
 use native.Mathlib.Omega.{arith}
 use lib.ListN.{length, set}
 use lib.Seq.{sets}
+use Rattle.basics.specs.Numbers.{u16Bytes}
 use Rattle.basics.specs.Lists.{range, each}
+use Rattle.basics.proofs.Bytes.{sets-append}
 use Rattle.allocation.specs.declared.allocate.Allocation.{Allocation}
 use Rattle.allocation.specs.Allocation.{allocationAt}
-use Rattle.planner.specs.Plan.{blockOf, blockBytes, wordBytes, virtualBytes}
+use Rattle.planner.specs.Plan.{blockOf, blockBytes, virtualBytes}
 use Rattle.planner.proofs.Bytes.{each-next, pairs-length}
-
--- Bytes set in two steps.
-pub sets-more : (old : List ℕ) (at : ℕ) (bytes more : List ℕ) → sets (sets old at bytes) (at + length bytes) more ≡ sets old at (bytes ++ more)
-sets-more old at [] more = rw (add-zero at)
-sets-more old at (b ∷ bytes) more =
-    let e : at + suc (length bytes) ≡ suc at + length bytes = omega arith in
-    rw e (sets-more (set old at b) (suc at) bytes more)
 
 -- A pair behind i pairs.
 module _ (f : ℕ → List ℕ) (two : (i : ℕ) → length (f i) ≡ 2) (at : ℕ) (old : List ℕ) where
@@ -27,7 +22,7 @@ module _ (f : ℕ → List ℕ) (two : (i : ℕ) → length (f i) ≡ 2) (at : �
   pairs-more i buffer done =
       let so-far : at + length (each (range 0 i) f) ≡ at + 2 * i = ap (λ (x : ℕ). at + x) (pairs-length f two i) in
       rw (done, ← so-far)
-      (sets-more old at (each (range 0 i) f) (f i) ∙ ap (λ (l : List ℕ). sets old at l) (sym (each-next f i)))
+      (sym (sets-append old at (each (range 0 i) f) (f i)) ∙ ap (λ (l : List ℕ). sets old at l) (sym (each-next f i)))
 
 module _ (allocations : List Allocation) (at : ℕ) (old : List ℕ) where
   pub blocks-none : (mode : Bool) → old ≡ sets old at (blockBytes mode 0 allocations)
@@ -44,10 +39,10 @@ module _ (allocations : List Allocation) (at : ℕ) (old : List ℕ) where
   virtuals-none = refl
 
   pub virtuals-more : (i : ℕ) (buffer : List ℕ) → buffer ≡ sets old at (virtualBytes i allocations) →
-      sets buffer (at + 2 * i) (wordBytes (allocationAt allocations i .«virtual_deadline»)) ≡ sets old at (virtualBytes (i + 1) allocations)
-  unfolding virtualBytes
+      sets buffer (at + 2 * i) (u16Bytes (allocationAt allocations i .«virtual_deadline»)) ≡ sets old at (virtualBytes (i + 1) allocations)
+  unfolding virtualBytes u16Bytes
   virtuals-more i buffer done =
-      pairs-more (λ j. wordBytes (allocationAt allocations j .«virtual_deadline»)) (λ j. refl) at old i buffer done
+      pairs-more (λ j. u16Bytes (allocationAt allocations j .«virtual_deadline»)) (λ j. refl) at old i buffer done
 
 -- A part has two bytes for each task.
 pub blocks-length : (mode : Bool) (n : ℕ) (allocations : List Allocation) → length (blockBytes mode n allocations) ≡ 2 * n
@@ -55,5 +50,5 @@ unfolding blockBytes
 blocks-length mode n allocations = pairs-length (λ j. blockOf mode (allocationAt allocations j)) (λ j. refl) n
 
 pub virtuals-length : (n : ℕ) (allocations : List Allocation) → length (virtualBytes n allocations) ≡ 2 * n
-unfolding virtualBytes
-virtuals-length n allocations = pairs-length (λ j. wordBytes (allocationAt allocations j .«virtual_deadline»)) (λ j. refl) n
+unfolding virtualBytes u16Bytes
+virtuals-length n allocations = pairs-length (λ j. u16Bytes (allocationAt allocations j .«virtual_deadline»)) (λ j. refl) n

@@ -1,6 +1,6 @@
 -- The plan of a sheet: the parts set one behind the other are the plan, and the answer goes refusal by refusal.
 use Prim.Native.Nat.{ℕ, _+_, _*_, _≤_, _<_}
-use mathlib.Core.Path.{_≡_, ap, _∙_}
+use mathlib.Core.Path.{_≡_, sym, ap, _∙_}
 use mathlib.Core.Bool.{true, false}
 use mathlib.Core.List.{List, _++_}
 use native.Mathlib.Omega.{arith}
@@ -11,8 +11,9 @@ use Rattle.sheet.specs.declared.answer.Answer.the-variants.{Accepted, Refused}
 use Rattle.sheet.specs.Answers.{noTask}
 use Rattle.allocation.specs.declared.allocate.Allocation.{Allocation}
 use Rattle.allocation.specs.Allocation.{allocationAnswer, allocatedOf}
+use Rattle.basics.proofs.Bytes.{sets-append}
 use Rattle.planner.specs.Plan.{shortBuffer, blockBytes, virtualBytes, planBytes, planAnswer, planned}
-use Rattle.planner.proofs.Parts.{sets-more, blocks-length, virtuals-length}
+use Rattle.planner.proofs.Parts.{blocks-length, virtuals-length}
 
 module _ (n : ℕ) (allocations : List Allocation) (old : List ℕ) where
   -- Three parts set one behind the other.
@@ -32,11 +33,11 @@ module _ (n : ℕ) (allocations : List Allocation) (old : List ℕ) where
       let two : from ≡ 0 + length a = omega arith in
       let four : 4 * n ≡ 0 + length (a ++ b) = omega arith in
       let joined : second ≡ sets old 0 (a ++ b) =
-      e₂ ∙ ap (λ (x : ℕ). sets first x b) two ∙ ap (λ (l : List ℕ). sets l (0 + length a) b) e₁ ∙ sets-more old 0 a b in
+      e₂ ∙ ap (λ (x : ℕ). sets first x b) two ∙ ap (λ (l : List ℕ). sets l (0 + length a) b) e₁ ∙ sym (sets-append old 0 a b) in
       e₃
       ∙ ap (λ (x : ℕ). sets second x v) four
       ∙ ap (λ (l : List ℕ). sets l (0 + length (a ++ b)) v) joined
-      ∙ sets-more old 0 (a ++ b) v
+      ∙ sym (sets-append old 0 (a ++ b) v)
 
   plan-length : length (planBytes n allocations) ≡ 6 * n
   unfolding planBytes

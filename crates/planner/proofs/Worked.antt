@@ -6,7 +6,7 @@ use mathlib.Core.List.{List, [], _∷_, _++_}
 use lib.ListN.{replicate}
 use Rattle.sheet.specs.declared.answer.Answer.the-variants.{Accepted, Refused}
 use Rattle.sheet.specs.Answers.{firstOver}
-use Rattle.basics.specs.Numbers.{byteAt, u16At, u32At}
+use Rattle.basics.specs.Numbers.{byteAt, u16At, u32At, u16Bytes}
 use Rattle.basics.specs.Lists.{cellsFrom, allBelow, range}
 use Rattle.sheet.specs.Format.{processorsOf, countOf, offsetOf, lengthOf, levelAt, nodesAt, figuresAt, masksAt, taskAt, zeroTask, tasksBelow, taskSetOf, taskIn, placeOf}
 use Rattle.sheet.specs.Level.{levelLawful, isLow, bytesBeforeMasks, figureLimit, isHigh}
@@ -23,7 +23,7 @@ use Rattle.allocation.specs.Blocks.{offsetIn}
 use Rattle.allocation.specs.Allocation.{chosenFor, shareAnswer, choiceAnswer, allocationOf, allocationsOf, allocationAt, allocationAnswer, allocatedOf, sharesChosen}
 use Rattle.allocation.specs.declared.allocate.Allocation.{Allocation}
 use Rattle.allocation.proofs.Worked.{pair, on, ab}
-use Rattle.planner.specs.Plan.{blockBytes, wordBytes, virtualBytes, planBytes, planAnswer, planned}
+use Rattle.planner.specs.Plan.{blockBytes, virtualBytes, planBytes, planAnswer, planned}
 
 -- The sheet of a high task with V = 600 at typical share 1 (D 900, CN 600, CO 1000, LN and LO 200) and of a low task with the
 -- share 2, a node each, on M processors.
@@ -61,9 +61,9 @@ pub record Worked : Type 0 where
   pub typical-blocks : blockBytes false 3 three ≡ 0 ∷ 1 ∷ 1 ∷ 2 ∷ 3 ∷ 2 ∷ []
   pub critical-blocks : blockBytes true 3 three ≡ 0 ∷ 3 ∷ 3 ∷ 2 ∷ 5 ∷ 0 ∷ []
   -- S1.1: a number of two bytes has its low byte first.
-  pub word : wordBytes 600 ≡ 88 ∷ 2 ∷ []
-  pub word-low : wordBytes 255 ≡ 255 ∷ 0 ∷ []
-  pub word-high : wordBytes 256 ≡ 0 ∷ 1 ∷ []
+  pub word : u16Bytes 600 ≡ 88 ∷ 2 ∷ []
+  pub word-low : u16Bytes 255 ≡ 255 ∷ 0 ∷ []
+  pub word-high : u16Bytes 256 ≡ 0 ∷ 1 ∷ []
   -- S3.3: a sheet's refusals come in the order 7, 8, 9, also where the buffer has no byte.
   pub first-seven : planAnswer (sheetOn 1) 0 ≡ Refused 7 0
   pub then-eight : planAnswer (sheetOn 2) 0 ≡ Refused 8 255
@@ -82,7 +82,7 @@ pub record Worked : Type 0 where
   pub sheet-room : planAnswer (sheetABE 8) 17 ≡ Refused 9 255
 
 pub worked : Worked
-unfolding byteAt u16At u32At processorsOf countOf offsetOf lengthOf placeOf cellsFrom levelAt nodesAt figuresAt masksAt taskAt zeroTask tasksBelow taskSetOf taskIn levelLawful shapeLawful inRange inOrder lowLawful figuresLawful maskLawful allBelow masksLawful isHeavy taskAnswer firstOver headerLawful headerAnswer placeAnswer endAnswer shapeAnswer recordAnswer readAnswer readOf virtualDeadlineOf isLow ceilDiv lowShare hasLowShare excess demand passes virtualDeadline range lowOptions pairsWithin highOptions optionsOf fits leastOf fitting chosen offsetIn chosenFor shareAnswer choiceAnswer shareAt allocationOf allocationsOf allocationAt allocationAnswer allocatedOf blockBytes virtualBytes planBytes planAnswer planned isHigh figureLimit bytesBeforeMasks
+unfolding byteAt u16At u32At processorsOf countOf offsetOf lengthOf placeOf cellsFrom levelAt nodesAt figuresAt masksAt taskAt zeroTask tasksBelow taskSetOf taskIn levelLawful shapeLawful inRange inOrder lowLawful figuresLawful maskLawful allBelow masksLawful isHeavy taskAnswer firstOver headerLawful headerAnswer placeAnswer endAnswer shapeAnswer recordAnswer readAnswer readOf virtualDeadlineOf isLow ceilDiv lowShare hasLowShare excess demand passes virtualDeadline range lowOptions pairsWithin highOptions optionsOf fits leastOf fitting chosen offsetIn chosenFor shareAnswer choiceAnswer shareAt allocationOf allocationsOf allocationAt allocationAnswer allocatedOf blockBytes virtualBytes planBytes planAnswer planned isHigh figureLimit bytesBeforeMasks u16Bytes
 worked =
     record {
       typical-blocks = refl;

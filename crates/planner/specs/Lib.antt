@@ -1,5 +1,3 @@
--- What a reader must believe: the plan and its answers. Then bytes laid over a buffer, for `exports`; and in `means` what only proofs
--- and inner functions need.
+-- What a reader must believe: the plan and its answers. Then, in `means`, what only proofs and inner functions need.
 pub mod Plan
-pub mod Writing
 pub mod means

@@ -8,6 +8,7 @@ use Rattle.sheet.specs.declared.answer.Answer.{Answer}
 use Rattle.sheet.specs.declared.answer.Answer.the-variants.{Accepted, Refused}
 use Rattle.sheet.specs.Answers.{noTask, refusedIf, _orElse_}
 use Rattle.shares.specs.Totals.{shareIn}
+use Rattle.basics.specs.Numbers.{u16Bytes}
 use Rattle.basics.specs.Lists.{range, each}
 use Rattle.allocation.specs.declared.allocate.Offset.{Offset}
 use Rattle.allocation.specs.declared.allocate.Allocation.{Allocation}
@@ -29,13 +30,9 @@ blockOf mode a = beginIn mode (a .offset) ∷ shareIn mode (a .share) ∷ []
 unfoldable pub blockBytes : Bool → ℕ → List Allocation → List ℕ
 blockBytes mode n allocations = each (range 0 n) (λ i. blockOf mode (allocationAt allocations i))
 
--- S1.1: a number of two bytes.
-abbrev pub wordBytes : ℕ → List ℕ
-wordBytes v = v % 256 ∷ v / 256 ∷ []
-
 -- S5.5: V of n tasks, two bytes for each.
 unfoldable pub virtualBytes : ℕ → List Allocation → List ℕ
-virtualBytes n allocations = each (range 0 n) (λ i. wordBytes (allocationAt allocations i .«virtual_deadline»))
+virtualBytes n allocations = each (range 0 n) (λ i. u16Bytes (allocationAt allocations i .«virtual_deadline»))
 
 -- S5.5: the typical blocks, the critical blocks and the virtual deadlines of n tasks, one behind the other: 6n bytes.
 unfoldable pub planBytes : ℕ → List Allocation → List ℕ

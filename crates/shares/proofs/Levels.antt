@@ -1,7 +1,7 @@
 -- What a task's level makes of its shares: a low task's one share, and the offer's numbers at either level.
 use Prim.Native.Nat.{ℕ, _+_, _-_, _≤_, _<_}
 use mathlib.Core.Path.{_≡_, refl, sym, ap, _∙_, fun-ext}
-use mathlib.Core.Bool.{Bool, true, false, cond, _&&_, false≢true}
+use mathlib.Core.Bool.{Bool, true, false, cond, _&&_, and-false, false≢true}
 use native.Mathlib.Omega.{arith}
 use lib.Dec.{ltb, eqb}
 use lib.ListN.{length, getD, replicate, set, length-set, length-replicate, getD-replicate}
@@ -10,6 +10,7 @@ use borrow.Author.Tests.{ltb-true, leb-true, eqb-true, eqb-false, eq-eqb, ne-eqb
 use Rattle.sheet.specs.declared.task.Figures.{Figures}
 use Rattle.sheet.specs.declared.task.Task.{Task}
 use Rattle.shares.specs.declared.search.Found.the-variants.{At, Nothing}
+use Rattle.basics.proofs.Logic.{left-true, right-true}
 use Rattle.sheet.specs.Level.{isLow}
 use Rattle.shares.specs.Low.{lowShare, hasLowShare, lowAnswer}
 use Rattle.shares.specs.Search.{leastCritical}
@@ -17,23 +18,14 @@ use Rattle.shares.specs.Offer.{lowCritical, criticalAt, tabulate, offerO
 use Rattle.shares.proofs.Least.{least-from}
 use Rattle.shares.proofs.Offers.{tabulated}
 
--- Both halves of a test that holds.
-both : (p q : Bool) → p && q ≡ true → (p ≡ true) × (q ≡ true)
-both true q e = (refl, e)
-both false q e = absurd (false≢true e)
-
-and-false : (p : Bool) → p && false ≡ false
-and-false true = refl
-and-false false = refl
-
 module _ (M : ℕ) (f : Figures) where
   pub has-below : hasLowShare M f ≡ true → f .nominal .span < f .deadline
   unfolding hasLowShare
-  has-below h = ltb-true _ _ (both (ltb (f .nominal .span) (f .deadline)) _ h .0)
+  has-below h = ltb-true _ _ (left-true (ltb (f .nominal .span) (f .deadline)) _ h)
 
   pub has-within : hasLowShare M f ≡ true → lowShare f ≤ M
   unfolding hasLowShare
-  has-within h = leb-true _ _ (both (ltb (f .nominal .span) (f .deadline)) _ h .1)
+  has-within h = leb-true _ _ (right-true (ltb (f .nominal .span) (f .deadline)) _ h)
 
   -- A low task's number is 0 at its share.
   pub low-critical-own : hasLowShare M f ≡ true → lowCritical M f (lowShare f) ≡ 0

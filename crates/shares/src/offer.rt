@@ -3,7 +3,7 @@ use crate::low::low_share;
 use crate::search::Found;
 use crate::search::least_critical;
 use crate::search::number_found;
-use sheet::level::is_low;
+use sheet::level::is_high;
 use sheet::task::Figures;
 use sheet::task::Task;
 ghost use mathlib.Core.Path.{_≡_};
@@ -45,9 +45,9 @@ pub fn offer(t: Task, m: u8) -> [u8; 64]
     ensures { λ r. ⌜ r ≡ offerOf m t ⌝ }
 {
     let f = t.figures;
-    if is_low(t.level) {
-        low_offer(f, m)
-    } else {
+    if is_high(t.level) {
         high_offer(f, m)
+    } else {
+        low_offer(f, m)
     }
 }

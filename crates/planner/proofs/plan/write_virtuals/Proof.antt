@@ -1,11 +1,13 @@
 -- `plan::write_virtuals` meets its contract. The loop's invariant: the virtual deadlines of the tasks passed are written. The
 -- measure is the tasks left.
-use Prim.Native.Nat.{ℕ, _-_, _≤_}
-use mathlib.Core.Path.{_≡_, refl, ap, _∙_}
+use Prim.Native.Nat.{ℕ, _+_, _*_, _-_, _≤_}
+use mathlib.Core.Path.{_≡_, refl, sym, ap, _∙_}
+use mathlib.Core.List.{List}
 use native.Mathlib.Omega.{arith}
 use lib.ListN.{length}
 use lib.Seq.{sets}
 use denote.Ref.{now}
+use Rattle.basics.proofs.Bytes.{u16-small}
 use Rattle.allocation.specs.Allocation.{allocationAt}
 use Rattle.planner.specs.Plan.{virtualBytes}
 use Rattle.planner.proofs.Parts.{virtuals-none, virtuals-more}
@@ -59,10 +61,12 @@ loop-again : tie.Need-loop-again Inv-loop μ-loop
 unfolding allocationAt
 loop-again c =
     let args = c .before .before .before .before .before .before .before .before .args in
-    let loop = c .before .before .before .before .before .before .loop in (
+    let loop = c .before .before .before .before .before .before .loop in
+    let small = c .before .before .before .before .before .before .before .before .pre .1 .each (loop .i) (omega arith) .two-bytes in (
       omega arith,
       c .before .before .put-pair .kept .0 ∙ loop .inv .1,
       c .before .before .put-pair .ensures
+          ∙ ap (λ (l : List ℕ). sets (loop .buffer) (args .from + 2 * loop .i) l) (sym (u16-small _ small))
           ∙ virtuals-more (args .t3) (args .from) (now (args .buffer)) (loop .i) (loop .buffer) (loop .inv .2),
     )
 
