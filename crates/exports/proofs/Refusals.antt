@@ -9,7 +9,6 @@ use lib.Dec.{eqb, leb}
 use lib.ListN.{length, getD, drop, getD-replicate, length-replicate}
 use Rattle.sheet.specs.declared.answer.Answer.{Answer}
 use Rattle.sheet.specs.declared.answer.Answer.the-variants.{Accepted, Refused}
-use Rattle.reader.specs.Reading.{readOf}
 use Rattle.allocation.specs.Allocation.{allocatedOf}
 use Rattle.planner.specs.Plan.{planAnswer, planBytes, planned, writtenIf}
 use Rattle.sheet.specs.Answers.{noTask}

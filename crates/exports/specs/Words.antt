@@ -1,6 +1,6 @@
 -- S13.1, S13.2: a state (S7.1) as a line of words, one for each field in the order of the struct, and which lines are states.
 use Prim.Native.Nat.{ℕ, _+_, _*_, _<_}
-use mathlib.Core.Bool.{Bool, true, false, not, _&&_}
+use mathlib.Core.Bool.{Bool, true, not, _&&_}
 use mathlib.Core.List.{List, [], _∷_, _++_, map}
 use mathlib.Core.Path.{_≡_}
 use lib.Dec.{ltb, eqb}

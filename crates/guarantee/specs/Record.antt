@@ -1,6 +1,5 @@
 -- S12.2: what Replay writes for a call: its answer, and what the state then holds, in 4 + 9n bytes.
 use Prim.Native.Nat.{ℕ}
-use mathlib.Core.Bool.{Bool, cond}
 use mathlib.Core.List.{List, [], _∷_, _++_}
 use Rattle.basics.specs.Lists.{bit}
 use Rattle.sheet.specs.declared.answer.Answer.{Answer}

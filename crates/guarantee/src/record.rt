@@ -4,7 +4,6 @@ ghost use Prim.Native.Nat.{_+_, _*_, _≤_};
 ghost use lib.ListN.{length};
 ghost use lib.Seq.{sets};
 ghost use Rattle.basics.specs.Lists.{bit};
-ghost use Rattle.basics.specs.Numbers.{u32Bytes};
 ghost use Rattle.entries.specs.Entry.{rowOf};
 ghost use Rattle.dispatcher.specs.Holds.{modelOf};
 ghost use Rattle.guarantee.specs.Record.{answerBytes, taskBytes, modelBytes, turnBytes};

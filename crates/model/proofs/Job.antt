@@ -2,7 +2,7 @@
 -- ended nodes are those that have run their lengths.
 use Prim.Native.Nat.{ℕ, _+_, _*_, _≤_, _<_, _^_, min}
 use mathlib.Core.Path.{_≡_, refl, sym, ap, ap₂, _∙_}
-use mathlib.Core.Bool.{Bool, true, false, not, _&&_, _||_, true≢false, false≢true}
+use mathlib.Core.Bool.{Bool, true, false, not, _&&_, _||_, true≢false}
 use native.Mathlib.Nat.{lt-of-lt-of-le, lt-of-le-of-lt}
 use native.Mathlib.Omega.{arith}
 use native.Mathlib.Decide.{decLt}

@@ -1,11 +1,9 @@
 -- The nodes of one row: which of them run, as a test; sets within others; all nodes ended, as a test of each.
-use Prim.Native.Nat.{ℕ, zero, suc, _+_, _≤_, _<_, _^_}
-use mathlib.Core.Path.{_≡_, refl, ap, _∙_}
-use mathlib.Core.Bool.{Bool, true, _&&_, and-eq-true-iff}
+use Prim.Native.Nat.{ℕ, _<_, _^_}
+use mathlib.Core.Path.{_≡_, ap, _∙_}
+use mathlib.Core.Bool.{true, _&&_}
 use mathlib.Core.List.{List}
-use native.Mathlib.Nat.{le-refl}
 use native.Mathlib.Omega.{arith}
-use native.Mathlib.Decide.{ℕ-discrete}
 use borrow.Author.Tests.{eqb-true}
 use lib.Bits.{bitAnd, and-le-r}
 use lib.Dec.{ltb}

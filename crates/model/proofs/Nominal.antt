@@ -6,8 +6,7 @@ use mathlib.Core.Bool.{Bool, true, false, cond, not, true≢false, and-eq-true-i
 use mathlib.Core.List.{List, [], _∷_}
 use mathlib.Core.Option.{Option, none, some}
 use native.Mathlib.Omega.{arith}
-use borrow.Author.Tests.{leb-true, eqb-true}
-use lib.Dec.{eqb}
+use borrow.Author.Tests.{leb-true}
 use lib.ListN.{length, getD}
 use Rattle.sheet.specs.declared.task.Budget.{Budget}
 use Rattle.sheet.specs.declared.task.TaskSet.{TaskSet}

@@ -1,9 +1,8 @@
 -- Sums, counts and tests over the numbers below k, each by induction on k.
 use Prim.Native.Nat.{ℕ, zero, suc, _+_, _≤_, _<_, min}
 use mathlib.Core.Path.{_≡_, refl, ap, ap₂, _∙_}
-use mathlib.Core.Bool.{Bool, true, false, _&&_, and-true, true≢false, false≢true}
+use mathlib.Core.Bool.{Bool, true, false, _&&_, and-true, true≢false}
 use native.Mathlib.Omega.{arith}
-use native.Mathlib.Decide.{decLt}
 use lib.Dec.{ltb}
 use borrow.Author.Tests.{ltb-true, ltb-false, lt-ltb}
 use Rattle.basics.specs.Lists.{bit, count, allBelow}

@@ -1,12 +1,10 @@
 -- What each task gives, one task after the other.
-use Prim.Native.Nat.{ℕ, zero, suc, _+_, _*_, _≤_}
+use Prim.Native.Nat.{ℕ, zero, suc, _+_, _*_}
 use mathlib.Core.Path.{_≡_, refl, sym, ap, _∙_}
-use mathlib.Core.List.{List, [], _++_, append-assoc, append-nil}
-use native.Mathlib.Nat.{add-zero}
+use mathlib.Core.List.{List, _++_, append-assoc, append-nil}
 use native.Mathlib.Numerals.{add-one}
 use native.Mathlib.Omega.{arith}
-use lib.ListN.{length, take, drop, length-append, length-drop, take-append-drop}
-use lib.Seq.{take-at, drop-append-add, drop-drop, length-take-le}
+use lib.ListN.{length, length-append}
 use Rattle.basics.specs.Lists.{range, each}
 
 -- The bytes of one task more.

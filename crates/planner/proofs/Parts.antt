@@ -1,11 +1,9 @@
 -- The parts of a plan, task after task: a pair of bytes set behind those of the tasks before it.
-use Prim.Native.Nat.{ℕ, suc, _+_, _*_}
+use Prim.Native.Nat.{ℕ, _+_, _*_}
 use mathlib.Core.Path.{_≡_, refl, ap, _∙_, sym}
 use mathlib.Core.Bool.{Bool}
-use mathlib.Core.List.{List, [], _∷_, _++_}
-use native.Mathlib.Nat.{add-zero}
-use native.Mathlib.Omega.{arith}
-use lib.ListN.{length, set}
+use mathlib.Core.List.{List}
+use lib.ListN.{length}
 use lib.Seq.{sets}
 use Rattle.basics.specs.Numbers.{u16Bytes}
 use Rattle.basics.specs.Lists.{range, each}

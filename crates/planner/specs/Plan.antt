@@ -1,5 +1,5 @@
 -- S5.5 and S9.9: the plan of a sheet, its bytes, and refusal 9 after those of the reader and of the choice.
-use Prim.Native.Nat.{ℕ, _*_, _/_, _%_}
+use Prim.Native.Nat.{ℕ, _*_}
 use mathlib.Core.Bool.{Bool, true, false, cond}
 use mathlib.Core.List.{List, [], _∷_, _++_}
 use lib.Dec.{ltb}

@@ -1,7 +1,7 @@
 -- What a task's level makes of its shares: a low task's one share, and the offer's numbers at either level.
 use Prim.Native.Nat.{ℕ, _+_, _-_, _≤_, _<_}
 use mathlib.Core.Path.{_≡_, refl, sym, ap, _∙_, fun-ext}
-use mathlib.Core.Bool.{Bool, true, false, cond, _&&_, and-false, false≢true}
+use mathlib.Core.Bool.{Bool, true, false, cond, _&&_, and-false}
 use native.Mathlib.Omega.{arith}
 use lib.Dec.{ltb, eqb}
 use lib.ListN.{length, getD, replicate, set, length-set, length-replicate, getD-replicate}
