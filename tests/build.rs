@@ -1,12 +1,14 @@
-//! Links the static library that `rt staticlib exports` writes.
+//! Links the static libraries that `rt staticlib` writes: the controller's calls, and Replay.
 use std::path::Path;
 
 fn main() {
     let root = Path::new(env!("CARGO_MANIFEST_DIR")).parent().expect("the tests stand in the repository");
     let folder = root.join("target/staticlib");
-    let archive = folder.join("libexports.a");
-    assert!(archive.exists(), "no {}: run `rt staticlib exports` first", archive.display());
     println!("cargo:rustc-link-search=native={}", folder.display());
-    println!("cargo:rustc-link-lib=static=exports");
-    println!("cargo:rerun-if-changed={}", archive.display());
+    for name in ["exports", "replays"] {
+        let archive = folder.join(format!("lib{name}.a"));
+        assert!(archive.exists(), "no {}: run `rt staticlib {name}` first", archive.display());
+        println!("cargo:rustc-link-lib=static={name}");
+        println!("cargo:rerun-if-changed={}", archive.display());
+    }
 }

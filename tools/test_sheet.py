@@ -378,15 +378,17 @@ class Plan(unittest.TestCase):
         self.refuse(bytes(1), "-: as bytes", 1)
         self.refuse(CASE_14[:16] + bytes(2) + CASE_14[18:], "-: as bytes", 4, "task 0: ", "-: offset 16:")
 
-    def test_the_printer_itself_has_no_status_and_no_argument(self):
+    def test_the_printer_itself_has_no_status_and_tells_what_it_cannot_do(self):
         """As the README says of it."""
-        for data, where in ((CASE_14[:-1], ""), (CASE_14, ">/dev/full"), (CASE_14, ">&-")):
+        unwritten = b"plan_printer: the plan could not be written\n"
+        for data, where, errors in ((CASE_14[:-1], "", b""), (CASE_14, ">/dev/full", unwritten), (CASE_14, ">&-", unwritten)):
             command = ["sh", "-c", f'exec "$0" {where}', sheets.PRINTER]
             done = subprocess.run(command, input=data, capture_output=True, check=False)
-            self.assertEqual((done.returncode, done.stderr), (0, b""), where)
+            self.assertEqual((done.returncode, done.stderr), (0, errors), where)
         name = HERE.parent / "examples" / "case-14.sheet"
-        done = subprocess.run([sheets.PRINTER, name], input=b"", capture_output=True, check=False)
-        self.assertEqual(done.stdout, b"refused 1 255\n")
+        done = subprocess.run([sheets.PRINTER, name], input=CASE_14, capture_output=True, check=False)
+        self.assertEqual(done.stdout, b"")
+        self.assertEqual(done.stderr, b"plan_printer: no argument is read; the sheet comes on standard input\n")
 
     def test_more_bytes_than_the_printer_takes(self):
         status, output, errors = tool("plan", "-", data=CASE_14 + bytes(4096))

@@ -3,10 +3,10 @@
 use Prim.Native.Nat.{ℕ, zero, suc, _≤_}
 use mathlib.Core.Path.{_≡_, refl, ap, _∙_}
 use mathlib.Core.Bool.{Bool, true, false, cond}
-use mathlib.Core.List.{List, [], _∷_, _++_}
+use mathlib.Core.List.{List, [], _∷_}
 use native.Mathlib.Omega.{arith}
-use lib.Dec.{eqb, leb}
-use lib.ListN.{length, getD, drop, getD-replicate, length-replicate}
+use lib.Dec.{eqb}
+use lib.ListN.{length, getD, getD-replicate, length-replicate}
 use Rattle.sheet.specs.declared.answer.Answer.{Answer}
 use Rattle.sheet.specs.declared.answer.Answer.the-variants.{Accepted, Refused}
 use Rattle.allocation.specs.Allocation.{allocatedOf}
@@ -27,14 +27,10 @@ use Rattle.dispatcher.specs.Calls.{releasedBy, releaseOf, tickedBy, tickOf}
 use Rattle.dispatcher.specs.Board.{boardAnswer, boardedOf, boardLeft, boardOf}
 use Rattle.dispatcher.proofs.Laws.{release-back, tick-back}
 use Rattle.start.specs.Start.{zeroState, startOf}
-use Rattle.guarantee.specs.declared.replay.Replayed.the-variants.{Written, Short}
-use Rattle.guarantee.specs.Record.{answerBytes}
-use Rattle.guarantee.specs.Replay.{recordsOf, callsRun, replayBytes, replayedOf, replayOver}
-use Rattle.guarantee.specs.Encoding.{callsOf}
 use Rattle.exports.specs.Fields.{answerWord}
 use Rattle.exports.specs.Ticks.{tickWord}
 use Rattle.exports.specs.Words.{stateSize, stateWords, stateFrom, isState, EntryHeld, StateHeld}
-use Rattle.exports.specs.Calls.{noState, numberIn, startLeft, startCall, releaseCall, tickCall, boardCall, planCall, bytesWritten, replayCall, Leaves, RefusalLeaves, NoStateFirst, StaysState, SomeStates}
+use Rattle.exports.specs.Calls.{noState, numberIn, startLeft, startCall, releaseCall, tickCall, boardCall, planCall, Leaves, RefusalLeaves, NoStateFirst, StaysState, SomeStates}
 use Rattle.exports.proofs.Codec.{same-said}
 use Rattle.exports.proofs.Called.{release-none, tick-none, board-none}
 
@@ -100,27 +96,9 @@ plan-leaves sheet buffer refused =
     (λ number task e. ap (λ (a : Answer). writtenIf a (planBytes (allocatedOf sheet .count) (allocatedOf sheet .allocations)) buffer) e)
     refused
 
--- A replay that is written has at least the two bytes of Start's answer.
-some-bytes : (sheet calls : List ℕ) → 2 ≤ length (replayBytes sheet calls)
-unfolding replayBytes
-some-bytes sheet calls = go (startOf sheet .answer)
-  where
-    go : (a : Answer) → 2 ≤ length (answerBytes a ++ recordsOf (startOf sheet .state) (callsRun a (callsOf calls)))
-    go Accepted = omega arith
-    go (Refused number task) = omega arith
-
-replay-leaves : (sheet calls out : List ℕ) → replayCall sheet calls out .word ≡ 0 → replayCall sheet calls out .left ≡ out
-unfolding replayCall replayedOf replayOver
-replay-leaves sheet calls out = go (leb (length (replayBytes sheet calls)) (length out))
-  where
-    go : (t : Bool) → bytesWritten (cond t (Written (length (replayBytes sheet calls))) Short) ≡ 0 →
-        cond t (replayBytes sheet calls ++ drop (length (replayBytes sheet calls)) out) out ≡ out
-    go true none = absurd (omega (arith, some-bytes sheet calls))
-    go false none = refl
-
 pub refusal-leaves : RefusalLeaves
 refusal-leaves =
-    record { start = start-leaves; release = release-leaves; tick = tick-leaves; board = board-leaves; plan = plan-leaves; replay = replay-leaves }
+    record { start = start-leaves; release = release-leaves; tick = tick-leaves; board = board-leaves; plan = plan-leaves }
 
 pub no-state-first : (line : List ℕ) → isState line ≡ false → NoStateFirst line
 no-state-first line none =

@@ -1,4 +1,4 @@
--- S13.3 to S13.7: the calls on lines and buffers. What each answers, as a word, and what it leaves in the line or buffer that it may write.
+-- S13.3 to S13.6: the calls on lines and buffers. What each answers, as a word, and what it leaves in the line or buffer that it may write.
 use Prim.Native.Nat.{ℕ, _+_, _*_, _%_, _≤_}
 use mathlib.Core.Bool.{true, false, cond}
 use mathlib.Core.List.{List, []}
@@ -13,9 +13,6 @@ use Rattle.dispatcher.specs.declared.state.State.{State}
 use Rattle.dispatcher.specs.Calls.{releaseOf, tickOf}
 use Rattle.dispatcher.specs.Board.{boardedOf, boardOf}
 use Rattle.start.specs.Start.{zeroState, startOf}
-use Rattle.guarantee.specs.declared.replay.Replayed.{Replayed}
-use Rattle.guarantee.specs.declared.replay.Replayed.the-variants.{Written, Short}
-use Rattle.guarantee.specs.Replay.{replayedOf, replayOver}
 use Rattle.exports.specs.Fields.{answerWord}
 use Rattle.exports.specs.Ticks.{tickWord}
 use Rattle.exports.specs.Words.{stateSize, stateWords, stateFrom, isState}
@@ -70,15 +67,6 @@ boardCall line buffer =
 unfoldable pub planCall : List ℕ → List ℕ → Called
 planCall sheet buffer = record { word = answerWord (planAnswer sheet (length buffer)); left = planned sheet buffer }
 
--- S13.7: how many bytes a replay wrote; 0 where the buffer is short.
-abbrev pub bytesWritten : Replayed → ℕ
-bytesWritten (Written count) = count
-bytesWritten Short = 0
-
--- S13.7: Replay of a sheet and a log, in a buffer.
-unfoldable pub replayCall : List ℕ → List ℕ → List ℕ → Called
-replayCall sheet calls out = record { word = bytesWritten (replayedOf sheet calls (length out)); left = replayOver sheet calls out }
-
 -- S13.4: the number in an answer's word.
 abbrev pub numberIn : ℕ → ℕ
 numberIn word = word % 256
@@ -87,14 +75,13 @@ numberIn word = word % 256
 unfoldable pub Leaves : Called → List ℕ → Type 0
 Leaves called before = 1 ≤ numberIn (called .word) → called .left ≡ before
 
--- S13.6: each call whose number is not 0 leaves each word of the line and each byte of the buffer; so does a replay that wrote none.
+-- S13.6: each call whose number is not 0 leaves each word of the line and each byte of the buffer.
 pub record RefusalLeaves : Type 0 where
   pub start : (sheet line : List ℕ) → Leaves (startCall sheet line) line
   pub release : (line : List ℕ) (task : ℕ) → Leaves (releaseCall line task) line
   pub tick : (line reports : List ℕ) → Leaves (tickCall line reports) line
   pub board : (line buffer : List ℕ) → Leaves (boardCall line buffer) buffer
   pub plan : (sheet buffer : List ℕ) → Leaves (planCall sheet buffer) buffer
-  pub replay : (sheet calls out : List ℕ) → replayCall sheet calls out .word ≡ 0 → replayCall sheet calls out .left ≡ out
 
 -- S13.5: a line that is no state is answered by 100 and 255 before anything else is looked at.
 pub record NoStateFirst (line : List ℕ) : Type 0 where

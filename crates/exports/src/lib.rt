@@ -8,4 +8,3 @@ mod fields;
 pub mod planning;
 pub mod reading;
 pub mod repeating;
-pub mod replaying;

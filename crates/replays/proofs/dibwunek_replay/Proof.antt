@@ -1,9 +1,9 @@
--- `exports::replaying::dibwunek_replay` meets its contract by what `replay` ensures. Assumes nothing.
+-- `replays::dibwunek_replay` meets its contract by what `replay` ensures. Assumes nothing.
 use mathlib.Core.Path.{_∙_, ap}
-use Rattle.exports.specs.Calls.{bytesWritten, replayCall}
 use borrow.Author.Needs.{needs}
-use Rattle.exports.proofs.replaying.dibwunek_replay.Statement.{statement}
-use Rattle.exports.proofs.replaying.dibwunek_replay.Tie as tie
+use Rattle.replays.specs.Written.{bytesWritten}
+use Rattle.replays.proofs.dibwunek_replay.Statement.{statement}
+use Rattle.replays.proofs.dibwunek_replay.Tie as tie
 
 replay-requires : tie.Need-replay-requires
 replay-requires c κs = search needs
@@ -15,7 +15,6 @@ same-length : tie.Need-same-length
 same-length c = search needs
 
 returns : tie.Need-returns
-unfolding replayCall
 returns c =
     let replay = c .before .before .before .replay .ensures in
     (c .bytes-written .ensures ∙ ap bytesWritten (replay .0), replay .1)

@@ -1,0 +1,2 @@
+-- The exported Replay: what it answers, and what it leaves where it wrote nothing.
+pub mod Written
