@@ -106,8 +106,9 @@ uint32_t dibwunek_tick(uint32_t *state, size_t state_length, const uint32_t *rep
 uint32_t dibwunek_board(const uint32_t *state, size_t state_length, uint8_t *buffer, size_t buffer_length);
 
 /*
- * Replay (S12), for the support line: link libreplays.a for it, a controller's libexports.a has it not. It starts a sheet, runs a log of calls, and writes what each answered and what the state then held to the front of the
- * buffer. It returns how many bytes it wrote, at least 2; 0 says that the buffer is too short, and then nothing is written.
+ * Replay (S12), for the support line. It is in libreplays.a; a controller's libexports.a has none of it. Replay starts a sheet, runs
+ * a log of calls, and writes what each answered and what the state then held to the front of the buffer. It returns how many bytes
+ * it wrote, at least 2; 0 says that the buffer is too short, and then nothing is written.
  */
 size_t dibwunek_replay(const uint8_t *sheet, size_t sheet_length, const uint8_t *calls, size_t calls_length, uint8_t *buffer,
                        size_t buffer_length);

@@ -3,7 +3,7 @@ use crate::low::low_share;
 use crate::search::Found;
 use crate::search::least_critical;
 use crate::search::number_found;
-use sheet::level::is_high;
+use sheet::level::is_low;
 use sheet::task::Figures;
 use sheet::task::Task;
 ghost use mathlib.Core.Path.{_≡_};
@@ -45,9 +45,8 @@ pub fn offer(t: Task, m: u8) -> [u8; 64]
     ensures { λ r. ⌜ r ≡ offerOf m t ⌝ }
 {
     let f = t.figures;
-    if is_high(t.level) {
-        high_offer(f, m)
-    } else {
-        low_offer(f, m)
+    if is_low(t.level) {
+        return low_offer(f, m);
     }
+    high_offer(f, m)
 }
