@@ -19,6 +19,7 @@ NOT_RUN = {
     "rt ci": "`./test` runs it first; it takes minutes",
     "rt check plan_printer": "`rt ci` has built the printer; anew it takes minutes",
     "rt staticlib exports": "`./test` runs it before this test; anew it takes minutes",
+    "rt staticlib replays": "as the one before it",
 }
 
 # What a command needs that another one builds: without it the command is skipped. In `./test` all of it is there.
