@@ -116,7 +116,8 @@ pub fn is_late(e: TaskState) -> bool
 pub fn survives(e: TaskState) -> bool
     ensures { λ r. ⌜ r ≡ survives (fixedOf e) ⌝ }
 {
-    is_high(e.level)
+    let level = e.level;
+    is_high(level)
 }
 
 // S8.6: the entry in the mode turned critical: a job that does not survive is dropped.
