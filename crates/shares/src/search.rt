@@ -18,13 +18,15 @@ pub fn least_critical(f: Figures, m: u8, a: u8) -> Found
     ensures { λ r. ⌜ r ≡ foundOf m (leastCritical m f a) ⌝ }
 {
     let t = terms_of(f, a);
-    let mut b = a;
+    let first = a as u32;
+    let last = m as u32;
+    let mut b = first;
     loop {
-        if m < b {
+        if last < b {
             break Found::Nothing;
         }
-        if meets(t, a, b) {
-            break Found::At(b);
+        if meets(t, first, b) {
+            break Found::At(b as u8);
         }
         b += 1;
     }

@@ -12,11 +12,11 @@ use Rattle.shares.proofs.search.least_critical.Statement.{statement}
 use Rattle.shares.proofs.search.least_critical.Tie as tie
 
 abbrev Inv-loop : tie.InvT-loop
-Inv-loop m a t b₀ b =
+Inv-loop m a t from end b₀ b =
     (a ≤ b) × (first (meets t a) (m + 1) a (m + 1 - a) ≡ first (meets t a) (m + 1) b (m + 1 - b))
 
 abbrev μ-loop : tie.MeasureT-loop
-μ-loop m a t b₀ b = m + 1 - b
+μ-loop m a t from end b₀ b = m + 1 - b
 
 terms-of-requires : tie.Need-terms-of-requires Inv-loop μ-loop
 terms-of-requires c κs = search needs
@@ -26,6 +26,9 @@ loop-holds c = (omega arith, refl)
 
 meets-requires : tie.Need-meets-requires Inv-loop μ-loop
 meets-requires c κs = search needs
+
+cast-t11 : tie.Need-cast-t11 Inv-loop μ-loop
+cast-t11 c = omega arith
 
 add-b : tie.Need-add-b Inv-loop μ-loop
 add-b c = omega arith
@@ -72,6 +75,7 @@ least-critical-spec =
     terms-of-requires
     loop-holds
     meets-requires
+    cast-t11
     add-b
     loop-less
     loop-again
