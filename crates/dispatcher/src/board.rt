@@ -12,6 +12,7 @@ ghost use Rattle.dispatcher.specs.Board.{unused, idle, pairsOf, boardByt
 use crate::sound::NOT_SOUND;
 use crate::sound::is_sound;
 use crate::state::State;
+use entries::entry::ready;
 use entries::entry::running;
 use entries::entry::share_in;
 use sheet::answer::Answer;
@@ -64,8 +65,9 @@ fn put_tasks(buffer: &mut [u8], state: State)
     let mut i: u8 = 0;
     while i < n {
         let e = state.entries[i as usize];
+        let waiting = ready(e);
         let grant = share_in(e.share, state.critical);
-        put_nodes(buffer, at, i, running(e, grant));
+        put_nodes(buffer, at, i, running(waiting, grant));
         at += 2 * (grant as usize);
         i += 1;
     }

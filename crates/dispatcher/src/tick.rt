@@ -14,6 +14,7 @@ use crate::sound::is_sound;
 use crate::sound::ranges_kept;
 use crate::state::State;
 use entries::entry::is_late;
+use entries::entry::ready;
 use entries::entry::running;
 use entries::entry::share_in;
 use entries::entry::switched;
@@ -102,8 +103,9 @@ pub fn tick(state: State, reports: &[u32]) -> Ticked
         }
         let report = reports[i as usize];
         let after = ticked(e, report);
+        let waiting = ready(e);
         let grant = share_in(e.share, state.critical);
-        let wrong = !nodes::is_within(report, running(e, grant));
+        let wrong = !nodes::is_within(report, running(waiting, grant));
         pass = passed(pass, i, e.share, wrong, is_late(after));
         next.entries[i as usize] = after;
         i += 1;

@@ -16,6 +16,8 @@ use Rattle.basics.proofs.Lists.{keep-none}
 use Rattle.nodes.proofs.Members.{setOf-keep-lt, has-setOf-keep}
 use Rattle.nodes.proofs.Parts.{and-eq-isWithin}
 use Rattle.nodes.proofs.Rising.{Rising, rising-range, rising-keep, rising-take, members-setOf, setOf-lt}
+use Rattle.entries.specs.declared.state.TaskState.{TaskState}
+use Rattle.entries.specs.Entry.{fixedOf, rowOf}
 use Rattle.model.specs.Row.{Row, isSubset, allEnded, predecessorsOf, isReady, ready, running, runningSet}
 
 -- For a word, the test of every member is the subset test.
@@ -87,14 +89,14 @@ ready-less-ended r set alive e =
     ∙ rw (has-setOf-keep (isUnblocked r) k v, has-setOf-keep (isReady r) k v, lt-ltb v k h, alive)
     (and-comm (isUnblocked r v) (not (has ended v))))
 
--- The lowest of the ready nodes, as a set.
-pub lowest-ready : (grant : ℕ) (r : Row) → r .fixed .nodes ≤ 32
-    → setOf (take grant (members 32 (setOf (ready r)))) ≡ runningSet grant r
-unfolding runningSet running ready
-lowest-ready grant r h =
+-- The lowest of an entry's ready nodes are the running ones, as sets.
+pub lowest-ready : (grant : ℕ) (e : TaskState) → e .nodes ≤ 32
+    → setOf (take grant (members 32 (setOf (ready (rowOf e))))) ≡ runningSet grant (rowOf e)
+unfolding runningSet running ready rowOf fixedOf
+lowest-ready grant e h =
     ap (λ (vs : List ℕ). setOf (take grant vs))
-    (members-setOf 32 (keep (isReady r) (range 0 (r .fixed .nodes)))
-    (rising-keep (isReady r) 0 32 (range 0 (r .fixed .nodes)) (rising-range 0 (r .fixed .nodes) 32 (omega arith))))
+    (members-setOf 32 (keep (isReady (rowOf e)) (range 0 (e .nodes)))
+    (rising-keep (isReady (rowOf e)) 0 32 (range 0 (e .nodes)) (rising-range 0 (e .nodes) 32 (omega arith))))
 
 -- The running nodes rise, so the set of them gives the list back.
 pub running-rises : (grant : ℕ) (r : Row) (k : ℕ) → r .fixed .nodes ≤ k → Rising 0 k (running grant r)

@@ -3,9 +3,10 @@ ghost use mathlib.Core.Path.{_≡_};
 ghost use mathlib.Core.List.{[]};
 ghost use Prim.Native.Nat.{suc, min, _≤_, _<_};
 ghost use Rattle.basics.specs.Lists.{keptIf};
-ghost use Rattle.nodes.specs.Sets.{setOf};
+ghost use lib.ListN.{take};
+ghost use Rattle.nodes.specs.Sets.{members, setOf};
 ghost use Rattle.shares.specs.Totals.{shareIn};
-ghost use Rattle.model.specs.Row.{isSubset, allEnded, ready, runningSet, releasedRow, tickedRow, isLate, survives, switchedRow};
+ghost use Rattle.model.specs.Row.{isSubset, allEnded, ready, releasedRow, tickedRow, isLate, survives, switchedRow};
 ghost use Rattle.entries.specs.Entry.{fixedOf, rowOf, withRow};
 use crate::state::TaskState;
 use shares::share::Share;
@@ -35,7 +36,7 @@ fn node_if(kept: bool, v: u32) -> u32
 }
 
 // S8.2: the ready nodes, as a set: none without an alive job, else those that wait for no node, less the ended ones.
-fn ready(e: TaskState) -> u32
+pub fn ready(e: TaskState) -> u32
     requires { ⌜ e .nodes ≤ 32 ⌝ }
     ensures { λ r. ⌜ r ≡ setOf (ready (rowOf e)) ⌝ }
 {
@@ -65,12 +66,11 @@ pub fn share_in(share: Share, critical: bool) -> u8
     }
 }
 
-// S8.3: the running nodes, as a set, where the task is granted so many processors.
-pub fn running(e: TaskState, grant: u8) -> u32
-    requires { ⌜ e .nodes ≤ 32 ⌝ }
-    ensures { λ r. ⌜ r ≡ runningSet grant (rowOf e) ⌝ }
+// S8.3: of the ready nodes those that run, where the task is granted so many processors.
+pub fn running(ready: u32, grant: u8) -> u32
+    ensures { λ r. ⌜ r ≡ setOf (take grant (members 32 ready)) ⌝ }
 {
-    nodes::lowest(ready(e), grant as u32)
+    nodes::lowest(ready, grant as u32)
 }
 
 // S8.4: the entry with a job that begins.

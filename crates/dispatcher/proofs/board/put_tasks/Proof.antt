@@ -1,13 +1,17 @@
 -- `dispatcher::board::put_tasks` meets its contract. The loop's invariant: the buffer is the board with the blocks of the tasks
 -- passed. The measure is the tasks left. Assumes nothing.
-use Prim.Native.Nat.{_+_, _*_, _-_, _≤_}
-use mathlib.Core.Path.{_≡_, refl, _∙_}
+use Prim.Native.Nat.{ℕ, _+_, _*_, _-_, _≤_}
+use mathlib.Core.Path.{_≡_, refl, ap, _∙_}
 use native.Mathlib.Omega.{arith}
 use borrow.Author.Needs.{needs}
-use lib.ListN.{length, length-map}
+use lib.ListN.{length, length-map, getD, take}
+use Rattle.nodes.specs.Sets.{members, setOf}
+use Rattle.model.specs.Row.{runningSet}
+use Rattle.entries.specs.Entry.{rowOf}
+use Rattle.entries.proofs.NodeSets.{lowest-ready}
 use Rattle.entries.proofs.Soundness.{within-bounds, few-nodes}
 use Rattle.dispatcher.proofs.Soundness.{state-facts, few-entries}
-use Rattle.dispatcher.proofs.Entries.{sound-at}
+use Rattle.dispatcher.proofs.Entries.{noEntry, sound-at}
 use Rattle.dispatcher.proofs.Boards.{Boarding, boarding-none, boarding-room, boarding-fits, boarding-more, boarding-all}
 use Rattle.dispatcher.proofs.board.put_tasks.Statement.{statement}
 use Rattle.dispatcher.proofs.board.put_tasks.Tie as tie
@@ -42,25 +46,41 @@ mul-e c = omega (arith, few (c .before .before .before))
 element-copy-out-e : tie.Need-element-copy-out-e Inv-loop μ-loop
 element-copy-out-e c = omega (arith, few (c .before .before .before))
 
+-- The entry of the turn has at most 32 nodes.
+few-here : (c : tie.After-e Inv-loop μ-loop) → getD (c .before .before .before .before .args .t2 .entries) (c .before .before .loop .i) noEntry .nodes ≤ 32
+few-here c =
+    let start = c .before .before .before .before in
+    few-nodes _ (sound-at (start .args .t2) (long start) (start .pre .0) (c .before .before .loop .i) (omega arith))
+
+ready-requires : tie.Need-ready-requires Inv-loop μ-loop
+ready-requires c κs = few-here c
+
 share-in-requires : tie.Need-share-in-requires Inv-loop μ-loop
 share-in-requires c κs = search needs
 
 running-requires : tie.Need-running-requires Inv-loop μ-loop
-running-requires c κs =
-    let start = c .before .before .before .before .before .before in
-    few-nodes _ (sound-at (start .args .t2) (long start) (start .pre .0) (c .before .before .before .before .loop .i) (omega arith))
+running-requires c κs = search needs
+
+-- What runs of the task.
+runs : (c : tie.After-running Inv-loop μ-loop)
+    → c .running .result
+    ≡ runningSet (c .before .before .share-in .result) (rowOf (getD (c .before .before .before .before .before .before .before .before .args .t2 .entries) (c .before .before .before .before .before .before .loop .i) noEntry))
+runs c =
+    c .running .ensures
+    ∙ ap (λ (set : ℕ). setOf (take (c .before .before .share-in .result) (members 32 set))) (c .before .before .before .ready .ensures)
+    ∙ lowest-ready _ _ (few-here (c .before .before .before .before))
 
 put-nodes-requires : tie.Need-put-nodes-requires Inv-loop μ-loop
 put-nodes-requires c κs =
-    let start = c .before .before .before .before .before .before .before in
-    let loop = c .before .before .before .before .before .loop in
-    rw (c .running .ensures, c .before .before .share-in .ensures) (boarding-fits (start .args .t2) (long start) (start .pre .0) (loop .buffer) (loop .at) (loop .i) (omega arith) (loop .inv .2))
+    let start = c .before .before .before .before .before .before .before .before in
+    let loop = c .before .before .before .before .before .before .loop in
+    rw (runs c, c .before .before .share-in .ensures) (boarding-fits (start .args .t2) (long start) (start .pre .0) (loop .buffer) (loop .at) (loop .i) (omega arith) (loop .inv .2))
 
 -- The block of the turn ends within the board.
-room : (c : tie.After-share-in Inv-loop μ-loop) → c .before .before .before .loop .at + 2 * c .share-in .result ≤ 128
+room : (c : tie.After-share-in Inv-loop μ-loop) → c .before .before .before .before .loop .at + 2 * c .share-in .result ≤ 128
 room c =
-    let start = c .before .before .before .before .before in
-    let loop = c .before .before .before .loop in
+    let start = c .before .before .before .before .before .before in
+    let loop = c .before .before .before .before .loop in
     omega (
       arith,
       small start,
@@ -78,18 +98,18 @@ add-at : tie.Need-add-at Inv-loop μ-loop
 add-at c = omega (arith, room (c .before .before .before .before .before))
 
 add-i : tie.Need-add-i Inv-loop μ-loop
-add-i c = omega (arith, few (c .before .before .before .before .before .before .before .before .before .before))
+add-i c = omega (arith, few (c .before .before .before .before .before .before .before .before .before .before .before))
 
 loop-less : tie.Need-loop-less Inv-loop μ-loop
 loop-less c = omega arith
 
 loop-again : tie.Need-loop-again Inv-loop μ-loop
 loop-again c =
-    let start = c .before .before .before .before .before .before .before .before .before .before in
-    let loop = c .before .before .before .before .before .before .before .before .loop in
+    let start = c .before .before .before .before .before .before .before .before .before .before .before in
+    let loop = c .before .before .before .before .before .before .before .before .before .loop in
     let s = start .args .t2 in
     let put = c .before .before .put-nodes in
-    let nodes = c .before .before .before .running .ensures in
+    let nodes = runs (c .before .before .before) in
     let grant = c .before .before .before .before .before .share-in .ensures in (
       omega arith,
       put .kept .0 ∙ loop .inv .1,
@@ -116,6 +136,7 @@ put-tasks-spec =
     cast-e
     mul-e
     element-copy-out-e
+    ready-requires
     share-in-requires
     running-requires
     put-nodes-requires

@@ -8,18 +8,18 @@ use borrow.Author.Needs.{needs}
 use borrow.Author.Tests.{not-true, not-false}
 use denote.Ref.{now}
 use lib.Dec.{leb}
-use lib.ListN.{length, length-map, getD}
-use Rattle.nodes.specs.Sets.{isWithin}
+use lib.ListN.{length, length-map, getD, take}
+use Rattle.nodes.specs.Sets.{members, setOf, isWithin}
 use Rattle.basics.specs.Numbers.{within}
 use Rattle.shares.specs.Totals.{shareIn}
-use Rattle.model.specs.Row.{isSubset, runningSet, tickedRow, isLate}
+use Rattle.model.specs.Row.{isSubset, ready, runningSet, tickedRow, isLate}
 use Rattle.model.specs.Step.{granted}
 use Rattle.entries.specs.declared.state.TaskState.{TaskState}
 use Rattle.dispatcher.specs.declared.tick.TickAnswer.the-variants.{Refused}
 use Rattle.entries.specs.Entry.{rowOf, withRow}
 use Rattle.dispatcher.specs.Holds.{modelOf}
 use Rattle.entries.specs.Sound.{entrySound}
-use Rattle.entries.proofs.NodeSets.{within-subset}
+use Rattle.entries.proofs.NodeSets.{lowest-ready, within-subset}
 use Rattle.entries.proofs.Soundness.{few-nodes}
 use Rattle.dispatcher.proofs.Soundness.{ranges-broken, count-within}
 use Rattle.dispatcher.proofs.Entries.{noEntry, entryAt, Passed}
@@ -148,11 +148,14 @@ shared-slice-read-report c = omega (arith, same (c .before .before .before .befo
 ticked-requires : tie.Need-ticked-requires Inv-loop μ-loop
 ticked-requires c κs = rw (untouched (c .before .before .before)) (few-nodes _ (sound (c .before)))
 
+ready-requires : tie.Need-ready-requires Inv-loop μ-loop
+ready-requires c κs = rw (untouched (c .before .before .before .before)) (few-nodes _ (sound (c .before .before)))
+
 share-in-requires : tie.Need-share-in-requires Inv-loop μ-loop
 share-in-requires c κs = search needs
 
 running-requires : tie.Need-running-requires Inv-loop μ-loop
-running-requires c κs = rw (untouched (c .before .before .before .before .before)) (few-nodes _ (sound (c .before .before .before)))
+running-requires c κs = search needs
 
 is-within-requires : tie.Need-is-within-requires Inv-loop μ-loop
 is-within-requires c κs = search needs
@@ -162,30 +165,30 @@ is-late-requires c κs = search needs
 
 passed-requires : tie.Need-passed-requires Inv-loop μ-loop
 passed-requires c κs =
-    let loop = c .before .before .before .before .before .before .before .before .before .before .loop in
-    let at = c .before .before .before .before .before .before .before .before .before .before .before .before in
+    let loop = c .before .before .before .before .before .before .before .before .before .before .before .loop in
+    let at = c .before .before .before .before .before .before .before .before .before .before .before .before .before in
     let scanned : Scanned _ _ _ _ _ _ _ _ = loop .inv .1 in
     let p : Passed _ _ _ _ = scanned .shares in
     (omega (arith, p .typical-small, few at), omega (arith, p .critical-small, few at))
 
 cast-after : tie.Need-cast-after Inv-loop μ-loop
-cast-after c = omega (arith, few (c .before .before .before .before .before .before .before .before .before .before .before .before .before))
+cast-after c = omega (arith, few (c .before .before .before .before .before .before .before .before .before .before .before .before .before .before))
 
 mul-after : tie.Need-mul-after Inv-loop μ-loop
-mul-after c = omega (arith, few (c .before .before .before .before .before .before .before .before .before .before .before .before .before))
+mul-after c = omega (arith, few (c .before .before .before .before .before .before .before .before .before .before .before .before .before .before))
 
 element-set-from-after : tie.Need-element-set-from-after Inv-loop μ-loop
-element-set-from-after c = omega (arith, few (c .before .before .before .before .before .before .before .before .before .before .before .before .before))
+element-set-from-after c = omega (arith, few (c .before .before .before .before .before .before .before .before .before .before .before .before .before .before))
 
 add-i : tie.Need-add-i Inv-loop μ-loop
-add-i c = omega (arith, few (c .before .before .before .before .before .before .before .before .before .before .before .before .before))
+add-i c = omega (arith, few (c .before .before .before .before .before .before .before .before .before .before .before .before .before .before))
 
 loop-less : tie.Need-loop-less Inv-loop μ-loop
 loop-less c = omega arith
 
 loop-again : tie.Need-loop-again Inv-loop μ-loop
 loop-again c =
-    let turn = c .before .before .before .before .before .before .before .before .before in
+    let turn = c .before .before .before .before .before .before .before .before .before .before in
     let loop = turn .before .before .loop in
     let at = turn .before .before .before .before in
     let args = at .before .before .before .before .args in
@@ -193,9 +196,9 @@ loop-again c =
     let reports = now (args .reports) in
     let report = getD reports (loop .i) 0 in
     let e = entryAt s (loop .i) in
-    let stored : c .before .before .before .before .before .ticked .result ≡ withRow e (tickedRow (rowOf e) report) =
-    c .before .before .before .before .before .ticked .ensures ∙ ap (λ (x : TaskState). withRow x (tickedRow (rowOf x) report)) (untouched turn) in
-    let late : c .before .is-late .result ≡ isLate (rowOf (c .before .before .before .before .before .ticked .result)) = c .before .is-late .ensures in
+    let stored : c .before .before .before .before .before .before .ticked .result ≡ withRow e (tickedRow (rowOf e) report) =
+    c .before .before .before .before .before .before .ticked .ensures ∙ ap (λ (x : TaskState). withRow x (tickedRow (rowOf x) report)) (untouched turn) in
+    let late : c .before .is-late .result ≡ isLate (rowOf (c .before .before .before .before .before .before .ticked .result)) = c .before .is-late .ensures in
     let read = getD (loop .next .entries) (loop .i) noEntry in
     let typicals : c .passed .result .typical ≡ loop .pass .typical + read .share .typical = c .passed .ensures .0 in
     let criticals : c .passed .result .critical ≡ loop .pass .critical + read .share .critical = c .passed .ensures .1 .0 in
@@ -207,18 +210,24 @@ loop-again c =
     c .before .before .before .before .share-in .ensures
     ∙ ap (λ (x : TaskState). shareIn (s .critical) (x .share)) (untouched turn)
     ∙ sym (granted-entry s (long at) (loop .i) (omega arith)) in
+    let waiting : c .before .before .before .before .before .ready .result ≡ setOf (ready (rowOf e)) =
+    c .before .before .before .before .before .ready .ensures ∙ ap (λ (x : TaskState). setOf (ready (rowOf x))) (untouched turn) in
+    let runs : c .before .before .before .running .result ≡ runningSet (granted (modelOf s) (loop .i)) (rowOf e) =
+    c .before .before .before .running .ensures
+    ∙ ap₂ (λ (n : ℕ) (set : ℕ). setOf (take n (members 32 set))) grant waiting
+    ∙ lowest-ready (granted (modelOf s) (loop .i)) e (few-nodes e (sound (c .before .before .before .before .before .before .before .before))) in
     let inside : c .before .before .is-within .result ≡ isSubset report (runningSet (granted (modelOf s) (loop .i)) (rowOf e)) =
     c .before .before .is-within .ensures
-    ∙ ap (isWithin 32 report) (c .before .before .before .running .ensures ∙ ap₂ (λ (n : ℕ) (x : TaskState). runningSet n (rowOf x)) grant (untouched turn))
-    ∙ within-subset report _ (omega (arith, c .before .before .before .before .before .before .shared-slice-known2 .given (loop .i))) in (
+    ∙ ap (isWithin 32 report) runs
+    ∙ within-subset report _ (omega (arith, c .before .before .before .before .before .before .before .shared-slice-known2 .given (loop .i))) in (
       omega arith,
       scanned-more s reports (long at) (loop .i) _ _ _ _ (loop .next) _ _ _ _ (not (c .before .before .is-within .result)) (c .before .is-late .result)
-          (c .before .before .before .before .before .ticked .result)
+          (c .before .before .before .before .before .before .ticked .result)
           (loop .inv .1)
           (same at)
           (omega arith)
           (omega (arith, few at))
-          (sound (c .before .before .before .before .before .before .before))
+          (sound (c .before .before .before .before .before .before .before .before))
           (omega (arith, typical, c .passed .ensures .1 .1 .1 .1 .0))
           (omega (arith, critical, c .passed .ensures .1 .1 .1 .1 .1))
           typical
@@ -323,6 +332,7 @@ tick-spec =
     mul-report
     shared-slice-read-report
     ticked-requires
+    ready-requires
     share-in-requires
     running-requires
     is-within-requires
