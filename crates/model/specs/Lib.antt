@@ -1,3 +1,5 @@
+-- In reading order: one task, the calls on a model of all tasks, lists of calls, what a job's nodes may take, the model that a task set
+-- and its shares make, the promises, and what is proved beside them.
 pub mod Row
 pub mod Step
 pub mod Run
