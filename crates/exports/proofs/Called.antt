@@ -74,35 +74,54 @@ module _ (sheet line : List ℕ) where
     unfolding answerWord
     start-accepted out written accepted = rw written (does 65280 (stateWords (s .state)) (start-answered Accepted accepted))
 
+-- A call on a line that is a state: the state that was read, and what the call on it returned, an answer's word and a state.
+module _
+    {R : Type 0}
+    (word : R → ℕ)
+    (state : R → State)
+    (of : State → R)
+    (line : List ℕ)
+    {called : Called}
+    (called-is : called ≡ record { word = word (of (stateFrom line)); left = stateWords (state (of (stateFrom line))) })
+    (s : State)
+    (read : s ≡ stateFrom line)
+    (r : R)
+    (returned : r ≡ of s)
+  where
+    answered : called ≡ record { word = word r; left = stateWords (state r) }
+    answered = called-is ∙ ap (λ (r : R). record { word = word r; left = stateWords (state r) }) (sym (returned ∙ ap of read))
+
+    -- The state comes back, and so the line stays.
+    handed-back : isState line ≡ true → (said : ℕ) → said ≡ word r → state r ≡ s → Does called said line
+    handed-back is said e back =
+        rw e (does _ line (answered ∙ ap (λ (l : List ℕ). record { word = word r; left = l }) (ap stateWords (back ∙ read) ∙ same-said .words line is)))
+
+    written-over : (said : ℕ) (out : List ℕ) → said ≡ word r → out ≡ stateWords (state r) → Does called said out
+    written-over said out e written = rw (e, written) (does _ (stateWords (state r)) answered)
+
 -- Release.
 module _ (line : List ℕ) (task : ℕ) where
   pub release-none : isState line ≡ false → releaseCall line task ≡ noState line
   unfolding releaseCall
   release-none none = rw none
 
-  module _ (is : isState line ≡ true) (s : State) (read : s ≡ stateFrom line) (r : Released) (released : r ≡ releaseOf s task) where
-    release-answered : releaseCall line task ≡ record { word = answerWord (r .answer); left = stateWords (r .state) }
-    unfolding releaseCall
-    release-answered =
-        rw is
-        (ap (λ (r : Released). record { word = answerWord (r .answer); left = stateWords (r .state) })
-        (sym (released ∙ ap (λ (s : State). releaseOf s task) read)))
+  release-called : isState line ≡ true →
+      releaseCall line task ≡ record { word = answerWord (releaseOf (stateFrom line) task .answer); left = stateWords (releaseOf (stateFrom line) task .state) }
+  unfolding releaseCall
+  release-called is = rw is
 
+  module _ (is : isState line ≡ true) (s : State) (read : s ≡ stateFrom line) (r : Released) (released : r ≡ releaseOf s task) where
     pub release-refused : (word : ℕ) {number at : ℕ} → word ≡ answerWord (r .answer) → r .answer ≡ Refused number at → Does (releaseCall line task) word line
     release-refused word {number} {at} said refused =
-        let back : r .state ≡ stateFrom line =
-        ap (λ (r : Released). r .state) released
-        ∙ release-back s task {number = number} {task = at} (sym (ap (λ (r : Released). r .answer) released) ∙ refused)
-        ∙ read in
-        let kept : stateWords (r .state) ≡ line = ap stateWords back ∙ same-said .words line is in
-        rw said (does _ line (release-answered ∙ ap (λ (l : List ℕ). record { word = answerWord (r .answer); left = l }) kept))
+        handed-back (λ (r : Released). answerWord (r .answer)) (λ (r : Released). r .state) (λ (s : State). releaseOf s task) line (release-called is) s read r released is word said
+        (ap (λ (r : Released). r .state) released
+        ∙ release-back s task {number = number} {task = at} (sym (ap (λ (r : Released). r .answer) released) ∙ refused))
 
     pub release-accepted : (out : List ℕ) → out ≡ stateWords (r .state) → r .answer ≡ Accepted → Does (releaseCall line task) 65280 out
     unfolding answerWord
     release-accepted out written accepted =
-        rw written
-        (does 65280 (stateWords (r .state))
-        (release-answered ∙ ap (λ (a : Answer). record { word = answerWord a; left = stateWords (r .state) }) accepted))
+        written-over (λ (r : Released). answerWord (r .answer)) (λ (r : Released). r .state) (λ (s : State). releaseOf s task) line (release-called is) s read r released 65280 out
+        (sym (ap answerWord accepted)) written
 
 -- Tick.
 module _ (line reports : List ℕ) where
@@ -110,25 +129,21 @@ module _ (line reports : List ℕ) where
   unfolding tickCall
   tick-none none = rw none
 
-  module _ (is : isState line ≡ true) (s : State) (read : s ≡ stateFrom line) (t : Ticked) (ticked : t ≡ tickOf s reports) where
-    tick-answered : tickCall line reports ≡ record { word = tickWord (t .answer); left = stateWords (t .state) }
-    unfolding tickCall
-    tick-answered =
-        rw is
-        (ap (λ (t : Ticked). record { word = tickWord (t .answer); left = stateWords (t .state) })
-        (sym (ticked ∙ ap (λ (s : State). tickOf s reports) read)))
+  tick-called : isState line ≡ true →
+      tickCall line reports ≡ record { word = tickWord (tickOf (stateFrom line) reports .answer); left = stateWords (tickOf (stateFrom line) reports .state) }
+  unfolding tickCall
+  tick-called is = rw is
 
+  module _ (is : isState line ≡ true) (s : State) (read : s ≡ stateFrom line) (t : Ticked) (ticked : t ≡ tickOf s reports) where
     pub tick-refused : (word : ℕ) {number at : ℕ} → word ≡ tickWord (t .answer) → t .answer ≡ TickRefused number at → Does (tickCall line reports) word line
     tick-refused word {number} {at} said refused =
-        let back : t .state ≡ stateFrom line =
-        ap (λ (t : Ticked). t .state) ticked
-        ∙ tick-back s reports {number = number} {task = at} (sym (ap (λ (t : Ticked). t .answer) ticked) ∙ refused)
-        ∙ read in
-        let kept : stateWords (t .state) ≡ line = ap stateWords back ∙ same-said .words line is in
-        rw said (does _ line (tick-answered ∙ ap (λ (l : List ℕ). record { word = tickWord (t .answer); left = l }) kept))
+        handed-back (λ (t : Ticked). tickWord (t .answer)) (λ (t : Ticked). t .state) (λ (s : State). tickOf s reports) line (tick-called is) s read t ticked is word said
+        (ap (λ (t : Ticked). t .state) ticked
+        ∙ tick-back s reports {number = number} {task = at} (sym (ap (λ (t : Ticked). t .answer) ticked) ∙ refused))
 
     pub tick-accepted : (word : ℕ) (out : List ℕ) → word ≡ tickWord (t .answer) → out ≡ stateWords (t .state) → Does (tickCall line reports) word out
-    tick-accepted word out said written = rw (said, written) (does _ (stateWords (t .state)) tick-answered)
+    tick-accepted word out said written =
+        written-over (λ (t : Ticked). tickWord (t .answer)) (λ (t : Ticked). t .state) (λ (s : State). tickOf s reports) line (tick-called is) s read t ticked word out said written
 
 -- Board.
 module _ (line buffer : List ℕ) where

@@ -35,13 +35,13 @@ use Rattle.exports.proofs.Codec.{same-said}
 use Rattle.exports.proofs.Called.{release-none, tick-none, board-none}
 
 -- An accepted answer has number 0: what a refused one leaves is all that counts.
-left-by : (a : Answer) (left before : List ℕ) → ((number task : ℕ) → a ≡ Refused number task → left ≡ before) →
+left-by : {A : Type 0} (a : Answer) (left before : A) → ((number task : ℕ) → a ≡ Refused number task → left ≡ before) →
     1 ≤ numberIn (answerWord a) → left ≡ before
 unfolding answerWord
 left-by Accepted left before h refused = absurd (omega arith)
 left-by (Refused number task) left before h refused = h number task refl
 
-tick-left-by : (a : TickAnswer) (left before : List ℕ) → ((number task : ℕ) → a ≡ TickRefused number task → left ≡ before) →
+tick-left-by : {A : Type 0} (a : TickAnswer) (left before : A) → ((number task : ℕ) → a ≡ TickRefused number task → left ≡ before) →
     1 ≤ numberIn (tickWord a) → left ≡ before
 unfolding tickWord
 tick-left-by Ran left before h refused = absurd (omega arith)
@@ -57,29 +57,28 @@ start-leaves sheet line = go (eqb (length line) stateSize) (startOf sheet .answe
     go false a refused = refl
     go true a refused = left-by a (startLeft a (startOf sheet .state) line) line (λ number task e. ap (λ (a : Answer). startLeft a (startOf sheet .state) line) e) refused
 
+-- A call on a line leaves it where a number other than 0 goes with the state that was read.
+line-leaves : (line : List ℕ) (word : ℕ) (after : State) → (1 ≤ numberIn word → after ≡ stateFrom line) →
+    (t : Bool) → isState line ≡ t → Leaves (cond t (record { word = word; left = stateWords after }) (noState line)) line
+unfolding Leaves
+line-leaves line word after back true is refused = ap stateWords (back refused) ∙ same-said .words line is
+line-leaves line word after back false none refused = refl
+
 release-leaves : (line : List ℕ) (task : ℕ) → Leaves (releaseCall line task) line
-unfolding Leaves releaseCall
-release-leaves line task = go (isState line) refl
-  where
-    go : (t : Bool) → isState line ≡ t →
-        Leaves (cond t (record { word = answerWord (releaseOf (stateFrom line) task .answer); left = stateWords (releaseOf (stateFrom line) task .state) }) (noState line)) line
-    go false e refused = refl
-    go true e refused =
-        left-by (releaseOf (stateFrom line) task .answer) (stateWords (releaseOf (stateFrom line) task .state)) line
-        (λ number at r. ap stateWords (release-back (stateFrom line) task {number = number} {task = at} r) ∙ same-said .words line e)
-        refused
+unfolding releaseCall
+release-leaves line task =
+    line-leaves line (answerWord (releaseOf (stateFrom line) task .answer)) (releaseOf (stateFrom line) task .state)
+    (left-by (releaseOf (stateFrom line) task .answer) _ _ (λ number at. release-back (stateFrom line) task {number = number} {task = at}))
+    (isState line)
+    refl
 
 tick-leaves : (line reports : List ℕ) → Leaves (tickCall line reports) line
-unfolding Leaves tickCall
-tick-leaves line reports = go (isState line) refl
-  where
-    go : (t : Bool) → isState line ≡ t →
-        Leaves (cond t (record { word = tickWord (tickOf (stateFrom line) reports .answer); left = stateWords (tickOf (stateFrom line) reports .state) }) (noState line)) line
-    go false e refused = refl
-    go true e refused =
-        tick-left-by (tickOf (stateFrom line) reports .answer) (stateWords (tickOf (stateFrom line) reports .state)) line
-        (λ number at r. ap stateWords (tick-back (stateFrom line) reports {number = number} {task = at} r) ∙ same-said .words line e)
-        refused
+unfolding tickCall
+tick-leaves line reports =
+    line-leaves line (tickWord (tickOf (stateFrom line) reports .answer)) (tickOf (stateFrom line) reports .state)
+    (tick-left-by (tickOf (stateFrom line) reports .answer) _ _ (λ number at. tick-back (stateFrom line) reports {number = number} {task = at}))
+    (isState line)
+    refl
 
 board-leaves : (line buffer : List ℕ) → Leaves (boardCall line buffer) buffer
 unfolding Leaves boardCall boardedOf boardOf

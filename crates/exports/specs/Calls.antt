@@ -71,7 +71,7 @@ planCall sheet buffer = record { word = answerWord (planAnswer sheet (length buf
 abbrev pub numberIn : ℕ → ℕ
 numberIn word = word % 256
 
--- S13.6: a call leaves what stood there.
+-- S13.6: if a call's number is not 0, it leaves what stood there.
 unfoldable pub Leaves : Called → List ℕ → Type 0
 Leaves called before = 1 ≤ numberIn (called .word) → called .left ≡ before
 
@@ -89,7 +89,7 @@ pub record NoStateFirst (line : List ℕ) : Type 0 where
   pub tick : (reports : List ℕ) → tickCall line reports ≡ noState line
   pub board : (buffer : List ℕ) → boardCall line buffer ≡ noState buffer
 
--- S13.8: a line that Start wrote is a state.
+-- S13.8: a line that Start wrote is a state. (`Witness.started` of `guarantee` has a sheet that is accepted.)
 unfoldable pub StartTaken : List ℕ → List ℕ → List ℕ → Type 0
 StartTaken sheet line left = length line ≡ stateSize → startOf sheet .answer ≡ Accepted → isState left ≡ true
 

@@ -70,18 +70,35 @@ returns-2 c =
     (c .refused2 .ensures
     ∙ tick-unsound (args .state) (now (args .reports)) (ranges-broken (args .state) (sym (c .before .before .ranges-kept .ensures) ∙ not-true _ (c .before .if2 .taken))))
 
+-- Places: the call, from past its first two tests; past these, from the entry that a turn has read; that entry found sound, and read, from
+-- the end of its turn; past the first two tests, from past the fourth.
+abbrev called : tie.Else2 Inv-loop μ-loop → tie.Start Inv-loop μ-loop
+called c = c .before .before .before .before
+
+abbrev entered : tie.After-e Inv-loop μ-loop → tie.Else2 Inv-loop μ-loop
+entered c = c .before .before .before .before
+
+abbrev checked : tie.After-passed Inv-loop μ-loop → tie.Else3 Inv-loop μ-loop
+checked c = let ready = c .before .before .before .before .before in ready .before .before .before
+
+abbrev turn : tie.After-passed Inv-loop μ-loop → tie.After-e Inv-loop μ-loop
+turn c = checked c .before .before
+
+abbrev passed-by : tie.Else4 Inv-loop μ-loop → tie.Else2 Inv-loop μ-loop
+passed-by c = c .before .before .before .before .before
+
 -- Past the first two tests: M and n are in range, there is an entry and a report for each task.
 ranges : (c : tie.Else2 Inv-loop μ-loop)
-    → (within 1 64 (c .before .before .before .before .args .state .processors) && within 1 16 (c .before .before .before .before .args .state .count)) ≡ true
+    → (within 1 64 (called c .args .state .processors) && within 1 16 (called c .args .state .count)) ≡ true
 ranges c = sym (c .before .ranges-kept .ensures) ∙ not-false _ (c .if2 .left)
 
-few : (c : tie.Else2 Inv-loop μ-loop) → c .before .before .before .before .args .state .count ≤ 16
-few c = count-within (c .before .before .before .before .args .state) (ranges c)
+few : (c : tie.Else2 Inv-loop μ-loop) → called c .args .state .count ≤ 16
+few c = count-within (called c .args .state) (ranges c)
 
-long : (c : tie.Else2 Inv-loop μ-loop) → c .before .before .before .before .args .state .count ≤ length (c .before .before .before .before .args .state .entries)
-long c = omega (arith, few c, sixteen (c .before .before .before .before))
+long : (c : tie.Else2 Inv-loop μ-loop) → called c .args .state .count ≤ length (called c .args .state .entries)
+long c = omega (arith, few c, sixteen (called c))
 
-same : (c : tie.Else2 Inv-loop μ-loop) → length (now (c .before .before .before .before .args .reports)) ≡ c .before .before .before .before .args .state .count
+same : (c : tie.Else2 Inv-loop μ-loop) → length (now (called c .args .reports)) ≡ called c .args .state .count
 same c = c .before .before .if1 .left
 
 no-pass-requires : tie.Need-no-pass-requires Inv-loop μ-loop
@@ -104,11 +121,11 @@ element-copy-out-e c = omega (arith, few (c .before .before .before))
 -- The entry of the turn is as it came.
 untouched : (c : tie.After-e Inv-loop μ-loop)
     → getD (c .before .before .loop .next .entries) (c .before .before .loop .i) noEntry
-    ≡ entryAt (c .before .before .before .before .before .before .before .before .args .state) (c .before .before .loop .i)
+    ≡ entryAt (called (entered c) .args .state) (c .before .before .loop .i)
 untouched c =
     let loop = c .before .before .loop in
-    let at = c .before .before .before .before in
-    let args = at .before .before .before .before .args in
+    let at = entered c in
+    let args = called at .args in
     let p : Scanned _ _ _ _ _ _ _ _ = loop .inv .1 in
     written-at (args .state) _ (tickedBelow (args .state) (now (args .reports)) (loop .i)) (loop .next) (loop .i) (p .written)
     (ticked-below (args .state) (long at) (now (args .reports)) (loop .i) (loop .inv .0))
@@ -121,19 +138,19 @@ refused-requires-3 c κs = search needs
 
 returns-3 : tie.Need-returns-3 Inv-loop μ-loop
 returns-3 c =
-    let turn = c .before .before .before in
-    let loop = turn .before .before .loop in
-    let at = turn .before .before .before .before in
-    let args = at .before .before .before .before .args in
+    let read = c .before .before .before in
+    let loop = read .before .before .loop in
+    let at = entered read in
+    let args = called at .args in
     tick-said
     (handed-back (args .state) (now (args .reports)) _ _ _ (c .refused3 .ensures) refl
     (tick-unsound (args .state) (now (args .reports))
     (scanned-broken (args .state) (now (args .reports)) (long at) (loop .i) _ _ _ _ _ (loop .inv .1) (ranges at) (omega arith)
-    (ap entrySound (sym (untouched turn)) ∙ sym (c .before .before .entry-sound .ensures) ∙ not-true _ (c .before .if3 .taken)))))
+    (ap entrySound (sym (untouched read)) ∙ sym (c .before .before .entry-sound .ensures) ∙ not-true _ (c .before .if3 .taken)))))
 
 -- Past the third test the entry is sound.
 sound : (c : tie.Else3 Inv-loop μ-loop)
-    → entrySound (entryAt (c .before .before .before .before .before .before .before .before .before .before .args .state) (c .before .before .before .before .loop .i)) ≡ true
+    → entrySound (entryAt (called (entered (c .before .before)) .args .state) (c .before .before .before .before .loop .i)) ≡ true
 sound c = ap entrySound (sym (untouched (c .before .before))) ∙ sym (c .before .entry-sound .ensures) ∙ not-false _ (c .if3 .left)
 
 cast-report : tie.Need-cast-report Inv-loop μ-loop
@@ -143,7 +160,7 @@ mul-report : tie.Need-mul-report Inv-loop μ-loop
 mul-report c = omega (arith, few (c .before .before .before .before .before .before))
 
 shared-slice-read-report : tie.Need-shared-slice-read-report Inv-loop μ-loop
-shared-slice-read-report c = omega (arith, same (c .before .before .before .before .before .before .before))
+shared-slice-read-report c = omega (arith, same (entered (c .before .before .before)))
 
 ticked-requires : tie.Need-ticked-requires Inv-loop μ-loop
 ticked-requires c κs = rw (untouched (c .before .before .before)) (few-nodes _ (sound (c .before)))
@@ -165,61 +182,65 @@ is-late-requires c κs = search needs
 
 passed-requires : tie.Need-passed-requires Inv-loop μ-loop
 passed-requires c κs =
-    let loop = c .before .before .before .before .before .before .before .before .before .before .before .loop in
-    let at = c .before .before .before .before .before .before .before .before .before .before .before .before .before in
+    let ready = c .before .before .before .before in
+    let read = ready .before .before .before .before .before in
+    let loop = read .before .before .loop in
+    let at = entered read in
     let scanned : Scanned _ _ _ _ _ _ _ _ = loop .inv .1 in
     let p : Passed _ _ _ _ = scanned .shares in
     (omega (arith, p .typical-small, few at), omega (arith, p .critical-small, few at))
 
 cast-after : tie.Need-cast-after Inv-loop μ-loop
-cast-after c = omega (arith, few (c .before .before .before .before .before .before .before .before .before .before .before .before .before .before))
+cast-after c = omega (arith, few (entered (turn c)))
 
 mul-after : tie.Need-mul-after Inv-loop μ-loop
-mul-after c = omega (arith, few (c .before .before .before .before .before .before .before .before .before .before .before .before .before .before))
+mul-after c = omega (arith, few (entered (turn c)))
 
 element-set-from-after : tie.Need-element-set-from-after Inv-loop μ-loop
-element-set-from-after c = omega (arith, few (c .before .before .before .before .before .before .before .before .before .before .before .before .before .before))
+element-set-from-after c = omega (arith, few (entered (turn c)))
 
 add-i : tie.Need-add-i Inv-loop μ-loop
-add-i c = omega (arith, few (c .before .before .before .before .before .before .before .before .before .before .before .before .before .before))
+add-i c = omega (arith, few (entered (turn c)))
 
 loop-less : tie.Need-loop-less Inv-loop μ-loop
 loop-less c = omega arith
 
 loop-again : tie.Need-loop-again Inv-loop μ-loop
 loop-again c =
-    let turn = c .before .before .before .before .before .before .before .before .before .before in
-    let loop = turn .before .before .loop in
-    let at = turn .before .before .before .before in
-    let args = at .before .before .before .before .args in
+    let read = turn c in
+    let waited = c .before .before .before .before .before in
+    let report-read = waited .before .before in
+    let loop = read .before .before .loop in
+    let at = entered read in
+    let args = called at .args in
     let s = args .state in
     let reports = now (args .reports) in
     let report = getD reports (loop .i) 0 in
     let e = entryAt s (loop .i) in
     let stored : c .before .before .before .before .before .before .ticked .result ≡ withRow e (tickedRow (rowOf e) report) =
-    c .before .before .before .before .before .before .ticked .ensures ∙ ap (λ (x : TaskState). withRow x (tickedRow (rowOf x) report)) (untouched turn) in
+    c .before .before .before .before .before .before .ticked .ensures ∙ ap (λ (x : TaskState). withRow x (tickedRow (rowOf x) report)) (untouched read) in
     let late : c .before .is-late .result ≡ isLate (rowOf (c .before .before .before .before .before .before .ticked .result)) = c .before .is-late .ensures in
-    let read = getD (loop .next .entries) (loop .i) noEntry in
-    let typicals : c .passed .result .typical ≡ loop .pass .typical + read .share .typical = c .passed .ensures .0 in
-    let criticals : c .passed .result .critical ≡ loop .pass .critical + read .share .critical = c .passed .ensures .1 .0 in
+    let found = getD (loop .next .entries) (loop .i) noEntry in
+    let typicals : c .passed .result .typical ≡ loop .pass .typical + found .share .typical = c .passed .ensures .0 in
+    let criticals : c .passed .result .critical ≡ loop .pass .critical + found .share .critical = c .passed .ensures .1 .0 in
     let typical : c .passed .result .typical ≡ loop .pass .typical + e .share .typical =
-    typicals ∙ ap (λ (x : TaskState). loop .pass .typical + x .share .typical) (untouched turn) in
+    typicals ∙ ap (λ (x : TaskState). loop .pass .typical + x .share .typical) (untouched read) in
     let critical : c .passed .result .critical ≡ loop .pass .critical + e .share .critical =
-    criticals ∙ ap (λ (x : TaskState). loop .pass .critical + x .share .critical) (untouched turn) in
+    criticals ∙ ap (λ (x : TaskState). loop .pass .critical + x .share .critical) (untouched read) in
     let grant : c .before .before .before .before .share-in .result ≡ granted (modelOf s) (loop .i) =
     c .before .before .before .before .share-in .ensures
-    ∙ ap (λ (x : TaskState). shareIn (s .critical) (x .share)) (untouched turn)
+    ∙ ap (λ (x : TaskState). shareIn (s .critical) (x .share)) (untouched read)
     ∙ sym (granted-entry s (long at) (loop .i) (omega arith)) in
     let waiting : c .before .before .before .before .before .ready .result ≡ setOf (ready (rowOf e)) =
-    c .before .before .before .before .before .ready .ensures ∙ ap (λ (x : TaskState). setOf (ready (rowOf x))) (untouched turn) in
+    c .before .before .before .before .before .ready .ensures ∙ ap (λ (x : TaskState). setOf (ready (rowOf x))) (untouched read) in
     let runs : c .before .before .before .running .result ≡ runningSet (granted (modelOf s) (loop .i)) (rowOf e) =
     c .before .before .before .running .ensures
     ∙ ap₂ (λ (n : ℕ) (set : ℕ). setOf (take n (members 32 set))) grant waiting
-    ∙ lowest-ready (granted (modelOf s) (loop .i)) e (few-nodes e (sound (c .before .before .before .before .before .before .before .before))) in
+    ∙ lowest-ready (granted (modelOf s) (loop .i)) e (few-nodes e (sound (checked c))) in
     let inside : c .before .before .is-within .result ≡ isSubset report (runningSet (granted (modelOf s) (loop .i)) (rowOf e)) =
     c .before .before .is-within .ensures
     ∙ ap (isWithin 32 report) runs
-    ∙ within-subset report _ (omega (arith, c .before .before .before .before .before .before .before .shared-slice-known2 .given (loop .i))) in (
+    ∙ within-subset report _ (omega (arith, report-read .shared-slice-known2 .given (loop .i))) in (
       omega arith,
       scanned-more s reports (long at) (loop .i) _ _ _ _ (loop .next) _ _ _ _ (not (c .before .before .is-within .result)) (c .before .is-late .result)
           (c .before .before .before .before .before .before .ticked .result)
@@ -227,7 +248,7 @@ loop-again c =
           (same at)
           (omega arith)
           (omega (arith, few at))
-          (sound (c .before .before .before .before .before .before .before .before))
+          (sound (checked c))
           (omega (arith, typical, c .passed .ensures .1 .1 .1 .1 .0))
           (omega (arith, critical, c .passed .ensures .1 .1 .1 .1 .1))
           typical
@@ -249,7 +270,7 @@ returns-4 : tie.Need-returns-4 Inv-loop μ-loop
 returns-4 c =
     let loop = c .before .before .before .before .loop in
     let at = c .before .before .before .before .before .before in
-    let args = at .before .before .before .before .args in
+    let args = called at .args in
     tick-said
     (c .refused4 .ensures
     ∙ scanned-unfit (args .state) (now (args .reports)) (long at) (same at) (loop .i) _ _ _ _ _ (loop .inv .1) (c .before .before .before .loop-test .left) (ranges at)
@@ -257,8 +278,8 @@ returns-4 c =
 
 -- Past the fourth test the shares fit.
 fit : (c : tie.Else4 Inv-loop μ-loop)
-    → (leb (c .before .before .before .loop .pass .typical) (c .before .before .before .before .before .before .before .before .before .args .state .processors)
-    && leb (c .before .before .before .loop .pass .critical) (c .before .before .before .before .before .before .before .before .before .args .state .processors))
+    → (leb (c .before .before .before .loop .pass .typical) (called (passed-by c) .args .state .processors)
+    && leb (c .before .before .before .loop .pass .critical) (called (passed-by c) .args .state .processors))
     ≡ true
 fit c = sym (c .before .shares-fit .ensures) ∙ not-false _ (c .if4 .left)
 
@@ -269,8 +290,8 @@ returns-5 : tie.Need-returns-5 Inv-loop μ-loop
 returns-5 c =
     let fits = c .before .before .before in
     let loop = fits .before .before .before .loop in
-    let at = fits .before .before .before .before .before in
-    let args = at .before .before .before .before .args in
+    let at = passed-by fits in
+    let args = called at .args in
     tick-said
     (handed-back (args .state) (now (args .reports)) _ _ _ (c .refused5 .ensures) refl
     (scanned-wrong (args .state) (now (args .reports)) (long at) (same at) (loop .i) _ _ _ _ _ (loop .inv .1) (fits .before .before .loop-test .left) (ranges at) (fit fits)
@@ -280,8 +301,8 @@ returns-6 : tie.Need-returns-6 Inv-loop μ-loop
 returns-6 c =
     let fits = c .before .before .before .before .before in
     let loop = fits .before .before .before .loop in
-    let at = fits .before .before .before .before .before in
-    let args = at .before .before .before .before .args in
+    let at = passed-by fits in
+    let args = called at .args in
     tick-said
     (scanned-ran (args .state) (now (args .reports)) (long at) (same at) (loop .i) _ _ _ _ _ (loop .inv .1) (fits .before .before .loop-test .left) (ranges at) (fit fits)
     (c .before .before .before .if5 .left)
@@ -289,17 +310,18 @@ returns-6 c =
 
 switched-all-requires : tie.Need-switched-all-requires Inv-loop μ-loop
 switched-all-requires c κs =
-    let at = c .before .before .before .before .before .before .before .before .before .before in
-    let args = at .before .before .before .before .args in
-    let loop = c .before .before .before .before .before .before .before .before .loop in
+    let fits = c .before .before .before .before .before in
+    let at = passed-by fits in
+    let args = called at .args in
+    let loop = fits .before .before .before .loop in
     rw (scanned-count (args .state) (now (args .reports)) (long at) (loop .i) _ _ _ _ _ (loop .inv .1)) (few at)
 
 returns-7 : tie.Need-returns-7 Inv-loop μ-loop
 returns-7 c =
     let fits = c .before .before .before .before .before .before in
     let loop = fits .before .before .before .loop in
-    let at = fits .before .before .before .before .before in
-    let args = at .before .before .before .before .args in
+    let at = passed-by fits in
+    let args = called at .args in
     tick-said
     (scanned-switched (args .state) (now (args .reports)) (long at) (same at) (loop .i) _ _ _ _ _ (loop .inv .1) (fits .before .before .loop-test .left) (ranges at) (fit fits)
     (c .switched-all .result)
