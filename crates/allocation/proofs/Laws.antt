@@ -20,7 +20,7 @@ use Rattle.sheet.specs.Level.{isLow, figureLimit}
 use Rattle.shares.specs.Test.{virtualDeadline}
 use Rattle.shares.specs.Totals.{typicalTotal, criticalTotal, noProcessors}
 use Rattle.shares.proofs.Ends.{virtual-within}
-use Rattle.allocation.specs.Choice.{optionsOf, choices, fits, rank, noLater, leastOf, fitting, chosen}
+use Rattle.allocation.specs.Choice.{optionsOf, choices, fits, rank, noLater, leastBy, fitting, chosen}
 use Rattle.allocation.specs.Way.{LowPair, HighPair}
 use Rattle.allocation.specs.Blocks.{lengthIn}
 use Rattle.allocation.specs.Allocation.{tasksOf, chosenFor}
@@ -34,7 +34,7 @@ use Rattle.allocation.proofs.Sets.{fitting-takes, fitting-option, takes
 module _ (M : ℕ) (tasks : List Task) where
   chosen-member : (choice : List Share) → chosen M tasks ≡ some choice → List·Memᴰ choice (fitting M tasks)
   unfolding chosen
-  chosen-member choice e = least-member (fitting M tasks) choice e
+  chosen-member choice e = least-member rank (fitting M tasks) choice e
 
   fitting-choice : (choice : List Share) → List·Memᴰ choice (fitting M tasks) →
       List·Memᴰ choice (choices (map (optionsOf M) tasks)) × (fits M choice ≡ true)
@@ -58,7 +58,7 @@ module _ (M : ℕ) (tasks : List Task) where
   pub chosen-first : (choice other : List Share) → chosen M tasks ≡ some choice →
       List·Memᴰ other (choices (map (optionsOf M) tasks)) → fits M other ≡ true → noLater (rank choice) (rank other) ≡ true
   unfolding chosen
-  chosen-first choice other e m fit = least-first (fitting M tasks) choice other e (choice-fitting other m fit)
+  chosen-first choice other e m fit = least-first rank (fitting M tasks) choice other e (choice-fitting other m fit)
 
   -- Every other choice that fits comes after it.
   pub chosen-before : (choice other : List Share) → chosen M tasks ≡ some choice →
@@ -75,16 +75,16 @@ module _ (M : ℕ) (tasks : List Task) where
       fits M choice ≡ true → ⊥
   unfolding chosen
   chosen-none e choice m fit =
-      List·Memᴰ·not-nil (subst (λ (l : List (List Share)). List·Memᴰ choice l) (least-none (fitting M tasks) e) (choice-fitting choice m fit))
+      List·Memᴰ·not-nil (subst (λ (l : List (List Share)). List·Memᴰ choice l) (least-none rank (fitting M tasks) e) (choice-fitting choice m fit))
 
   -- Where nothing fits, nothing is chosen.
   pub none-chosen : ((choice : List Share) → List·Memᴰ choice (choices (map (optionsOf M) tasks)) → fits M choice ≡ true → ⊥) →
       chosen M tasks ≡ none
   unfolding chosen
   none-chosen nothing =
-      ap leastOf
+      ap (leastBy rank)
       (none-empty (fitting M tasks) (λ choice m. let found = fitting-choice choice m in nothing choice (found .0) (found .1)))
-      ∙ least-of-none
+      ∙ least-of-none rank
 
 -- The choice that is chosen for a lawful task set.
 module _ (set : TaskSet) (lawful : LawfulSet set) (choice : List Share) (chosen-it : chosenFor set ≡ some choice) where

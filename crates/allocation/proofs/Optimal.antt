@@ -15,10 +15,10 @@ use Rattle.basics.proofs.Logic.{left-true, right-true}
 use Rattle.shares.specs.declared.share.Share.{Share}
 use Rattle.shares.specs.Totals.{typicalTotal, criticalTotal}
 use Rattle.basics.specs.Lists.{keep}
-use Rattle.allocation.specs.Choice.{choices, fits, pairNumbers, rank, noLater, leastOf}
+use Rattle.allocation.specs.Choice.{choices, fits, pairNumbers, rank, noLater, leastBy}
 use Rattle.allocation.specs.means.Selection.{sumAt, bestShare, totalWith, leastTotal, offered, sharesAt, bestTotal, selected}
 use Rattle.basics.proofs.Members.{each-has, each-from, map-has, map-from, keep-has, keep-from, none-empty}
-use Rattle.allocation.proofs.Ranks.{pairs-no-later, ranks-no-later, least-is, least-of-none}
+use Rattle.allocation.proofs.Ranks.{pairs-no-later, ranks-no-later, rank-same, least-is, least-of-none}
 use Rattle.allocation.proofs.Firsts.{least-from, least-to, least-at-most, least-first-at}
 
 -- What is asked of a task's offer: each option has a typical share of 1 to M and a critical share within M of at least
@@ -255,15 +255,15 @@ module _ {M : ℕ} {tasks : List (List Share)} {offers : List (ℕ → ℕ)} (r 
         select-first r (bestTotal M offers) best-total-to within rival takes
         (sym same-typical ∙ sound .typical) (sym same-critical ∙ sound .critical))
 
-    select-chosen : leastOf (keep (fits M) (choices tasks)) ≡ some (sharesAt M offers (bestTotal M offers))
-    select-chosen = least-is _ _ select-fits select-no-later
+    select-chosen : leastBy rank (keep (fits M) (choices tasks)) ≡ some (sharesAt M offers (bestTotal M offers))
+    select-chosen = least-is rank rank-same _ _ select-fits select-no-later
 
   -- What the offers select is the least choice that fits.
-  pub select-least : leastOf (keep (fits M) (choices tasks)) ≡ selected M offers
+  pub select-least : leastBy rank (keep (fits M) (choices tasks)) ≡ selected M offers
   unfolding selected
   select-least = go (leb (leastTotal M offers (bestTotal M offers)) M) refl
     where
       go : (e : Bool) → leb (leastTotal M offers (bestTotal M offers)) M ≡ e →
-          leastOf (keep (fits M) (choices tasks)) ≡ cond e (some (sharesAt M offers (bestTotal M offers))) none
+          leastBy rank (keep (fits M) (choices tasks)) ≡ cond e (some (sharesAt M offers (bestTotal M offers))) none
       go true e = select-chosen (leb-true _ M e)
-      go false e = ap leastOf (select-none (leb-false _ M e)) ∙ least-of-none
+      go false e = ap (leastBy rank) (select-none (leb-false _ M e)) ∙ least-of-none rank

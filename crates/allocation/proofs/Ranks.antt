@@ -1,4 +1,4 @@
--- The order on choices: of two lists of numbers the first difference decides, so that no two choices come no later than each
+-- The order by numbers: of two lists of numbers the first difference decides, so that no two choices come no later than each
 -- other, and the least of a list is the one member that comes no later than any.
 use Prim.Native.Nat.{ℕ, _≤_, _<_}
 use mathlib.Core.Path.{_≡_, refl, sym, _∙_, subst}
@@ -12,7 +12,7 @@ use lib.Dec.{ltb, eqb}
 use borrow.Author.Tests.{ltb-true, ltb-false, eqb-true, eq-eqb}
 use Rattle.shares.specs.declared.share.Share.{Share}
 use Rattle.shares.specs.Totals.{typicalTotal, criticalTotal}
-use Rattle.allocation.specs.Choice.{pairNumbers, rank, noLater, leastOf}
+use Rattle.allocation.specs.Choice.{pairNumbers, rank, noLater, leastBy}
 use Rattle.basics.proofs.Members.{all-member, all-members, find-some, find-none}
 
 -- Of two first numbers the smaller decides, and equal ones leave it to the rest.
@@ -86,38 +86,38 @@ pairs-same (s ∷ c) (u ∷ d) e =
 pub rank-same : (c d : List Share) → rank c ≡ rank d → c ≡ d
 rank-same c d e = pairs-same c d (cc)
 
--- A least member is a member, and comes no later than any.
-pub least-member : (list : List (List Share)) (c : List Share) → leastOf list ≡ some c → List·Memᴰ c list
-unfolding leastOf
-least-member list c e = find-some _ list c e .0
+-- The least of a list by numbers: it is a member, and comes no later than any.
+module _ {A : Type 0} (numbers : A → List ℕ) where
+  pub least-member : (list : List A) (c : A) → leastBy numbers list ≡ some c → List·Memᴰ c list
+  unfolding leastBy
+  least-member list c e = find-some _ list c e .0
 
-pub least-first : (list : List (List Share)) (c d : List Share) → leastOf list ≡ some c → List·Memᴰ d list →
-    noLater (rank c) (rank d) ≡ true
-unfolding leastOf
-least-first list c d e m = all-member _ list d (find-some _ list c e .1) m
+  pub least-first : (list : List A) (c d : A) → leastBy numbers list ≡ some c → List·Memᴰ d list → noLater (numbers c) (numbers d) ≡ true
+  unfolding leastBy
+  least-first list c d e m = all-member _ list d (find-some _ list c e .1) m
 
--- There is one where a member comes no later than any.
-least-there : (list : List (List Share)) (c : List Share) → List·Memᴰ c list →
-    ((d : List Share) → List·Memᴰ d list → noLater (rank c) (rank d) ≡ true) → leastOf list ≡ none → ⊥
-unfolding leastOf
-least-there list c m first e = find-none _ list c e m (all-members _ list first)
+  -- There is one where a member comes no later than any.
+  least-there : (list : List A) (c : A) → List·Memᴰ c list →
+      ((d : A) → List·Memᴰ d list → noLater (numbers c) (numbers d) ≡ true) → leastBy numbers list ≡ none → ⊥
+  unfolding leastBy
+  least-there list c m first e = find-none _ list c e m (all-members _ list first)
 
--- That member is the least.
-pub least-is : (list : List (List Share)) (c : List Share) → List·Memᴰ c list →
-    ((d : List Share) → List·Memᴰ d list → noLater (rank c) (rank d) ≡ true) → leastOf list ≡ some c
-least-is list c m first = go (leastOf list) refl
-  where
-    go : (o : Option (List Share)) → leastOf list ≡ o → o ≡ some c
-    go none e = absurd (least-there list c m first e)
-    go (some d) e =
-        let same : d ≡ c = rank-same d c (no-later-both (rank d) (rank c) (least-first list d c e m) (first d (least-member list d e))) in
-        rw same
+  -- That member is the least, if a member is known by its numbers.
+  pub least-is : ((c d : A) → numbers c ≡ numbers d → c ≡ d) → (list : List A) (c : A) → List·Memᴰ c list →
+      ((d : A) → List·Memᴰ d list → noLater (numbers c) (numbers d) ≡ true) → leastBy numbers list ≡ some c
+  least-is known list c m first = go (leastBy numbers list) refl
+    where
+      go : (o : Option A) → leastBy numbers list ≡ o → o ≡ some c
+      go none e = absurd (least-there list c m first e)
+      go (some d) e =
+          let same : d ≡ c = known d c (no-later-both (numbers d) (numbers c) (least-first list d c e m) (first d (least-member list d e))) in
+          rw same
 
-pub least-of-none : leastOf [] ≡ none
-unfolding leastOf
-least-of-none = refl
+  pub least-of-none : leastBy numbers [] ≡ none
+  unfolding leastBy
+  least-of-none = refl
 
--- The order is total and carries over, so that a list with a member has a least one.
+-- The order is total and carries over.
 no-later-self : (xs : List ℕ) → noLater xs xs ≡ true
 no-later-self [] = refl
 no-later-self (x ∷ xs) = no-later-if x x xs xs (omega arith) (λ e. no-later-self xs)
@@ -152,32 +152,34 @@ no-later-through (x ∷ xs) (y ∷ ys) (z ∷ zs) e f =
     go rest (inr (h, _)) (inl k) = no-later-if x z xs zs (omega arith) (λ same. absurd (omega arith))
     go rest (inr (h, xy)) (inr (k, yz)) = no-later-if x z xs zs (omega arith) (λ same. rest xy yz)
 
-least-among : (c : List Share) (cs : List (List Share)) →
-    (e : List Share) × (List·Memᴰ e (c ∷ cs) × ((d : List Share) → List·Memᴰ d (c ∷ cs) → noLater (rank e) (rank d) ≡ true))
-least-among c [] =
-    (c, (List·Memᴰ·head refl, λ d m. subst (λ (x : List Share). noLater (rank c) (rank x) ≡ true) (sym (List·Memᴰ·eq-of-singleton m)) (no-later-self (rank c))))
-least-among c (b ∷ cs) = go (least-among b cs)
-  where
-    go : (e : List Share) × (List·Memᴰ e (b ∷ cs) × ((d : List Share) → List·Memᴰ d (b ∷ cs) → noLater (rank e) (rank d) ≡ true)) →
-        (e : List Share) × (List·Memᴰ e (c ∷ b ∷ cs) × ((d : List Share) → List·Memᴰ d (c ∷ b ∷ cs) → noLater (rank e) (rank d) ≡ true))
-    go (e, (m, first)) = either (noLater (rank c) (rank e)) refl
-      where
-        from-c : noLater (rank c) (rank e) ≡ true → (d : List Share) → (d ≡ c) ⊎ List·Memᴰ d (b ∷ cs) → noLater (rank c) (rank d) ≡ true
-        from-c q d (inl same) = subst (λ (x : List Share). noLater (rank c) (rank x) ≡ true) (sym same) (no-later-self (rank c))
-        from-c q d (inr later) = no-later-through (rank c) (rank e) (rank d) q (first d later)
+-- A list with a member has a least one.
+module _ {A : Type 0} (numbers : A → List ℕ) where
+  least-among : (c : A) (cs : List A) →
+      (e : A) × (List·Memᴰ e (c ∷ cs) × ((d : A) → List·Memᴰ d (c ∷ cs) → noLater (numbers e) (numbers d) ≡ true))
+  least-among c [] =
+      (c, (List·Memᴰ·head refl, λ d m. subst (λ (x : A). noLater (numbers c) (numbers x) ≡ true) (sym (List·Memᴰ·eq-of-singleton m)) (no-later-self (numbers c))))
+  least-among c (b ∷ cs) = go (least-among b cs)
+    where
+      go : (e : A) × (List·Memᴰ e (b ∷ cs) × ((d : A) → List·Memᴰ d (b ∷ cs) → noLater (numbers e) (numbers d) ≡ true)) →
+          (e : A) × (List·Memᴰ e (c ∷ b ∷ cs) × ((d : A) → List·Memᴰ d (c ∷ b ∷ cs) → noLater (numbers e) (numbers d) ≡ true))
+      go (e, (m, first)) = either (noLater (numbers c) (numbers e)) refl
+        where
+          from-c : noLater (numbers c) (numbers e) ≡ true → (d : A) → (d ≡ c) ⊎ List·Memᴰ d (b ∷ cs) → noLater (numbers c) (numbers d) ≡ true
+          from-c q d (inl same) = subst (λ (x : A). noLater (numbers c) (numbers x) ≡ true) (sym same) (no-later-self (numbers c))
+          from-c q d (inr later) = no-later-through (numbers c) (numbers e) (numbers d) q (first d later)
 
-        from-e : noLater (rank c) (rank e) ≡ false → (d : List Share) → (d ≡ c) ⊎ List·Memᴰ d (b ∷ cs) → noLater (rank e) (rank d) ≡ true
-        from-e q d (inl same) = subst (λ (x : List Share). noLater (rank e) (rank x) ≡ true) (sym same) (no-later-or (rank c) (rank e) q)
-        from-e q d (inr later) = first d later
+          from-e : noLater (numbers c) (numbers e) ≡ false → (d : A) → (d ≡ c) ⊎ List·Memᴰ d (b ∷ cs) → noLater (numbers e) (numbers d) ≡ true
+          from-e q d (inl same) = subst (λ (x : A). noLater (numbers e) (numbers x) ≡ true) (sym same) (no-later-or (numbers c) (numbers e) q)
+          from-e q d (inr later) = first d later
 
-        either : (t : Bool) → noLater (rank c) (rank e) ≡ t →
-            (e : List Share) × (List·Memᴰ e (c ∷ b ∷ cs) × ((d : List Share) → List·Memᴰ d (c ∷ b ∷ cs) → noLater (rank e) (rank d) ≡ true))
-        either true q = (c, (List·Memᴰ·head refl, λ d n. from-c q d (List·Memᴰ·cases-cons n)))
-        either false q = (e, (List·Memᴰ·tail m, λ d n. from-e q d (List·Memᴰ·cases-cons n)))
+          either : (t : Bool) → noLater (numbers c) (numbers e) ≡ t →
+              (e : A) × (List·Memᴰ e (c ∷ b ∷ cs) × ((d : A) → List·Memᴰ d (c ∷ b ∷ cs) → noLater (numbers e) (numbers d) ≡ true))
+          either true q = (c, (List·Memᴰ·head refl, λ d n. from-c q d (List·Memᴰ·cases-cons n)))
+          either false q = (e, (List·Memᴰ·tail m, λ d n. from-e q d (List·Memᴰ·cases-cons n)))
 
--- There is no least one only where there is no member.
-pub least-none : (list : List (List Share)) → leastOf list ≡ none → list ≡ []
-least-none [] e = refl
-least-none (c ∷ cs) e =
-    let found = least-among c cs in
-    absurd (least-there (c ∷ cs) (found .0) (found .1 .0) (found .1 .1) e)
+  -- There is no least one only where there is no member.
+  pub least-none : (list : List A) → leastBy numbers list ≡ none → list ≡ []
+  least-none [] e = refl
+  least-none (c ∷ cs) e =
+      let found = least-among c cs in
+      absurd (least-there numbers (c ∷ cs) (found .0) (found .1 .0) (found .1 .1) e)

@@ -25,7 +25,7 @@ use Rattle.shares.specs.Offer.{tabulate, criticalAt, offerOf}
 use Rattle.shares.proofs.Levels.{critical-within}
 use Rattle.shares.proofs.Offers.{offer-at}
 use Rattle.allocation.specs.declared.choice.Chosen.{Chosen}
-use Rattle.allocation.specs.Choice.{optionsOf, choices, fits, leastOf, fitting, chosen}
+use Rattle.allocation.specs.Choice.{optionsOf, choices, fits, rank, leastBy, fitting, chosen}
 use Rattle.shares.specs.Totals.{noProcessors}
 use Rattle.allocation.specs.Allocation.{noShare, tasksOf, chosenFor, shareAnswer, choiceAnswer, choiceOf}
 use Rattle.allocation.specs.Lawful.{LawfulTask, LawfulSet}
@@ -215,11 +215,11 @@ module _ (set : TaskSet) (lawful : LawfulSet set) where
   refused-none number task e =
       let found = over-first (shareAnswer set) 0 (set .count) number task e in
       let inside = found .1 .0 in
-      ap leastOf
+      ap (leastBy rank)
       (none-empty (fitting (set .processors) (tasksOf set))
       (λ choice m.
       empty-none _ _ (share-refused set (found .0) number task (found .1 .1) .0) (fitting-option choice m (found .0) (omega arith))))
-      ∙ least-of-none
+      ∙ least-of-none rank
 
   -- The answers of `choose`, by the offers.
   module _ (offers : List (List ℕ)) (of-set : offers ≡ offersOf set) where

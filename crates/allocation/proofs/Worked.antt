@@ -20,7 +20,7 @@ use Rattle.shares.specs.Low.{ceilDiv, lowShare, hasLowShare}
 use Rattle.shares.specs.Test.{excess, demand, passes}
 use Rattle.shares.specs.Totals.{noProcessors, shareAt}
 use Rattle.basics.specs.Lists.{range}
-use Rattle.allocation.specs.Choice.{lowOptions, pairsWithin, highOptions, optionsOf, fits, leastOf, fitting, chosen}
+use Rattle.allocation.specs.Choice.{lowOptions, pairsWithin, highOptions, optionsOf, fits, rank, leastBy, fitting, chosen}
 use Rattle.allocation.specs.Way.{MayTake, FittingWay}
 use Rattle.allocation.specs.Allocation.{chosenFor, shareAnswer, choiceAnswer}
 
@@ -56,13 +56,13 @@ abe = high taskA ∷ high taskB ∷ low taskE ∷ []
 
 pub record Worked : Type 0 where
   -- S5.3: the critical total comes before the typical one.
-  pub by-critical : leastOf ((pair 1 3 ∷ []) ∷ (pair 2 2 ∷ []) ∷ []) ≡ some (pair 2 2 ∷ [])
+  pub by-critical : leastBy rank ((pair 1 3 ∷ []) ∷ (pair 2 2 ∷ []) ∷ []) ≡ some (pair 2 2 ∷ [])
   -- With the same critical total the smaller typical total decides.
-  pub by-typical : leastOf ((pair 2 2 ∷ pair 1 2 ∷ []) ∷ (pair 1 2 ∷ pair 1 2 ∷ []) ∷ []) ≡ some (pair 1 2 ∷ pair 1 2 ∷ [])
+  pub by-typical : leastBy rank ((pair 2 2 ∷ pair 1 2 ∷ []) ∷ (pair 1 2 ∷ pair 1 2 ∷ []) ∷ []) ≡ some (pair 1 2 ∷ pair 1 2 ∷ [])
   -- With the same totals the first task whose pairs differ decides, by the smaller a.
-  pub by-a : leastOf ((pair 2 2 ∷ pair 1 3 ∷ []) ∷ (pair 1 3 ∷ pair 2 2 ∷ []) ∷ []) ≡ some (pair 1 3 ∷ pair 2 2 ∷ [])
+  pub by-a : leastBy rank ((pair 2 2 ∷ pair 1 3 ∷ []) ∷ (pair 1 3 ∷ pair 2 2 ∷ []) ∷ []) ≡ some (pair 1 3 ∷ pair 2 2 ∷ [])
   -- With the same a, by the smaller b.
-  pub by-b : leastOf ((pair 1 3 ∷ pair 1 2 ∷ []) ∷ (pair 1 2 ∷ pair 1 3 ∷ []) ∷ []) ≡ some (pair 1 2 ∷ pair 1 3 ∷ [])
+  pub by-b : leastBy rank ((pair 1 3 ∷ pair 1 2 ∷ []) ∷ (pair 1 2 ∷ pair 1 3 ∷ []) ∷ []) ≡ some (pair 1 2 ∷ pair 1 3 ∷ [])
   -- A twice on 4 processors: (2, 2) twice has the same critical total, and a larger typical one.
   pub twice : chosenFor (on 4 (high taskA ∷ high taskA ∷ [])) ≡ some (pair 1 2 ∷ pair 1 2 ∷ [])
   -- The low task leaves 3 of 5 processors, so that one of two steep tasks takes 1 and the other 2: the first takes 1.
@@ -79,7 +79,7 @@ pub record Worked : Type 0 where
   pub with-low : choiceAnswer (on 7 abe) ≡ Refused 8 255
 
 pub worked : Worked
-unfolding taskIn firstOver isLow ceilDiv lowShare hasLowShare excess demand passes range lowOptions pairsWithin highOptions optionsOf fits leastOf fitting chosen chosenFor shareAnswer choiceAnswer isHigh
+unfolding taskIn firstOver isLow ceilDiv lowShare hasLowShare excess demand passes range lowOptions pairsWithin highOptions optionsOf fits leastBy fitting chosen chosenFor shareAnswer choiceAnswer isHigh
 worked =
     record {
       by-critical = refl;

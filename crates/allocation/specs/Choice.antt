@@ -53,9 +53,9 @@ noLater [] ys = true
 noLater (x ∷ xs) [] = false
 noLater (x ∷ xs) (y ∷ ys) = ltb x y || eqb x y && noLater xs ys
 
--- The choice of a list that comes no later than any other of it, or none.
-unfoldable pub leastOf : List (List Share) → Option (List Share)
-leastOf list = find (λ choice. all (λ other. noLater (rank choice) (rank other)) list) list
+-- The member of a list that comes no later than any other of it, by the numbers that the order goes by, or none.
+unfoldable pub leastBy : {A : Type 0} → (A → List ℕ) → List A → Option A
+leastBy numbers list = find (λ x. all (λ other. noLater (numbers x) (numbers other)) list) list
 
 -- S5.2: the choices for a list of tasks that fit M.
 unfoldable pub fitting : ℕ → List Task → List (List Share)
@@ -63,4 +63,4 @@ fitting M tasks = keep (fits M) (choices (map (optionsOf M) tasks))
 
 -- S5.3: the first of the choices that fit is chosen; none is, where none fits.
 unfoldable pub chosen : ℕ → List Task → Option (List Share)
-chosen M tasks = leastOf (fitting M tasks)
+chosen M tasks = leastBy rank (fitting M tasks)

@@ -27,7 +27,7 @@ use Rattle.shares.specs.Low.{ceilDiv, lowShare, hasLowShare}
 use Rattle.shares.specs.Deadline.{virtualDeadlineOf}
 use Rattle.nodes.specs.Sets.{has}
 use Rattle.nodes.proofs.Bits.{has-zero, has-power}
-use Rattle.allocation.specs.Choice.{lowOptions, pairsWithin, highOptions, optionsOf, fits, leastOf, fitting, chosen}
+use Rattle.allocation.specs.Choice.{lowOptions, pairsWithin, highOptions, optionsOf, fits, leastBy, fitting, chosen}
 use Rattle.allocation.specs.Allocation.{chosenFor, shareAnswer, choiceAnswer, allocationAnswer, sharesChosen}
 use Rattle.model.specs.Budget.{sumBelow, Chain, alone, link, along}
 use Rattle.model.specs.Row.{isSubset, allEnded, predecessorsOf, precedes, isReady, ready, running, runningSet, releasedRow, joined, tickedRow, isLate, survives, switchedRow}
@@ -80,7 +80,7 @@ unfolding tasksFor
 read-set = ap (λ (r : Reading). r .set) read-both
 
 both-chosen : (choiceAnswer both ≡ Accepted) × (chosenFor both ≡ some pairs)
-unfolding choiceAnswer shareAnswer chosenFor taskIn firstOver range isLow ceilDiv lowShare hasLowShare excess demand passes lowOptions pairsWithin highOptions optionsOf fits leastOf fitting chosen isHigh
+unfolding choiceAnswer shareAnswer chosenFor taskIn firstOver range isLow ceilDiv lowShare hasLowShare excess demand passes lowOptions pairsWithin highOptions optionsOf fits leastBy fitting chosen isHigh
 both-chosen = (refl, refl)
 
 pub started : startOf twoTasks .answer ≡ Accepted

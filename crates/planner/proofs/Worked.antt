@@ -16,7 +16,7 @@ use Rattle.reader.specs.Reading.{headerLawful, headerAnswer, placeAnswer, endAn
 use Rattle.shares.specs.Deadline.{virtualDeadlineOf}
 use Rattle.shares.specs.Low.{ceilDiv, lowShare, hasLowShare}
 use Rattle.shares.specs.Test.{excess, demand, passes, virtualDeadline}
-use Rattle.allocation.specs.Choice.{lowOptions, pairsWithin, highOptions, optionsOf, fits, leastOf, fitting, chosen}
+use Rattle.allocation.specs.Choice.{lowOptions, pairsWithin, highOptions, optionsOf, fits, leastBy, fitting, chosen}
 use Rattle.shares.specs.Totals.{shareAt}
 use Rattle.sheet.specs.declared.task.TaskSet.{TaskSet}
 use Rattle.allocation.specs.Blocks.{offsetIn}
@@ -82,7 +82,7 @@ pub record Worked : Type 0 where
   pub sheet-room : planAnswer (sheetABE 8) 17 ≡ Refused 9 255
 
 pub worked : Worked
-unfolding byteAt u16At u32At processorsOf countOf offsetOf lengthOf placeOf cellsFrom levelAt nodesAt figuresAt masksAt taskAt zeroTask tasksBelow taskSetOf taskIn levelLawful shapeLawful inRange inOrder lowLawful figuresLawful maskLawful allBelow masksLawful isHeavy taskAnswer firstOver headerLawful headerAnswer placeAnswer endAnswer shapeAnswer recordAnswer readAnswer readOf virtualDeadlineOf isLow ceilDiv lowShare hasLowShare excess demand passes virtualDeadline range lowOptions pairsWithin highOptions optionsOf fits leastOf fitting chosen offsetIn chosenFor shareAnswer choiceAnswer shareAt allocationOf allocationsOf allocationAt allocationAnswer allocatedOf blockBytes virtualBytes planBytes planAnswer planned isHigh figureLimit bytesBeforeMasks u16Bytes
+unfolding byteAt u16At u32At processorsOf countOf offsetOf lengthOf placeOf cellsFrom levelAt nodesAt figuresAt masksAt taskAt zeroTask tasksBelow taskSetOf taskIn levelLawful shapeLawful inRange inOrder lowLawful figuresLawful maskLawful allBelow masksLawful isHeavy taskAnswer firstOver headerLawful headerAnswer placeAnswer endAnswer shapeAnswer recordAnswer readAnswer readOf virtualDeadlineOf isLow ceilDiv lowShare hasLowShare excess demand passes virtualDeadline range lowOptions pairsWithin highOptions optionsOf fits leastBy fitting chosen offsetIn chosenFor shareAnswer choiceAnswer shareAt allocationOf allocationsOf allocationAt allocationAnswer allocatedOf blockBytes virtualBytes planBytes planAnswer planned isHigh figureLimit bytesBeforeMasks u16Bytes
 worked =
     record {
       typical-blocks = refl;
