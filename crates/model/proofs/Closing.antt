@@ -9,7 +9,7 @@ use native.Mathlib.Omega.{arith}
 use Rattle.model.specs.Row.{Fixed, survives}
 use Rattle.model.specs.Step.{Call, rowAt}
 use Rattle.model.proofs.Job.{pace, live-bounds}
-use Rattle.model.proofs.Ending.{Moment, Rested, Ticked, Kept}
+use Rattle.model.proofs.Ending.{Moment, Rested, Ticked, Invariant}
 
 -- (c): a job that keeps the budget, with at most `bound` full ticks in typical mode behind it, is alive only below D.
 abbrev pub Closes : ℕ → ℕ → ℕ → Fixed → Type 0
@@ -27,7 +27,7 @@ module _ (len : ℕ → ℕ) (work span i : ℕ) (f : Fixed) where
         Ticked len work span i f now later x → Good later calls
 
   pub closing : {bound : ℕ} {Good : Moment len work span i f → List Call → Type 0} →
-      survives f ≡ true → Bounded bound Good → Closes work span bound f → Kept len work span i f Good
+      survives f ≡ true → Bounded bound Good → Closes work span bound f → Invariant len work span i f Good
   closing {bound} {Good} stays bounded closes =
       record {
         in-time = λ now calls good.

@@ -62,20 +62,20 @@ module _ (len : ℕ → ℕ) (work span i : ℕ) (f : Fixed) where
     pub live : Live len work span row counts (now .ticks + 1)
     pub full : OneMore (now .model .critical) (now .live .full₁) (now .live .full₂) (live .full₁) (live .full₂)
 
-  -- What is asked of something that holds of a moment and the calls to come.
-  pub record Kept (Good : Moment → List Call → Type 0) : Type 1 where
+  -- What is asked of an invariant: something that holds of a moment and the calls to come.
+  pub record Invariant (Good : Moment → List Call → Type 0) : Type 1 where
     pub in-time : (now : Moment) (calls : List Call) → Good now calls → now .ticks < f .deadline
     pub on-rest : (now later : Moment) (x : Call) (calls : List Call) → Good now (x ∷ calls) → Rested now later x → Good later calls
     pub on-tick : (now later : Moment) (x : Call) (calls : List Call) → Good now (x ∷ calls) → Ticked now later x → Good later calls
     pub undropped : (now : Moment) (x : Call) (calls : List Call) → Good now (x ∷ calls) → Dropped now x → ⊥
 
 module _ {len : ℕ → ℕ} {work span i : ℕ} {f : Fixed} {Good : Moment len work span i f → List Call → Type 0}
-    (kept : Kept len work span i f Good) where
+    (invariant : Invariant len work span i f Good) where
   pub run-out : (calls : List Call) (now : Moment len work span i f) → i < length (now .model .rows) → Good now calls →
       TrueFrom i len (now .counts) (now .model) calls → releasesIn i (now .model) calls ≡ 0 →
       f .deadline ≤ now .ticks + ticksIn (now .model) calls →
       Over (rowAt (after (now .model) calls) i)
-  run-out [] now known good h none enough = absurd (omega (arith, kept .in-time now [] good))
+  run-out [] now known good h none enough = absurd (omega (arith, invariant .in-time now [] good))
   run-out (x ∷ calls) now known good h none enough =
       go (live-step i m (now .live) x calls known (z .0) h)
       (λ n l g.
@@ -107,16 +107,16 @@ module _ {len : ℕ → ℕ} {work span i : ℕ} {f : Fixed} {Good : Moment len 
           Over (rowAt (after (next m x) calls) i)
       go (rests w mode row counts l same₁ same₂) then =
           then (now .ticks) l
-          (kept .on-rest now (later (now .ticks) l) x calls good
+          (invariant .on-rest now (later (now .ticks) l) x calls good
           (record { call = refl; idle = w; mode = mode; row = row; counts = counts; ticks = refl; full₁ = same₁; full₂ = same₂ }))
           (omega (arith, enough, ap {B = ℕ} (λ (b : Bool). cond b 1 0) w))
       go (works w l one calm) then =
           then (now .ticks + 1) l
-          (kept .on-tick now (later (now .ticks + 1) l) x calls good
+          (invariant .on-tick now (later (now .ticks + 1) l) x calls good
           (record { call = refl; accepted = w; ticks = refl; full = one; calm = calm }))
           (omega (arith, enough, ap {B = ℕ} (λ (b : Bool). cond b 1 0) w))
       go (dropped w lost critical part same l one) then =
-          absurd (kept .undropped now x calls good
+          absurd (invariant .undropped now x calls good
           (record {
             accepted = w;
             lost = ap survives (sym (now .fixed)) ∙ lost;
@@ -144,17 +144,17 @@ module _ (ts : TaskSet) (shares : List Share) (planned : Planned ts shares) (cal
 
   pub ended-by-deadline : (lengths : ℕ → ℕ) (b : Budget)
       {Good : Moment lengths (b .work) (b .span) i (plannedFixed ts shares i) → List Call → Type 0} →
-      (i < ts .count → Kept lengths (b .work) (b .span) i (plannedFixed ts shares i) Good) →
+      (i < ts .count → Invariant lengths (b .work) (b .span) i (plannedFixed ts shares i) Good) →
       (i < ts .count → (now : Moment lengths (b .work) (b .span) i (plannedFixed ts shares i)) →
       AtRelease lengths (b .work) (b .span) now → Good now (job .since)) →
       KeepsBudget (taskIn ts i) b lengths → TrueReports i lengths (begun job) (job .since) →
       DeadlinePassed (taskIn ts i) i (begun job) (job .since) →
       Ended (taskIn ts i) (rowAt (after (fresh ts shares) calls) i)
   unfolding begun freshRow
-  ended-by-deadline lengths b kept good keeps reports passed =
+  ended-by-deadline lengths b invariant good keeps reports passed =
       over-ended ts shares planned calls i known
       (subst (λ (m : Model). Over (rowAt m i)) (sym (since-release ts shares planned i job))
-      (run-out (kept known) (job .since) start
+      (run-out (invariant known) (job .since) start
       (rw (length-step (after (fresh ts shares) (job .before)) (release i), rows-after ts shares planned (job .before)) known)
       (good known start
       (record { model = refl; ticks = refl; full₁ = omega (arith, live .ticks); full₂ = omega (arith, live .ticks) }))

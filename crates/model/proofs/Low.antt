@@ -21,7 +21,7 @@ use Rattle.model.specs.Beside.{TypicalUntil, LowDeadline}
 use Rattle.model.proofs.Steps.{next}
 use Rattle.model.proofs.Job.{Live, OneMore, TypicalBelow, typical-below}
 use Rattle.model.proofs.Released.{plannedFixed}
-use Rattle.model.proofs.Ending.{Moment, Dropped, Kept, ended-by-deadline}
+use Rattle.model.proofs.Ending.{Moment, Dropped, Invariant, ended-by-deadline}
 
 -- While a job that keeps the budget is alive in typical mode, fewer than D ticks have passed.
 abbrev Ends : ℕ → ℕ → Fixed → Type 0
@@ -61,8 +61,8 @@ module _ (len : ℕ → ℕ) (work span i : ℕ) (f : Fixed) (ends : Ends work s
         (sym (d .switched)
         ∙ good .typical (x ∷ []) calls refl (omega (arith, early, ap {B = ℕ} (λ (b : Bool). cond b 1 0) (d .accepted))))
 
-  kept-typical : Kept len work span i f (StillTypical len work span i f)
-  kept-typical =
+  typical-invariant : Invariant len work span i f (StillTypical len work span i f)
+  typical-invariant =
       record {
         in-time = λ now calls good. below (now .live) (now .fixed) (good .none);
         on-rest = λ now later x calls good r.
@@ -101,7 +101,7 @@ module _ (ts : TaskSet) (shares : List Share) (planned : Planned ts shares) wher
   low-deadline calls i job lengths level keeps reports typical passed =
       ended-by-deadline ts shares planned calls i job lengths b
       {Good = StillTypical lengths (b .work) (b .span) i (plannedFixed ts shares i)}
-      (λ known. kept-typical lengths (b .work) (b .span) i (plannedFixed ts shares i) (ends-low i known level))
+      (λ known. typical-invariant lengths (b .work) (b .span) i (plannedFixed ts shares i) (ends-low i known level))
       (λ known now start.
       record {
         none = start .full₂;
