@@ -3,7 +3,6 @@
 use Prim.Native.Nat.{ℕ, zero, suc, _+_, _≤_, _<_}
 use mathlib.Core.Bool.{Bool, true, false, cond}
 use mathlib.Core.List.{List, _∷_}
-use mathlib.Core.Option.{some}
 use mathlib.Core.Path.{_≡_, refl, sym, ap, ap₂, _∙_}
 use native.Mathlib.Decide.{decLt}
 use native.Mathlib.Omega.{arith}
@@ -14,44 +13,24 @@ use borrow.Author.Tests.{le-ltb}
 use Rattle.sheet.specs.declared.answer.Answer.{Answer}
 use Rattle.sheet.specs.declared.answer.Answer.the-variants.{Accepted, Refused}
 use Rattle.sheet.specs.declared.task.TaskSet.{TaskSet}
+use Rattle.sheet.specs.Format.{taskIn}
+use Rattle.sheet.specs.Level.{figureLimit}
 use Rattle.basics.specs.Lists.{cellsFrom, cells}
 use Rattle.basics.proofs.Cells.{cells-none, cells-store, cells-length}
 use Rattle.reader.specs.Reading.{readOf}
 use Rattle.shares.specs.declared.share.Share.{Share}
 use Rattle.shares.specs.Totals.{noProcessors, shareAt, shareTotal}
 use Rattle.allocation.specs.declared.allocate.Allocation.{Allocation}
-use Rattle.allocation.specs.Blocks.{offsetIn, lengthIn, BlocksInOrder}
-use Rattle.allocation.specs.Lawful.{LawfulSet}
-use Rattle.allocation.specs.Allocation.{tasksOf, chosenFor, choiceAnswer, sixteen, allocationOf, noAllocation, allocationsOf, allocationAt, allocationAnswer, allocatedWith, allocatedOf, sharesChosen}
+use Rattle.allocation.specs.Blocks.{offsetIn, lengthIn}
+use Rattle.allocation.specs.Lawful.{LawfulSet, LawfulShares}
+use Rattle.allocation.specs.Allocation.{choiceAnswer, sixteen, sharesOf, allocationOf, noAllocation, allocationsOf, allocationAt, allocationAnswer, allocatedWith, allocatedOf}
 use Rattle.allocation.specs.means.Bounds.{SharesFit, Bounded, AllBounded}
-use Rattle.allocation.proofs.Accepted.{both-accepted, accepted-lawful, accepted-choice}
-use Rattle.allocation.proofs.Blocks.{total-part, chosen-blocks}
-use Rattle.allocation.proofs.Laws.{chosen-length, chosen-typical, chosen-critical, chosen-positive, chosen-deadline}
+use Rattle.allocation.proofs.Accepted.{both-accepted, accepted-lawful}
+use Rattle.allocation.proofs.KeptLine.{accepted-shares}
+use Rattle.allocation.proofs.Blocks.{total-part, shares-blocks}
+use Rattle.allocation.proofs.Lawfulness.{figures-kept}
 use Rattle.allocation.proofs.Lines.{cells-at}
-
--- The line of sixteen begins with the shares.
-module _ (shares : List Share) (few : length shares ≤ 16) where
-  share-same : (i : ℕ) → i < length shares → shareAt (sixteen shares) i ≡ shareAt shares i
-  unfolding sixteen shareAt
-  share-same i inside = cells-at (λ j. getD shares j noProcessors) noProcessors 16 (length shares) i noProcessors (omega arith) inside
-
-  sixteen-length : length (sixteen shares) ≡ 16
-  unfolding sixteen
-  sixteen-length = cells-length (λ j. getD shares j noProcessors) noProcessors 0 16 (length shares)
-
-  sixteen-take : (i : ℕ) → i ≤ length shares → take i (sixteen shares) ≡ take i shares
-  unfolding shareAt
-  sixteen-take i to =
-      let whole = sixteen-length in
-      let long : length (take i (sixteen shares)) ≡ i = length-take-le i (sixteen shares) (omega arith) in
-      ext-getD noProcessors (take i (sixteen shares)) (take i shares) (long ∙ sym (length-take-le i shares to))
-      (λ j inside.
-      let below : j < i = omega arith in
-      getD-take i (sixteen shares) j noProcessors below ∙ share-same j (omega arith) ∙ sym (getD-take i shares j noProcessors below))
-
-  offset-same : (mode : Bool) (i : ℕ) → i ≤ length shares → offsetIn mode (sixteen shares) i ≡ offsetIn mode shares i
-  unfolding offsetIn
-  offset-same mode i to = ap (shareTotal mode) (sixteen-take i to)
+use Rattle.allocation.proofs.Sixteen.{share-same, sixteen-take, offset-same}
 
 -- Cells that agree below the count are alike.
 cells-same : {A : Type 0} (f g : ℕ → A) (none : A) (first size count : ℕ) →
@@ -83,60 +62,50 @@ module _ (tasks : TaskSet) (shares : List Share) where
   unfolding allocationAt allocationsOf
   allocations-at few i inside = cells-at (allocationOf tasks shares) noAllocation 16 (tasks .count) i noAllocation (omega arith) inside
 
--- The shares that are chosen for a lawful task set.
-module _ (tasks : TaskSet) (lawful : LawfulSet tasks) (choice : List Share) (chosen-it : chosenFor tasks ≡ some choice) where
-  all-shares : length choice ≡ tasks .count
-  all-shares = chosen-length tasks lawful choice chosen-it
-
-  few-shares : length choice ≤ 16
-  few-shares = let few = lawful .few-tasks in omega (arith, all-shares)
-
-  total-within : (mode : Bool) → shareTotal mode choice ≤ tasks .processors
-  total-within false = chosen-typical tasks lawful choice chosen-it
-  total-within true = chosen-critical tasks lawful choice chosen-it
+-- The shares that the tasks of a lawful set get.
+module _ (tasks : TaskSet) (lawful : LawfulSet tasks) (shares : List Share) (given : LawfulShares tasks shares) where
+  few-shares : length shares ≤ 16
+  few-shares = let few = lawful .few-tasks in omega (arith, given .each)
 
   -- Their numbers fit what the code adds up.
-  pub shares-fit : SharesFit tasks (sixteen choice)
+  pub shares-fit : SharesFit tasks (sixteen shares)
   unfolding offsetIn lengthIn shareAt
   shares-fit =
       record {
         few = lawful .few-tasks;
-        some-share = λ i inside.
-            rw (share-same choice few-shares i (omega (arith, all-shares))) (chosen-positive tasks lawful choice chosen-it i inside);
+        some-share = λ i inside. rw (share-same shares few-shares i) (given .some-share i inside);
         ends = λ mode i to.
             let small = lawful .few-processors in
-            let here = total-within mode in
-            let part = total-part mode choice i in
-            let few : shareTotal mode (take i choice) < 256 = omega arith in
-            rw (sixteen-take choice few-shares i (omega (arith, all-shares))) few;
+            let here = given .fits mode in
+            let part = total-part mode shares i in
+            let few : shareTotal mode (take i shares) < 256 = omega arith in
+            rw (sixteen-take shares few-shares i (omega (arith, given .each))) few;
       }
 
-  allocation-same : (i : ℕ) → i < tasks .count → allocationOf tasks (sixteen choice) i ≡ allocationOf tasks choice i
+  allocation-same : (i : ℕ) → i < tasks .count → allocationOf tasks (sixteen shares) i ≡ allocationOf tasks shares i
   unfolding allocationOf
   allocation-same i inside =
       rw (
-        share-same choice few-shares i (omega (arith, all-shares)),
-        offset-same choice few-shares false i (omega (arith, all-shares)),
-        offset-same choice few-shares true i (omega (arith, all-shares)),
+        share-same shares few-shares i,
+        offset-same shares few-shares false i (omega (arith, given .each)),
+        offset-same shares few-shares true i (omega (arith, given .each)),
       )
 
   -- The line of sixteen shares fixes what the shares do.
-  pub allocations-same : allocationsOf tasks (sixteen choice) ≡ allocationsOf tasks choice
+  pub allocations-same : allocationsOf tasks (sixteen shares) ≡ allocationsOf tasks shares
   unfolding allocationsOf
-  allocations-same = cells-same (allocationOf tasks (sixteen choice)) (allocationOf tasks choice) noAllocation 0 16 (tasks .count) allocation-same
+  allocations-same = cells-same (allocationOf tasks (sixteen shares)) (allocationOf tasks shares) noAllocation 0 16 (tasks .count) allocation-same
 
-  blocks : BlocksInOrder (tasks .processors) choice
-  unfolding chosenFor
-  blocks = chosen-blocks (tasks .processors) (tasksOf tasks) choice chosen-it
-
-  pub allocation-bounded : (i : ℕ) → i < tasks .count → Bounded (allocationOf tasks choice i)
-  unfolding allocationOf lengthIn shareAt
+  pub allocation-bounded : (i : ℕ) → i < tasks .count → Bounded (allocationOf tasks shares i)
+  unfolding allocationOf lengthIn shareAt figureLimit
   allocation-bounded i inside =
       let small = lawful .few-processors in
+      let blocks = shares-blocks tasks shares given in
+      let kept = figures-kept (taskIn tasks i .level) (taskIn tasks i .figures) (lawful .lawful i inside .figures) in
       record {
-        typical = let ends = blocks .inside false i (omega (arith, all-shares)) in omega arith;
-        critical = let ends = blocks .inside true i (omega (arith, all-shares)) in omega arith;
-        two-bytes = chosen-deadline tasks lawful choice chosen-it i inside;
+        typical = let ends = blocks .inside false i (omega (arith, given .each)) in omega arith;
+        critical = let ends = blocks .inside true i (omega (arith, given .each)) in omega arith;
+        two-bytes = omega (arith, given .virtual i inside, kept .deadline-to);
       }
 
 -- The answer on a sheet, and what goes with it.
@@ -171,20 +140,20 @@ module _ (s : List ℕ) where
     pub read-lawful : LawfulSet (readOf s .set)
     read-lawful = accepted-lawful s (both-passed .0)
 
-    pub read-chosen : chosenFor (readOf s .set) ≡ some (sharesChosen (chosenFor (readOf s .set)))
-    read-chosen = accepted-choice (readOf s .set) (both-passed .1)
+    pub read-shares : LawfulShares (readOf s .set) (sharesOf (readOf s .set))
+    read-shares = accepted-shares (readOf s .set) read-lawful (both-passed .1)
 
     pub allocated-count : allocatedOf s .count ≡ readOf s .set .count
     unfolding allocatedOf
     allocated-count = rw accepted
 
-    pub allocated-line : allocatedOf s .allocations ≡ allocationsOf (readOf s .set) (sharesChosen (chosenFor (readOf s .set)))
+    pub allocated-line : allocatedOf s .allocations ≡ allocationsOf (readOf s .set) (sharesOf (readOf s .set))
     unfolding allocatedOf
     allocated-line = rw accepted
 
     -- What is fixed by the line of sixteen shares.
-    pub line-fixed : allocationsOf (readOf s .set) (sixteen (sharesChosen (chosenFor (readOf s .set)))) ≡ allocatedOf s .allocations
-    line-fixed = allocations-same (readOf s .set) read-lawful _ read-chosen ∙ sym allocated-line
+    pub line-fixed : allocationsOf (readOf s .set) (sixteen (sharesOf (readOf s .set))) ≡ allocatedOf s .allocations
+    line-fixed = allocations-same (readOf s .set) read-lawful _ read-shares ∙ sym allocated-line
 
     pub allocated-accepted : (count : ℕ) (allocations : List Allocation) → count ≡ readOf s .set .count →
         allocations ≡ allocatedOf s .allocations → record { answer = Accepted; count = count; allocations = allocations } ≡ allocatedOf s
@@ -192,7 +161,7 @@ module _ (s : List ℕ) where
     allocated-accepted count allocations e f = rw (e, f, accepted)
 
     pub allocated-at : (i : ℕ) → i < readOf s .set .count →
-        allocationAt (allocatedOf s .allocations) i ≡ allocationOf (readOf s .set) (sharesChosen (chosenFor (readOf s .set))) i
+        allocationAt (allocatedOf s .allocations) i ≡ allocationOf (readOf s .set) (sharesOf (readOf s .set)) i
     allocated-at i inside = rw allocated-line (allocations-at (readOf s .set) _ (read-lawful .few-tasks) i inside)
 
     pub allocated-length : length (allocatedOf s .allocations) ≡ 16
@@ -203,5 +172,5 @@ module _ (s : List ℕ) where
         rw allocated-count
         record {
           few = read-lawful .few-tasks;
-          each = λ i inside. rw (allocated-at i inside) (allocation-bounded (readOf s .set) read-lawful _ read-chosen i inside);
+          each = λ i inside. rw (allocated-at i inside) (allocation-bounded (readOf s .set) read-lawful _ read-shares i inside);
         }

@@ -1,22 +1,17 @@
--- The blocks lie in order: each begins where the one before it ends, and the last end is the sum of the shares, which fits.
+-- The blocks lie in order: each begins where the one before it ends, and the last end is the sum of the shares, which is within M.
 use Prim.Native.Nat.{ℕ, zero, suc, _+_, _-_, _≤_, _<_}
 use mathlib.Core.Path.{_≡_, refl, sym, subst}
 use mathlib.Core.Bool.{Bool, true, false}
 use mathlib.Core.List.{List, [], _∷_, _++_}
-use mathlib.Core.Option.{some}
 use native.Mathlib.Numerals.{add-one}
 use native.Mathlib.Omega.{arith}
-use lib.Dec.{leb}
 use lib.ListN.{length, getD, take}
 use lib.Seq.{take-suc}
-use borrow.Author.Tests.{leb-true}
-use Rattle.sheet.specs.declared.task.Task.{Task}
-use Rattle.basics.proofs.Logic.{left-true, right-true}
+use Rattle.sheet.specs.declared.task.TaskSet.{TaskSet}
 use Rattle.shares.specs.declared.share.Share.{Share}
-use Rattle.shares.specs.Totals.{noProcessors, shareIn, shareTotal, typicalTotal}
-use Rattle.allocation.specs.Choice.{fits, chosen}
+use Rattle.shares.specs.Totals.{noProcessors, shareIn, shareTotal}
 use Rattle.allocation.specs.Blocks.{offsetIn, lengthIn, BlocksInOrder}
-use Rattle.allocation.proofs.Laws.{chosen-fits}
+use Rattle.allocation.specs.Lawful.{LawfulShares}
 
 -- The shares up to a task, with one more.
 total-snoc : (mode : Bool) (shares : List Share) (s : Share) → shareTotal mode (shares ++ (s ∷ [])) ≡ shareTotal mode shares + shareIn mode s
@@ -46,6 +41,17 @@ total-part true shares zero = omega arith
 total-part true [] (suc i) = omega arith
 total-part true (s ∷ shares) (suc i) = omega (arith, total-part true shares i)
 
+-- More tasks total no less.
+pub total-more : (mode : Bool) (shares : List Share) (i j : ℕ) → i ≤ j → shareTotal mode (take i shares) ≤ shareTotal mode (take j shares)
+total-more false shares zero j h = omega arith
+total-more false [] (suc i) j h = omega arith
+total-more false (s ∷ shares) (suc i) zero h = absurd (omega arith)
+total-more false (s ∷ shares) (suc i) (suc j) h = omega (arith, total-more false shares i j (omega arith))
+total-more true shares zero j h = omega arith
+total-more true [] (suc i) j h = omega arith
+total-more true (s ∷ shares) (suc i) zero h = absurd (omega arith)
+total-more true (s ∷ shares) (suc i) (suc j) h = omega (arith, total-more true shares i j (omega arith))
+
 module _ (mode : Bool) (shares : List Share) where
   -- A block ends before any later one begins.
   blocks-apart : (i d : ℕ) → i + d + 1 < length shares →
@@ -61,10 +67,9 @@ module _ (mode : Bool) (shares : List Share) where
   unfolding offsetIn
   block-inside i inside = omega (arith, offset-next mode shares i inside, total-part mode shares (i + 1))
 
--- Shares that fit lie in order and end within M.
-pub blocks-in-order : (M : ℕ) (shares : List Share) → fits M shares ≡ true → BlocksInOrder M shares
-unfolding fits
-blocks-in-order M shares fit =
+-- Shares that total at most M in each mode lie in order and end within M.
+pub blocks-in-order : (M : ℕ) (shares : List Share) → ((mode : Bool) → shareTotal mode shares ≤ M) → BlocksInOrder M shares
+blocks-in-order M shares within =
     record {
       first = λ mode. offset-first mode shares;
       behind = λ mode i inside. offset-next mode shares i inside;
@@ -72,16 +77,12 @@ blocks-in-order M shares fit =
       inside = λ mode i inside. let h = within mode in omega (arith, block-inside mode shares i inside);
     }
   where
-    within : (mode : Bool) → shareTotal mode shares ≤ M
-    within false = leb-true _ _ (left-true (leb (typicalTotal shares) M) _ fit)
-    within true = leb-true _ _ (right-true (leb (typicalTotal shares) M) _ fit)
-
     later : (mode : Bool) (i j : ℕ) → i < j → j < length shares → offsetIn mode shares i + lengthIn mode shares i ≤ offsetIn mode shares j
     later mode i j before inside =
         let e : j ≡ i + (j - i - 1) + 1 = omega arith in
         subst (λ (k : ℕ). offsetIn mode shares i + lengthIn mode shares i ≤ offsetIn mode shares k) (sym e)
         (blocks-apart mode shares i (j - i - 1) (omega arith))
 
--- S5.4 of the shares that are chosen.
-pub chosen-blocks : (M : ℕ) (tasks : List Task) (choice : List Share) → chosen M tasks ≡ some choice → BlocksInOrder M choice
-chosen-blocks M tasks choice e = blocks-in-order M choice (chosen-fits M tasks choice e)
+-- S5.4 of the shares that the tasks of a set get.
+pub shares-blocks : (set : TaskSet) (shares : List Share) → LawfulShares set shares → BlocksInOrder (set .processors) shares
+shares-blocks set shares given = blocks-in-order (set .processors) shares (given .fits)

@@ -16,7 +16,7 @@ use Rattle.sheet.specs.Format.{taskIn}
 use Rattle.basics.proofs.Logic.{left-true, right-true}
 use Rattle.shares.specs.declared.share.Share.{Share}
 use Rattle.shares.specs.Deadline.{virtualDeadlineOf}
-use Rattle.sheet.specs.Level.{isLow, figureLimit}
+use Rattle.sheet.specs.Level.{isLow}
 use Rattle.shares.specs.Test.{virtualDeadline}
 use Rattle.shares.specs.Totals.{typicalTotal, criticalTotal, noProcessors}
 use Rattle.shares.proofs.Ends.{virtual-within}
@@ -146,10 +146,3 @@ module _ (set : TaskSet) (lawful : LawfulSet set) (choice : List Share) (chosen-
             let kept = figures-kept (taskIn set i .level) (taskIn set i .figures) (lawful .lawful i inside .figures) in
             virtual-within (taskIn set i .figures) (getD choice i noProcessors .typical) (getD choice i noProcessors .critical)
             (pair .positive) (pair .ordered) (kept .spans) (subst T (sym (pair .passing)) tt)
-
-    pub chosen-deadline : virtualDeadlineOf (taskIn set i) (lengthIn false choice i) < 65536
-    unfolding figureLimit
-    chosen-deadline =
-        let kept = figures-kept (taskIn set i .level) (taskIn set i .figures) (lawful .lawful i inside .figures) in
-        let to = kept .deadline-to in
-        omega (arith, chosen-virtual)

@@ -7,10 +7,17 @@ pub mod Lawfulness
 pub mod Options
 pub mod Cells
 pub mod Lines
+pub mod Sixteen
 pub mod Walk
 pub mod Sets
 pub mod Accepted
 pub mod Allocations
 pub mod Laws
+pub mod Parts
+pub mod Greedy
+pub mod KeptLaws
+pub mod Scan
+pub mod KeptSteps
+pub mod KeptLine
 pub mod Ways
 pub mod Blocks

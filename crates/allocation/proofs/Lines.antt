@@ -7,7 +7,7 @@ use native.Mathlib.Omega.{arith}
 use native.Mathlib.Decide.{decLe}
 use lib.ListN.{length, getD, take, drop, set, replicate, length-map, List·getD-map, drop-of-length-le}
 use lib.Seq.{drop-cons, getD-take, getD-drop, drop-drop, length-take-le}
-use borrow.Author.Tests.{lt-ltb}
+use borrow.Author.Tests.{lt-ltb, le-ltb}
 use Rattle.basics.specs.Lists.{cells, cellsFrom}
 use Rattle.basics.proofs.Cells.{cells-none, cells-store}
 use Rattle.shares.specs.declared.share.Share.{Share}
@@ -37,6 +37,16 @@ pub cells-at : {A : Type 0} (f : ℕ → A) (none : A) (size count j : ℕ) (d :
 cells-at f none size count j d inside filled =
     let e : 0 + j ≡ j = omega arith in
     cells-at-from f none size 0 count j d inside (omega arith) ∙ ap f e
+
+-- A cell from the count on is empty, and so is any behind the last.
+cells-past-from : {A : Type 0} (f : ℕ → A) (none : A) (size first count j : ℕ) → count ≤ first + j → getD (cellsFrom first size f none count) j none ≡ none
+unfolding cellsFrom
+cells-past-from f none zero first count j past = refl
+cells-past-from f none (suc size) first count zero past = rw (le-ltb first count (omega arith))
+cells-past-from f none (suc size) first count (suc j) past = cells-past-from f none size (suc first) count j (omega arith)
+
+pub cells-past : {A : Type 0} (f : ℕ → A) (none : A) (size count j : ℕ) → count ≤ j → getD (cells size f none count) j none ≡ none
+cells-past f none size count j past = cells-past-from f none size 0 count j (omega arith)
 
 -- Numbers that agree are tabulated alike.
 tabulate-same : (g h : ℕ → ℕ) (n : ℕ) → ((x : ℕ) → x < n → g x ≡ h x) → tabulate g 0 n ≡ tabulate h 0 n

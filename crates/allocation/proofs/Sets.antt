@@ -17,7 +17,7 @@ use Rattle.sheet.specs.declared.answer.Answer.the-variants.{Accepted, Refused}
 use Rattle.sheet.specs.declared.task.Task.{Task}
 use Rattle.sheet.specs.declared.task.TaskSet.{TaskSet}
 use Rattle.sheet.specs.Answers.{refusedIf, _orElse_, firstOver}
-use Rattle.basics.specs.Lists.{isEmpty}
+use Rattle.basics.specs.Lists.{isEmpty, range}
 use Rattle.sheet.specs.Format.{taskIn, missingTask}
 use Rattle.basics.proofs.Cells.{cells-length}
 use Rattle.shares.specs.declared.share.Share.{Share}
@@ -27,7 +27,8 @@ use Rattle.shares.proofs.Offers.{offer-at}
 use Rattle.allocation.specs.declared.choice.Chosen.{Chosen}
 use Rattle.allocation.specs.Choice.{optionsOf, choices, fits, rank, leastBy, fitting, chosen}
 use Rattle.shares.specs.Totals.{noProcessors}
-use Rattle.allocation.specs.Allocation.{noShare, tasksOf, chosenFor, shareAnswer, choiceAnswer, choiceOf}
+use Rattle.allocation.specs.Kept.{withKept}
+use Rattle.allocation.specs.Allocation.{noShare, tasksOf, chosenFor, shareAnswer, choiceAnswer, sharesChosen, sharesWith, sharesOf, sixteen, choiceOf}
 use Rattle.allocation.specs.Lawful.{LawfulTask, LawfulSet}
 use Rattle.allocation.specs.means.Selection.{cellAt, offered, selected, zeroOffer, missingOffer, offersOf, offersNone, offerAnswer, offersUpTo, selectionOf}
 use Rattle.basics.proofs.Members.{keep-from, all-member, all-members, none-empty, empty-none}
@@ -36,6 +37,15 @@ use Rattle.allocation.proofs.Optimal.{OfferOf, Offers, no-offer, offer-
 use Rattle.allocation.proofs.Options.{offer-of, offer-agrees}
 use Rattle.allocation.proofs.Cells.{tabulate-from, tabulate-has}
 use Rattle.allocation.proofs.Lines.{cells-at, offers-open, offers-length, sixteen-none}
+
+-- The answer on a task set beside the choice, before low tasks are kept.
+abbrev pub chosenLine : TaskSet → Chosen
+chosenLine set = record { answer = choiceAnswer set; shares = sixteen (sharesChosen (chosenFor set)) }
+
+-- Where nothing is chosen there are no shares.
+pub none-shares : (set : TaskSet) → chosenFor set ≡ none → sharesOf set ≡ []
+unfolding sharesOf sharesWith withKept range
+none-shares set e = rw e
 
 -- The offer of a lawful task, as 64 numbers.
 module _ (M : ℕ) (t : Task) (small : M ≤ 64) (lawful : LawfulTask t) where
@@ -231,11 +241,12 @@ module _ (set : TaskSet) (lawful : LawfulSet set) where
     unfolding choiceOf choiceAnswer
     choice-refused number task refused =
         let here = answers-are ∙ refused in
-        rw (here, refused-none number task here, sixteen-none)
+        rw (here, none-shares set (refused-none number task here), sixteen-none)
 
+    -- What is selected is the choice.
     pub choice-selected : (chosen-shares : Chosen) → firstOver (offerAnswer (set .processors) offers) 0 (set .count) ≡ Accepted →
-        chosen-shares ≡ selectionOf (set .processors) (offersUpTo (set .count) offers) → chosen-shares ≡ choiceOf set
-    unfolding choiceOf choiceAnswer selectionOf
+        chosen-shares ≡ selectionOf (set .processors) (offersUpTo (set .count) offers) → chosen-shares ≡ chosenLine set
+    unfolding choiceAnswer selectionOf
     choice-selected chosen-shares accepted same =
         let here = answers-are ∙ accepted in
         same ∙ rw (here, selected-chosen, of-set)

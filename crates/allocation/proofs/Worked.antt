@@ -1,8 +1,8 @@
 -- Worked facts by computation: choices and refusals of small task sets.
 use Prim.Native.Nat.{ℕ, zero, suc, _≤_, _<_}
-use mathlib.Core.Path.{_≡_, refl, sym}
+use mathlib.Core.Path.{_≡_, refl, sym, ap}
 use mathlib.Core.Bool.{true, false≢true}
-use mathlib.Core.List.{List, [], _∷_}
+use mathlib.Core.List.{List, [], _∷_, List·Memᴰ·eq-of-singleton}
 use mathlib.Core.Option.{none, some}
 use native.Mathlib.Omega.{arith}
 use lib.Dec.{lit≤}
@@ -22,7 +22,9 @@ use Rattle.shares.specs.Totals.{noProcessors, shareAt}
 use Rattle.basics.specs.Lists.{range}
 use Rattle.allocation.specs.Choice.{lowOptions, pairsWithin, highOptions, optionsOf, fits, rank, leastBy, fitting, chosen}
 use Rattle.allocation.specs.Way.{MayTake, FittingWay}
-use Rattle.allocation.specs.Allocation.{chosenFor, shareAnswer, choiceAnswer}
+use Rattle.allocation.specs.Kept.{lowNumbers, holdable, firstHeld, typicalShareAt, leftOver, keptTasks, keptShare, withKept}
+use Rattle.allocation.specs.KeptSet.{HeldSet}
+use Rattle.allocation.specs.Allocation.{chosenFor, shareAnswer, choiceAnswer, sharesWith, sharesOf}
 
 -- A typical and a critical share.
 abbrev pub pair : ℕ → ℕ → Share
@@ -78,6 +80,44 @@ pub record Worked : Type 0 where
   -- S11.12: A, B and E on 7 processors.
   pub with-low : choiceAnswer (on 7 abe) ≡ Refused 8 255
 
+-- Tasks 0, 1 and 2 with these shares.
+abbrev pub three : ℕ → ℕ → ℕ → ℕ → ℕ
+three a b c i = getD (a ∷ b ∷ c ∷ []) i 0
+
+pub record WorkedKept : Type 0 where
+  -- S5.6: on 3 processors two tasks of one each are kept, and not one task of three.
+  pub most : firstHeld (three 3 1 1) 3 (0 ∷ 1 ∷ 2 ∷ []) ≡ 1 ∷ 2 ∷ []
+  -- Of two sets with as many tasks the one with fewer processors is kept, though the other fits as well.
+  pub fewest : firstHeld (three 2 1 1) 3 (0 ∷ 1 ∷ 2 ∷ []) ≡ 1 ∷ 2 ∷ []
+  -- With as many of both the list that comes first.
+  pub first : firstHeld (three 1 1 1) 2 (0 ∷ 1 ∷ 2 ∷ []) ≡ 0 ∷ 1 ∷ []
+  -- A smaller share is kept first, whatever its number.
+  pub by-share : firstHeld (three 2 2 1) 3 (0 ∷ 1 ∷ 2 ∷ []) ≡ 0 ∷ 2 ∷ []
+  -- With nothing left over no task is kept; with enough, all are.
+  pub nothing : firstHeld (three 1 1 1) 0 (0 ∷ 1 ∷ 2 ∷ []) ≡ []
+  pub all : firstHeld (three 3 1 2) 6 (0 ∷ 1 ∷ 2 ∷ []) ≡ 0 ∷ 1 ∷ 2 ∷ []
+  -- A and two low tasks of 2 on 6 processors: A's pair stays as it is chosen, and both are kept.
+  pub both : sharesOf (on 6 (high taskA ∷ low (lowTask 30) ∷ low (lowTask 30) ∷ [])) ≡ pair 1 2 ∷ pair 2 2 ∷ pair 2 2 ∷ []
+  -- On 5 there are three left over: one is kept, the first.
+  pub one : sharesOf (on 5 (low (lowTask 30) ∷ high taskA ∷ low (lowTask 30) ∷ [])) ≡ pair 2 2 ∷ pair 1 2 ∷ pair 2 0 ∷ []
+  -- A, B and E on 8 processors: A and B leave none over.
+  pub full : sharesOf (on 8 abe) ≡ pair 1 2 ∷ pair 2 6 ∷ pair 5 0 ∷ []
+
+pub worked-kept : WorkedKept
+unfolding taskIn isLow ceilDiv lowShare hasLowShare excess demand passes range lowOptions pairsWithin highOptions optionsOf fits leastBy fitting chosen chosenFor isHigh lowNumbers holdable firstHeld typicalShareAt leftOver keptTasks keptShare withKept sharesWith sharesOf shareAt
+worked-kept =
+    record {
+      most = refl;
+      fewest = refl;
+      first = refl;
+      by-share = refl;
+      nothing = refl;
+      all = refl;
+      both = refl;
+      one = refl;
+      full = refl;
+    }
+
 pub worked : Worked
 unfolding taskIn firstOver isLow ceilDiv lowShare hasLowShare excess demand passes range lowOptions pairsWithin highOptions optionsOf fits leastBy fitting chosen chosenFor shareAnswer choiceAnswer isHigh
 worked =
@@ -124,3 +164,23 @@ some-way =
     takes (suc zero) inside = high-may 8 taskB 2 6 (lit≤ tt) (lit≤ tt) (lit≤ tt) refl
     takes (suc (suc zero)) inside = low-may 8 taskE 5 refl refl
     takes (suc (suc (suc i))) inside = absurd (omega arith)
+
+-- There are sets that can be held: E beside A and B on 13 processors.
+pub some-held : HeldSet 13 abe (pair 1 2 ∷ pair 2 6 ∷ pair 5 0 ∷ []) (2 ∷ [])
+unfolding typicalShareAt shareAt isLow isHigh
+some-held =
+    record {
+      lows =
+          record {
+            rising = λ j inside. absurd (omega arith);
+            known = λ i m. known i (List·Memᴰ·eq-of-singleton m);
+            low = λ i m. level i (List·Memᴰ·eq-of-singleton m);
+          };
+      fits = lit≤ tt;
+    }
+  where
+    known : (i : ℕ) → i ≡ 2 → i < 3
+    known i same = omega arith
+
+    level : (i : ℕ) → i ≡ 2 → isLow (getD abe i missingTask .level) ≡ true
+    level i same = ap (λ (j : ℕ). isLow (getD abe j missingTask .level)) same

@@ -19,6 +19,7 @@ use Rattle.allocation.specs.declared.allocate.Allocation.{Allocation}
 use Rattle.allocation.specs.declared.allocate.Allocated.{Allocated}
 use Rattle.allocation.specs.declared.choice.Chosen.{Chosen}
 use Rattle.allocation.specs.Choice.{optionsOf, chosen}
+use Rattle.allocation.specs.Kept.{keptTasks, withKept}
 use Rattle.allocation.specs.Blocks.{offsetIn}
 
 -- S9.7: a task may take nothing.
@@ -56,9 +57,17 @@ sharesChosen (some choice) = choice
 unfoldable pub sixteen : List Share → List Share
 sixteen shares = cells 16 (λ i. getD shares i noProcessors) noProcessors (length shares)
 
--- The answer on a task set with the shares that are chosen; zeros where nothing is.
+-- S5.6: the shares of a choice for a task set, with those of the kept tasks in the critical mode.
+unfoldable pub sharesWith : TaskSet → List Share → List Share
+sharesWith set choice = withKept (keptTasks (set .processors) (tasksOf set) choice) choice
+
+-- S5.3 and S5.6: the shares that the tasks of a set get; none where nothing is chosen.
+unfoldable pub sharesOf : TaskSet → List Share
+sharesOf set = sharesWith set (sharesChosen (chosenFor set))
+
+-- The answer on a task set with the shares that its tasks get; zeros where nothing is chosen.
 unfoldable pub choiceOf : TaskSet → Chosen
-choiceOf set = record { answer = choiceAnswer set; shares = sixteen (sharesChosen (chosenFor set)) }
+choiceOf set = record { answer = choiceAnswer set; shares = sixteen (sharesOf set) }
 
 -- What is fixed for task i of a set whose tasks have these shares: its share, where its block begins in each mode (S5.4), and V (S4.5).
 unfoldable pub allocationOf : TaskSet → List Share → ℕ → Allocation
@@ -91,8 +100,8 @@ allocatedWith Accepted count allocations = record { answer = Accepted; count = c
 allocatedWith (Refused number task) count allocations =
     record { answer = Refused number task; count = 0; allocations = replicate 16 noAllocation }
 
--- S5.3, S5.4, S4.5: what is fixed for the tasks of a sheet, with the shares that are chosen.
+-- S5.3, S5.6, S5.4, S4.5: what is fixed for the tasks of a sheet, with the shares that they get.
 unfoldable pub allocatedOf : List ℕ → Allocated
 allocatedOf sheet =
     allocatedWith (allocationAnswer sheet) (readOf sheet .set .count)
-    (allocationsOf (readOf sheet .set) (sharesChosen (chosenFor (readOf sheet .set))))
+    (allocationsOf (readOf sheet .set) (sharesOf (readOf sheet .set)))

@@ -3,6 +3,7 @@ ghost use mathlib.Core.Path.{_≡_};
 ghost use Rattle.sheet.specs.Answers.{numberOf, taskOf, Says};
 ghost use Rattle.allocation.specs.Lawful.{LawfulSet};
 ghost use Rattle.allocation.specs.Allocation.{choiceOf};
+use crate::kept::with_kept;
 use crate::offers::offers_none;
 use crate::offers::put_offers;
 use crate::selection::select;
@@ -18,7 +19,7 @@ pub struct Chosen {
     pub shares: [Share; 16],
 }
 
-// S5.3: refusal 7 over the tasks in order, then refusal 8, and the shares that are chosen.
+// S5.3 and S5.6: refusal 7 over the tasks in order, then refusal 8, and the shares that the tasks get.
 pub fn choose(set: TaskSet) -> Chosen
     requires { ⌜ LawfulSet set ⌝ }
     ensures whole { λ r. ⌜ r ≡ choiceOf set ⌝ }
@@ -42,5 +43,14 @@ pub fn choose(set: TaskSet) -> Chosen
         }
         i += 1;
     }
-    select(&offers, n, m)
+    let chosen = select(&offers, n, m);
+    let answer = chosen.answer;
+    if let Answer::Refused(_, _) = answer {
+        return chosen;
+    }
+    let shares = chosen.shares;
+    Chosen {
+        answer: Answer::Accepted,
+        shares: with_kept(shares, n, m),
+    }
 }

@@ -15,7 +15,8 @@ use Rattle.shares.specs.Deadline.{virtualDeadlineOf}
 use Rattle.allocation.specs.Choice.{lowOptions, pairsWithin, highOptions, optionsOf, fits, leastBy, fitting, chosen}
 use Rattle.shares.specs.Totals.{shareAt}
 use Rattle.allocation.specs.Blocks.{offsetIn}
-use Rattle.allocation.specs.Allocation.{chosenFor, shareAnswer, choiceAnswer, allocationOf, allocationsOf, allocationAt, allocationAnswer, allocatedOf}
+use Rattle.allocation.specs.Kept.{lowNumbers, holdable, firstHeld, typicalShareAt, leftOver, keptTasks, keptShare, withKept}
+use Rattle.allocation.specs.Allocation.{chosenFor, shareAnswer, choiceAnswer, allocationOf, allocationsOf, allocationAt, allocationAnswer, allocatedOf, sharesWith, sharesOf}
 use Rattle.plan_text.specs.Decimal.{digitsWithin, decimal}
 use Rattle.plan_text.specs.Printed.{fieldsOf, planLines, refusalLine, textOf}
 
@@ -35,5 +36,5 @@ pub record Sheets : Type 0 where
   pub too-long : textOf (sheetABE 8 ++ 0 ∷ []) ≡ 114 ∷ 101 ∷ 102 ∷ 117 ∷ 115 ∷ 101 ∷ 100 ∷ 32 ∷ 50 ∷ 32 ∷ 50 ∷ 10 ∷ []
 
 sheets : Sheets
-unfolding firstOver byteAt u16At u32At processorsOf countOf offsetOf lengthOf placeOf cellsFrom levelAt nodesAt figuresAt masksAt taskAt zeroTask tasksBelow taskSetOf zeroTaskSet taskIn levelLawful shapeLawful inRange inOrder lowLawful figuresLawful maskLawful allBelow masksLawful isHeavy taskAnswer headerLawful headerAnswer placeAnswer endAnswer shapeAnswer recordAnswer readAnswer readOf excess demand passes virtualDeadline isLow ceilDiv lowShare hasLowShare virtualDeadlineOf range lowOptions pairsWithin highOptions optionsOf fits leastBy fitting chosen offsetIn chosenFor shareAnswer choiceAnswer shareAt allocationOf allocationsOf allocationAt allocationAnswer allocatedOf digitsWithin decimal fieldsOf planLines refusalLine textOf isHigh figureLimit bytesBeforeMasks
+unfolding firstOver byteAt u16At u32At processorsOf countOf offsetOf lengthOf placeOf cellsFrom levelAt nodesAt figuresAt masksAt taskAt zeroTask tasksBelow taskSetOf zeroTaskSet taskIn levelLawful shapeLawful inRange inOrder lowLawful figuresLawful maskLawful allBelow masksLawful isHeavy taskAnswer headerLawful headerAnswer placeAnswer endAnswer shapeAnswer recordAnswer readAnswer readOf excess demand passes virtualDeadline isLow ceilDiv lowShare hasLowShare virtualDeadlineOf range lowOptions pairsWithin highOptions optionsOf fits leastBy fitting chosen offsetIn chosenFor shareAnswer choiceAnswer lowNumbers holdable firstHeld typicalShareAt leftOver keptTasks keptShare withKept sharesWith sharesOf shareAt allocationOf allocationsOf allocationAt allocationAnswer allocatedOf digitsWithin decimal fieldsOf planLines refusalLine textOf isHigh figureLimit bytesBeforeMasks
 sheets = record { no-bytes = refl; printed = refl; no-fit = refl; no-share = refl; too-long = refl }

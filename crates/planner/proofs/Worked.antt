@@ -20,7 +20,8 @@ use Rattle.allocation.specs.Choice.{lowOptions, pairsWithin, highOptions, optio
 use Rattle.shares.specs.Totals.{shareAt}
 use Rattle.sheet.specs.declared.task.TaskSet.{TaskSet}
 use Rattle.allocation.specs.Blocks.{offsetIn}
-use Rattle.allocation.specs.Allocation.{chosenFor, shareAnswer, choiceAnswer, allocationOf, allocationsOf, allocationAt, allocationAnswer, allocatedOf, sharesChosen}
+use Rattle.allocation.specs.Kept.{lowNumbers, holdable, firstHeld, typicalShareAt, leftOver, keptTasks, keptShare, withKept}
+use Rattle.allocation.specs.Allocation.{chosenFor, shareAnswer, choiceAnswer, allocationOf, allocationsOf, allocationAt, allocationAnswer, allocatedOf, sharesWith, sharesOf}
 use Rattle.allocation.specs.declared.allocate.Allocation.{Allocation}
 use Rattle.allocation.proofs.Worked.{pair, on, ab}
 use Rattle.planner.specs.Plan.{blockBytes, virtualBytes, planBytes, planAnswer, planned}
@@ -52,9 +53,9 @@ planAB = typical ++ (critical ++ virtuals)
 abbrev three : List Allocation
 three = allocationsOf (record { processors = 64; count = 3; tasks = [] }) (pair 1 3 ∷ pair 2 2 ∷ pair 2 0 ∷ [])
 
--- The plan of a task set, with the shares that are chosen for it.
+-- The plan of a task set, with the shares that its tasks get.
 abbrev planFor : TaskSet → List ℕ
-planFor set = planBytes (set .count) (allocationsOf set (sharesChosen (chosenFor set)))
+planFor set = planBytes (set .count) (allocationsOf set (sharesOf set))
 
 pub record Worked : Type 0 where
   -- S5.4: the blocks of three tasks, the last of which has none in critical mode.
@@ -70,8 +71,11 @@ pub record Worked : Type 0 where
   pub then-nine : planAnswer (sheetOn 3) 11 ≡ Refused 9 255
   pub room-enough : planAnswer (sheetOn 3) 12 ≡ Accepted
   -- S5.5: typical blocks, critical blocks, V; the byte behind them stays. A refusal leaves the buffer as it was.
-  pub plan-bytes : planned (sheetOn 4) (replicate 13 7)
+  pub plan-bytes : planned (sheetOn 3) (replicate 13 7)
       ≡ 0 ∷ 1 ∷ 1 ∷ 2 ∷ 0 ∷ 2 ∷ 2 ∷ 0 ∷ 88 ∷ 2 ∷ 0 ∷ 0 ∷ 7 ∷ []
+  -- S5.6: on 4 processors the high task leaves two over, and the low one is kept.
+  pub plan-kept : planned (sheetOn 4) (replicate 13 7)
+      ≡ 0 ∷ 1 ∷ 1 ∷ 2 ∷ 0 ∷ 2 ∷ 2 ∷ 2 ∷ 88 ∷ 2 ∷ 0 ∷ 0 ∷ 7 ∷ []
   pub left-alone : planned (sheetOn 4) (replicate 11 7) ≡ replicate 11 7
   -- S11.11: A and B on 8 and on 6 processors.
   pub on-eight : planFor (on 8 ab) ≡ planAB
@@ -82,7 +86,7 @@ pub record Worked : Type 0 where
   pub sheet-room : planAnswer (sheetABE 8) 17 ≡ Refused 9 255
 
 pub worked : Worked
-unfolding byteAt u16At u32At processorsOf countOf offsetOf lengthOf placeOf cellsFrom levelAt nodesAt figuresAt masksAt taskAt zeroTask tasksBelow taskSetOf taskIn levelLawful shapeLawful inRange inOrder lowLawful figuresLawful maskLawful allBelow masksLawful isHeavy taskAnswer firstOver headerLawful headerAnswer placeAnswer endAnswer shapeAnswer recordAnswer readAnswer readOf virtualDeadlineOf isLow ceilDiv lowShare hasLowShare excess demand passes virtualDeadline range lowOptions pairsWithin highOptions optionsOf fits leastBy fitting chosen offsetIn chosenFor shareAnswer choiceAnswer shareAt allocationOf allocationsOf allocationAt allocationAnswer allocatedOf blockBytes virtualBytes planBytes planAnswer planned isHigh figureLimit bytesBeforeMasks u16Bytes
+unfolding byteAt u16At u32At processorsOf countOf offsetOf lengthOf placeOf cellsFrom levelAt nodesAt figuresAt masksAt taskAt zeroTask tasksBelow taskSetOf taskIn levelLawful shapeLawful inRange inOrder lowLawful figuresLawful maskLawful allBelow masksLawful isHeavy taskAnswer firstOver headerLawful headerAnswer placeAnswer endAnswer shapeAnswer recordAnswer readAnswer readOf virtualDeadlineOf isLow ceilDiv lowShare hasLowShare excess demand passes virtualDeadline range lowOptions pairsWithin highOptions optionsOf fits leastBy fitting chosen offsetIn chosenFor shareAnswer choiceAnswer lowNumbers holdable firstHeld typicalShareAt leftOver keptTasks keptShare withKept sharesWith sharesOf shareAt allocationOf allocationsOf allocationAt allocationAnswer allocatedOf blockBytes virtualBytes planBytes planAnswer planned isHigh figureLimit bytesBeforeMasks u16Bytes
 worked =
     record {
       typical-blocks = refl;
@@ -95,6 +99,7 @@ worked =
       then-nine = refl;
       room-enough = refl;
       plan-bytes = refl;
+      plan-kept = refl;
       left-alone = refl;
       on-eight = refl;
       on-six = refl;

@@ -7,9 +7,10 @@ use Rattle.sheet.proofs.Said.{with-said}
 use Rattle.reader.specs.Reading.{readOf}
 use Rattle.sheet.specs.declared.task.TaskSet.{TaskSet}
 use Rattle.allocation.specs.declared.choice.Chosen.{Chosen}
-use Rattle.allocation.specs.Allocation.{chosenFor, choiceAnswer, choiceOf, sixteen, allocationsOf, allocationAnswer, allocatedOf, sharesChosen}
+use Rattle.allocation.specs.Allocation.{choiceAnswer, choiceOf, sharesOf, sixteen, allocationsOf, allocationAnswer, allocatedOf}
 use Rattle.allocation.specs.Lawful.{LawfulSet}
-use Rattle.allocation.proofs.Accepted.{accepted-lawful, accepted-choice}
+use Rattle.allocation.proofs.Accepted.{accepted-lawful}
+use Rattle.allocation.proofs.KeptLine.{accepted-shares}
 use Rattle.allocation.proofs.Allocations.{shares-fit, answer-read, answer-choice, line-fixed}
 use Rattle.start.specs.declared.Started.{Started}
 use Rattle.start.specs.Start.{freshState}
@@ -58,7 +59,7 @@ choice-answer : (c : tie.After-choose) → c .choose .result .answer ≡ choiceA
 unfolding choiceOf
 choice-answer c = ap (λ (r : Chosen). r .answer) (c .choose .ensures .0)
 
-choice-shares : (c : tie.After-choose) → c .choose .result .shares ≡ sixteen (sharesChosen (chosenFor (c .before .before .before .before .read .result .set)))
+choice-shares : (c : tie.After-choose) → c .choose .result .shares ≡ sixteen (sharesOf (c .before .before .before .before .read .result .set))
 unfolding choiceOf
 choice-shares c = ap (λ (r : Chosen). r .shares) (c .choose .ensures .0)
 
@@ -90,7 +91,8 @@ allocations-of-requires c κs =
     let at = c .before .before .before in
     let tasks = at .before .before .before .before .read .result .set in
     let accepted = sym (choice-answer at) ∙ c .before .enum-told4 .given .1 in
-    rw (choice-shares at) (shares-fit tasks (reading-lawful (at .before .before)) _ (accepted-choice tasks accepted))
+    let lawful = reading-lawful (at .before .before) in
+    rw (choice-shares at) (shares-fit tasks lawful _ (accepted-shares tasks lawful accepted))
 
 fresh-state-requires : tie.Need-fresh-state-requires
 fresh-state-requires c κs = reading-lawful (c .before .before .before .before .before .before) .few-tasks
@@ -108,7 +110,7 @@ returns-3 c =
     ∙ ap (freshState tasks)
     (c .before .allocations-of .ensures
     ∙ ap (allocationsOf tasks) (choice-shares at)
-    ∙ ap (λ (t : TaskSet). allocationsOf t (sixteen (sharesChosen (chosenFor t)))) set-is
+    ∙ ap (λ (t : TaskSet). allocationsOf t (sixteen (sharesOf t))) set-is
     ∙ line-fixed _ accepted)
     ∙ ap (λ (t : TaskSet). freshState t (allocatedOf s .allocations)) set-is))
 

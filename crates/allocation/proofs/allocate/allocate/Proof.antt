@@ -9,8 +9,9 @@ use Rattle.reader.specs.Reading.{readOf}
 use Rattle.allocation.specs.declared.allocate.Allocated.{Allocated}
 use Rattle.allocation.specs.declared.choice.Chosen.{Chosen}
 use Rattle.allocation.specs.Lawful.{LawfulSet}
-use Rattle.allocation.specs.Allocation.{chosenFor, choiceAnswer, sixteen, choiceOf, allocationsOf, allocationAnswer, sharesChosen}
-use Rattle.allocation.proofs.Accepted.{accepted-lawful, accepted-choice}
+use Rattle.allocation.specs.Allocation.{choiceAnswer, sixteen, sharesOf, choiceOf, allocationsOf, allocationAnswer}
+use Rattle.allocation.proofs.Accepted.{accepted-lawful}
+use Rattle.allocation.proofs.KeptLine.{accepted-shares}
 use Rattle.allocation.proofs.Allocations.{shares-fit, answer-read, answer-choice, allocated-refused, line-fixed, allocated-accepted}
 use borrow.Author.Needs.{needs}
 use Rattle.allocation.proofs.allocate.allocate.Statement.{statement}
@@ -58,7 +59,7 @@ choice-answer : (c : tie.After-choose) → c .choose .result .answer ≡ choiceA
 unfolding choiceOf
 choice-answer c = ap (λ (r : Chosen). r .answer) (c .choose .ensures .0)
 
-choice-shares : (c : tie.After-choose) → c .choose .result .shares ≡ sixteen (sharesChosen (chosenFor (c .before .before .before .before .read .result .set)))
+choice-shares : (c : tie.After-choose) → c .choose .result .shares ≡ sixteen (sharesOf (c .before .before .before .before .read .result .set))
 unfolding choiceOf
 choice-shares c = ap (λ (r : Chosen). r .shares) (c .choose .ensures .0)
 
@@ -87,7 +88,8 @@ allocations-of-requires c κs =
     let at = c .before .before .before in
     let tasks = at .before .before .before .before .read .result .set in
     let accepted = sym (choice-answer at) ∙ c .before .enum-told4 .given .1 in
-    rw (choice-shares at) (shares-fit tasks (reading-lawful (at .before .before)) _ (accepted-choice tasks accepted))
+    let lawful = reading-lawful (at .before .before) in
+    rw (choice-shares at) (shares-fit tasks lawful _ (accepted-shares tasks lawful accepted))
 
 returns-3 : tie.Need-returns-3
 returns-3 c =
@@ -98,7 +100,7 @@ returns-3 c =
     (allocated-accepted _ accepted _ _ (ap (λ (t : TaskSet). t .count) (reading-set (at .before .before)))
     (c .allocations-of .ensures
     ∙ ap (allocationsOf tasks) (choice-shares at)
-    ∙ ap (λ (t : TaskSet). allocationsOf t (sixteen (sharesChosen (chosenFor t)))) (reading-set (at .before .before))
+    ∙ ap (λ (t : TaskSet). allocationsOf t (sixteen (sharesOf t))) (reading-set (at .before .before))
     ∙ line-fixed _ accepted))
 
 pub allocate-spec : {M : Type 1} → statement M

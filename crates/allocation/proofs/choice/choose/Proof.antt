@@ -11,7 +11,8 @@ use Rattle.sheet.proofs.Said.{with-said}
 use Rattle.allocation.specs.declared.choice.Chosen.{Chosen}
 use Rattle.allocation.specs.Allocation.{noShare}
 use Rattle.allocation.specs.means.Selection.{offerAnswer}
-use Rattle.allocation.proofs.Sets.{offers-there, choice-refused, choice-selected}
+use Rattle.allocation.proofs.Sets.{chosenLine, offers-there, choice-refused, choice-selected}
+use Rattle.allocation.proofs.KeptLine.{choice-passed, choice-able, choice-kept}
 use Rattle.allocation.proofs.choice.choose.Statement.{statement}
 use Rattle.allocation.proofs.choice.choose.Tie as tie
 
@@ -78,15 +79,42 @@ select-requires c κs =
       rw (c .before .before .before .put-offers .ensures) (offers-there (start .args .set) lawful),
     )
 
-returns-2 : tie.Need-returns-2 Inv-loop μ-loop
-returns-2 c =
+-- What was selected is the choice.
+selected-is : (c : tie.After-select Inv-loop μ-loop) →
+    c .select .result ≡ chosenLine (c .before .before .before .before .before .before .args .set)
+selected-is c =
     let at = c .before .before .before in
     let start = at .before .before .before in
     let set = start .args .set in
-    with-said (λ (r : Chosen). r .answer)
-    (choice-selected set (start .pre) _ (at .before .put-offers .ensures) (c .select .result)
+    choice-selected set (start .pre) _ (at .before .put-offers .ensures) (c .select .result)
     (sym (at .loop .inv .1) ∙ over-end (offerAnswer (set .processors) (at .before .put-offers .last .1 .0)) (at .loop .i) (set .count) (omega arith))
-    (c .select .ensures))
+    (c .select .ensures)
+
+enum-told : tie.Need-enum-told Inv-loop μ-loop
+enum-told c = search needs
+
+returns-2 : tie.Need-returns-2 Inv-loop μ-loop
+returns-2 c =
+    let at = c .before .before in
+    let start = at .before .before .before .before .before .before in
+    with-said (λ (r : Chosen). r .answer)
+    (choice-passed (start .args .set) (start .pre) (at .select .result) (selected-is at) (c .enum-told .given .1))
+
+enum-told-2 : tie.Need-enum-told-2 Inv-loop μ-loop
+enum-told-2 c = search needs
+
+with-kept-requires : tie.Need-with-kept-requires Inv-loop μ-loop
+with-kept-requires c κs =
+    let at = c .before .before .before in
+    let start = at .before .before .before .before .before .before in
+    choice-able (start .args .set) (start .pre) (at .select .result) (selected-is at) (c .before .enum-told2 .given .1)
+
+returns-3 : tie.Need-returns-3 Inv-loop μ-loop
+returns-3 c =
+    let at = c .before .before .before .before in
+    let start = at .before .before .before .before .before .before in
+    with-said (λ (r : Chosen). r .answer)
+    (choice-kept (start .args .set) (start .pre) (at .select .result) (selected-is at) (c .before .before .enum-told2 .given .1) _ (c .with-kept .ensures))
 
 pub choose-spec : {M : Type 1} → statement M
 choose-spec =
@@ -105,4 +133,8 @@ choose-spec =
     loop-less
     loop-again
     select-requires
-    returns-2)
+    enum-told
+    returns-2
+    enum-told-2
+    with-kept-requires
+    returns-3)
