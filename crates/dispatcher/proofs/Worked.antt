@@ -8,8 +8,9 @@ use Rattle.basics.specs.Lists.{range, allBelow}
 use Rattle.nodes.specs.Sets.{has}
 use Rattle.sheet.specs.declared.answer.Answer.the-variants.{Accepted, Refused}
 use Rattle.sheet.specs.Answers.{numberOf, taskOf}
-use Rattle.sheet.specs.Level.{levelLawful, isHigh, figureLimit}
+use Rattle.sheet.specs.Level.{levelLawful, isHigh, isLow, figureLimit}
 use Rattle.sheet.specs.Rules.{maskLawful, masksLawful}
+use Rattle.shares.specs.Low.{isKept}
 use Rattle.model.specs.Row.{isSubset, allEnded, predecessorsOf, isReady, ready, running, runningSet, releasedRow, joined, tickedRow, isLate, survives, switchedRow}
 use Rattle.model.specs.Step.{unknownTask, lowInCritical, tooEarly, wrongCount, notRunning, rowAt, granted, releaseRefusal, tickRefusal, released, ticked, step}
 use Rattle.entries.specs.declared.state.TaskState.{TaskState}
@@ -57,6 +58,14 @@ busy critical = state 5 2 critical (entry 1 2 2 3 0 true ∷ entry 0 1 2 0 1 tru
 abbrev late : State
 late = state 5 2 false (entry 1 1 1 1 1 true ∷ entry 1 1 1 1 1 true ∷ [])
 
+-- M 5. Task 0 is high with shares (2, 3), task 1 low and kept with (2, 2), task 2 low with (1, 0); no job is alive, in the critical mode.
+abbrev keeping : State
+keeping = state 5 3 true (entry 1 2 2 3 9 false ∷ entry 0 1 2 2 9 false ∷ entry 0 1 1 0 9 false ∷ [])
+
+-- The same tasks with a job each, of this age; that of task 2 is alive or dropped.
+abbrev keepingBusy : Bool → ℕ → Bool → State
+keepingBusy critical age alive = state 5 3 critical (entry 1 2 2 3 age true ∷ entry 0 1 2 2 age true ∷ entry 0 1 1 0 age alive ∷ [])
+
 -- The shares total 4 and 3.
 abbrev full : ℕ → State
 full processors = state processors 2 false (waits 3 1 ∷ waits 1 2 ∷ [])
@@ -88,10 +97,13 @@ pub record Worked : Type 0 where
   pub board-10 : boardAnswer (full 3) 6 ≡ Refused 10 255
   -- S9.11: task 2 is none of two.
   pub release-11 : releaseOf (calm false) 2 .answer ≡ Refused 11 255
-  -- S9.12: task 1 is low, and the mode critical.
+  -- S9.12: task 1 is low and not kept, and the mode critical.
   pub release-12 : releaseOf (calm true) 1 .answer ≡ Refused 12 1
   pub release-low : releaseOf (calm false) 1 .answer ≡ Accepted
   pub release-high : releaseOf (calm true) 0 .answer ≡ Accepted
+  -- S7.4, S9.12: of two low tasks in the critical mode the kept one is released.
+  pub release-kept : releaseOf keeping 1 .answer ≡ Accepted
+  pub release-other : releaseOf keeping 2 .answer ≡ Refused 12 2
   -- S9.13: a job is alive at age D, or the age is below D.
   pub release-alive : releaseOf (state 5 1 false (entry 1 1 1 1 9 true ∷ [])) 0 .answer ≡ Refused 13 0
   pub release-young : releaseOf (state 5 1 false (entry 1 1 1 1 8 false ∷ [])) 0 .answer ≡ Refused 13 0
@@ -106,9 +118,9 @@ pub record Worked : Type 0 where
   pub board-longer : boardAnswer (busy false) 11 ≡ Refused 16 255
   pub board-fits : boardAnswer (busy false) 10 ≡ Accepted
   -- S3.4: a refused call hands the state and the buffer back.
-  pub release-kept : releaseOf (calm true) 1 .state ≡ calm true
-  pub tick-kept : tickOf (busy false) (3 ∷ 2 ∷ []) .state ≡ busy false
-  pub board-kept : boardOf (busy false) (7 ∷ 8 ∷ []) ≡ 7 ∷ 8 ∷ []
+  pub release-back : releaseOf (calm true) 1 .state ≡ calm true
+  pub tick-back : tickOf (busy false) (3 ∷ 2 ∷ []) .state ≡ busy false
+  pub board-back : boardOf (busy false) (7 ∷ 8 ∷ []) ≡ 7 ∷ 8 ∷ []
   -- S3.1, S8.7: number and task of an accepted release, of a refused one, and of a tick that ran, switched or was refused.
   pub accepted-number : numberOf (releaseOf (calm false) 0 .answer) ≡ 0
   pub accepted-task : taskOf (releaseOf (calm false) 0 .answer) ≡ 255
@@ -121,15 +133,19 @@ pub record Worked : Type 0 where
   -- S8.6: a job that ends with the tick causes no switch; the other one's task is named.
   pub switched-second : tickOf late (1 ∷ 0 ∷ []) .answer ≡ Switched 1
   pub ended-both : tickOf late (1 ∷ 1 ∷ []) .answer ≡ Ran
+  -- S7.4, S8.6: the tick that brings task 0 to V leaves the kept task's job alive and drops the other low one.
+  pub switch-keeps : tickOf (keepingBusy false 1 true) (0 ∷ 0 ∷ 0 ∷ []) ≡ record { state = keepingBusy true 2 false; answer = Switched 0 }
   -- S8.8: in the typical mode processor 3 has no node in task 1's block, and processor 4 stands behind all blocks.
   pub board-typical : boardOf (busy false) (replicate 10 7) ≡ 0 ∷ 0 ∷ 0 ∷ 1 ∷ 1 ∷ 0 ∷ 255 ∷ 255 ∷ 255 ∷ 255 ∷ []
   -- S8.8: in the critical mode task 0 has three processors and task 1 none.
   pub board-critical : boardOf (busy true) (replicate 10 7) ≡ 0 ∷ 0 ∷ 0 ∷ 1 ∷ 255 ∷ 255 ∷ 255 ∷ 255 ∷ 255 ∷ 255 ∷ []
+  -- S8.8: in the critical mode the kept task's block follows the three processors of task 0.
+  pub board-kept : boardOf (keepingBusy true 2 false) (replicate 10 7) ≡ 0 ∷ 0 ∷ 0 ∷ 1 ∷ 255 ∷ 255 ∷ 1 ∷ 0 ∷ 255 ∷ 255 ∷ []
   -- S8.8: no job is alive.
   pub board-calm : boardOf (calm false) (replicate 10 7) ≡ replicate 10 255
 
 worked : Worked
-unfolding has range levelLawful maskLawful allBelow masksLawful isHigh isSubset allEnded predecessorsOf isReady ready running runningSet releasedRow joined tickedRow isLate survives switchedRow unknownTask lowInCritical tooEarly wrongCount notRunning rowAt granted releaseRefusal tickRefusal released ticked step fixedOf jobOf rowOf withRow entrySound entriesOf modelOf withModel isSound releaseOf tickOf idle block boardBytes boardAnswer boardOf figureLimit
+unfolding has range levelLawful maskLawful allBelow masksLawful isHigh isLow isKept isSubset allEnded predecessorsOf isReady ready running runningSet releasedRow joined tickedRow isLate survives switchedRow unknownTask lowInCritical tooEarly wrongCount notRunning rowAt granted releaseRefusal tickRefusal released ticked step fixedOf jobOf rowOf withRow entrySound entriesOf modelOf withModel isSound releaseOf tickOf idle block boardBytes boardAnswer boardOf figureLimit
 worked =
     record {
       typical-most = refl;
@@ -151,6 +167,8 @@ worked =
       release-12 = refl;
       release-low = refl;
       release-high = refl;
+      release-kept = refl;
+      release-other = refl;
       release-alive = refl;
       release-young = refl;
       tick-fewer = refl;
@@ -160,9 +178,9 @@ worked =
       board-shorter = refl;
       board-longer = refl;
       board-fits = refl;
-      release-kept = refl;
-      tick-kept = refl;
-      board-kept = refl;
+      release-back = refl;
+      tick-back = refl;
+      board-back = refl;
       accepted-number = refl;
       accepted-task = refl;
       refused-number = refl;
@@ -173,7 +191,9 @@ worked =
       switched-number = refl;
       switched-second = refl;
       ended-both = refl;
+      switch-keeps = refl;
       board-typical = refl;
       board-critical = refl;
+      board-kept = refl;
       board-calm = refl;
     }

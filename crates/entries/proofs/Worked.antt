@@ -1,4 +1,4 @@
--- Worked facts by computation: soundness at the edge of each range.
+-- Worked facts by computation: soundness at the edge of each range, and which jobs a switch leaves.
 use Prim.Native.Nat.{ℕ}
 use mathlib.Core.Bool.{Bool, true, false}
 use mathlib.Core.List.{List, [], _∷_}
@@ -6,29 +6,40 @@ use mathlib.Core.Path.{_≡_, refl}
 use lib.ListN.{replicate}
 use Rattle.basics.specs.Lists.{range, allBelow}
 use Rattle.nodes.specs.Sets.{has}
-use Rattle.sheet.specs.Level.{levelLawful, figureLimit}
+use Rattle.sheet.specs.Level.{levelLawful, isHigh, isLow, figureLimit}
 use Rattle.sheet.specs.Rules.{maskLawful, masksLawful}
-use Rattle.model.specs.Row.{allEnded}
+use Rattle.shares.specs.declared.share.Share.{Share}
+use Rattle.shares.specs.Low.{isKept}
+use Rattle.model.specs.Row.{Fixed, allEnded, survives}
 use Rattle.entries.specs.declared.state.TaskState.{TaskState}
+use Rattle.entries.specs.Entry.{fixedOf}
 use Rattle.entries.specs.Sound.{entrySound}
 
--- An entry with the shares (1, 2): level, k, masks, D, V, age, ended set, alive.
-abbrev entry : ℕ → ℕ → List ℕ → ℕ → ℕ → ℕ → ℕ → Bool → TaskState
-entry level nodes masks deadline virtual age ended alive =
+-- An entry: shares, level, k, masks, D, V, age, ended set, alive.
+abbrev entryWith : Share → ℕ → ℕ → List ℕ → ℕ → ℕ → ℕ → ℕ → Bool → TaskState
+entryWith share level nodes masks deadline virtual age ended alive =
     record {
       level = level;
       nodes = nodes;
       predecessors = masks;
       deadline = deadline;
       «virtual_deadline» = virtual;
-      share = record { typical = 1; critical = 2 };
+      share = share;
       age = age;
       job = record { ended = ended; alive = alive };
     }
 
+-- One with the shares (1, 2).
+abbrev entry : ℕ → ℕ → List ℕ → ℕ → ℕ → ℕ → ℕ → Bool → TaskState
+entry = entryWith (record { typical = 1; critical = 2 })
+
 -- Node 1 waits for node 0.
 abbrev chain : List ℕ
 chain = 0 ∷ 1 ∷ []
+
+-- What is fixed of a task of this level with these shares.
+abbrev sharing : ℕ → ℕ → ℕ → Fixed
+sharing level typical critical = fixedOf (entryWith (record { typical = typical; critical = critical }) level 2 chain 45 0 45 0 false)
 
 pub record Worked : Type 0 where
   -- S7.2: V is at most D.
@@ -61,9 +72,14 @@ pub record Worked : Type 0 where
   -- S7.2: an alive job has a node that has not ended.
   pub alive-some : entrySound (entry 1 2 chain 45 9 5 1 true) ≡ true
   pub alive-none : entrySound (entry 1 2 chain 45 9 5 3 true) ≡ false
+  -- S7.4, S8.6: a switch leaves the jobs of a high task and of a low one that is kept; the least critical share keeps it.
+  pub stays-high : survives (sharing 1 2 2) ≡ true
+  pub stays-kept : survives (sharing 0 2 2) ≡ true
+  pub stays-least : survives (sharing 0 2 1) ≡ true
+  pub dropped-low : survives (sharing 0 2 0) ≡ false
 
 worked : Worked
-unfolding has range levelLawful maskLawful allBelow masksLawful allEnded entrySound figureLimit
+unfolding has range levelLawful maskLawful allBelow masksLawful allEnded entrySound figureLimit isHigh isLow isKept survives fixedOf
 worked =
     record {
       virtual-below = refl;
@@ -88,4 +104,8 @@ worked =
       ended-beyond = refl;
       alive-some = refl;
       alive-none = refl;
+      stays-high = refl;
+      stays-kept = refl;
+      stays-least = refl;
+      dropped-low = refl;
     }

@@ -112,12 +112,13 @@ pub fn is_late(e: TaskState) -> bool
     is_high(e.level) & e.job.alive & (e.virtual_deadline <= e.age)
 }
 
-// S8.6: whether a switch leaves the task's job: that of a high task.
+// S8.6: whether a switch leaves the task's job: that of a high task, and that of a low one that is kept.
 pub fn survives(e: TaskState) -> bool
     ensures { λ r. ⌜ r ≡ survives (fixedOf e) ⌝ }
 {
     let level = e.level;
-    is_high(level)
+    let share = e.share;
+    is_high(level) | (0 < share.critical)
 }
 
 // S8.6: the entry in the mode turned critical: a job that does not survive is dropped.

@@ -1,4 +1,4 @@
-// S9.12, S9.13: whether an entry's task may be released.
+// S9.12, S9.13: whether an entry's task may be released: in the critical mode no low task that is not kept, and none too early.
 ghost use mathlib.Core.Path.{_≡_};
 ghost use mathlib.Core.Bool.{not, _&&_, _||_};
 ghost use lib.Dec.{ltb};

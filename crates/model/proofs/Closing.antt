@@ -1,7 +1,7 @@
 -- The deadline theorem over any bound on the full ticks in typical mode. Of a task's job it asks that (a) it survives a switch;
 -- (b) while it is alive, so many of the ticks behind it at most were full ones in typical mode; (c) with so few it is alive only
 -- below D. Who shows (b) and (c), and for which bound, is left open.
-use Prim.Native.Nat.{ℕ, _+_, _*_, _≤_}
+use Prim.Native.Nat.{ℕ, _+_, _*_, _≤_, _<_}
 use mathlib.Core.Path.{_≡_, sym, ap, subst, _∙_}
 use mathlib.Core.Bool.{true, true≢false}
 use mathlib.Core.List.{List, _∷_}
@@ -26,19 +26,24 @@ module _ (len : ℕ → ℕ) (work span i : ℕ) (f : Fixed) where
     pub on-tick : (now later : Moment len work span i f) (x : Call) (calls : List Call) → Good now (x ∷ calls) →
         Ticked len work span i f now later x → Good later calls
 
+  -- (c) at one moment of the job.
+  pub below-deadline : {bound : ℕ} → Closes work span bound f → (now : Moment len work span i f) → now .live .full₁ ≤ bound →
+      now .ticks < f .deadline
+  below-deadline {bound} closes now few =
+      let here : Closes work span bound (rowAt (now .model) i .fixed) = subst (Closes work span bound) (sym (now .fixed)) closes in
+      let b = live-bounds (now .live) in
+      omega (
+        arith,
+        here (now .live .full₁) (now .live .full₂) (now .live .partial) few (b .0) (b .1),
+        now .live .ticks,
+        ap (λ (g : Fixed). g .deadline) (now .fixed),
+      )
+
   pub closing : {bound : ℕ} {Good : Moment len work span i f → List Call → Type 0} →
       survives f ≡ true → Bounded bound Good → Closes work span bound f → Invariant len work span i f Good
-  closing {bound} {Good} stays bounded closes =
+  closing stays bounded closes =
       record {
-        in-time = λ now calls good.
-            let here : Closes work span bound (rowAt (now .model) i .fixed) = subst (Closes work span bound) (sym (now .fixed)) closes in
-            let b = live-bounds (now .live) in
-            omega (
-              arith,
-              here (now .live .full₁) (now .live .full₂) (now .live .partial) (bounded .few now calls good) (b .0) (b .1),
-              now .live .ticks,
-              ap (λ (g : Fixed). g .deadline) (now .fixed),
-            );
+        in-time = λ now calls good. below-deadline closes now (bounded .few now calls good);
         on-rest = bounded .on-rest;
         on-tick = bounded .on-tick;
         undropped = λ now x calls good d. true≢false (sym stays ∙ d .lost);

@@ -2,7 +2,7 @@
 -- behind it were full ones in typical mode: in typical mode there are fewer than V in all, and in critical mode no more of them come.
 use Prim.Native.Nat.{ℕ, _≤_, _<_}
 use mathlib.Core.Path.{_≡_, refl, sym, ap, _∙_}
-use mathlib.Core.Bool.{Bool, true, false, false≢true}
+use mathlib.Core.Bool.{Bool, true, false, _||_, false≢true}
 use mathlib.Core.List.{List}
 use native.Mathlib.Omega.{arith}
 use borrow.Author.Tests.{leb-false}
@@ -10,6 +10,7 @@ use lib.Dec.{T}
 use Rattle.sheet.specs.declared.task.Budget.{Budget}
 use Rattle.sheet.specs.declared.task.TaskSet.{TaskSet}
 use Rattle.shares.specs.declared.share.Share.{Share}
+use Rattle.shares.specs.Low.{isKept}
 use Rattle.shares.specs.Test.{passes}
 use Rattle.shares.proofs.Ends.{overload-ends, virtual-positive, virtual-within}
 use Rattle.model.specs.Row.{Fixed, Row, isLate, survives}
@@ -26,7 +27,7 @@ use Rattle.model.proofs.Closing.{Closes, Bounded, closing}
 -- S8.6: the job of a high task survives a switch.
 high-survives : (f : Fixed) → isHigh (f .level) ≡ true → survives f ≡ true
 unfolding survives
-high-survives f high = high
+high-survives f high = ap (λ (t : Bool). t || isKept (f .level) (f .share)) high
 
 not-late : (r : Row) → isHigh (r .fixed .level) ≡ true → r .job .alive ≡ true → isLate r ≡ false → r .age < r .fixed .virtualDeadline
 unfolding isLate

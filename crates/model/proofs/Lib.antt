@@ -18,6 +18,7 @@ pub mod Ending
 pub mod Closing
 pub mod Deadline
 pub mod Low
+pub mod Kept
 pub mod CriticalLasts
 pub mod Nominal
 pub mod Theorem

@@ -24,7 +24,7 @@ use Rattle.model.proofs.Released.{plannedFixed}
 use Rattle.model.proofs.Ending.{Moment, Dropped, Invariant, ended-by-deadline}
 
 -- While a job that keeps the budget is alive in typical mode, fewer than D ticks have passed.
-abbrev Ends : ℕ → ℕ → Fixed → Type 0
+abbrev pub Ends : ℕ → ℕ → Fixed → Type 0
 Ends work span f = TypicalBelow work span f (f .deadline)
 
 -- No full tick was a critical one, and until the D-th tick none will be.
@@ -83,7 +83,8 @@ module _ (len : ℕ → ℕ) (work span i : ℕ) (f : Fixed) (ends : Ends work s
       }
 
 module _ (ts : TaskSet) (shares : List Share) (planned : Planned ts shares) where
-  ends-low : (i : ℕ) → i < ts .count → isLow (taskIn ts i .level) ≡ true →
+  -- A low task's typical share is enough for its budget.
+  pub ends-low : (i : ℕ) → i < ts .count → isLow (taskIn ts i .level) ≡ true →
       Ends (taskIn ts i .figures .nominal .work) (taskIn ts i .figures .nominal .span) (plannedFixed ts shares i)
   unfolding freshRow
   ends-low i h level full p span work =

@@ -1,5 +1,5 @@
--- The theorems, over every list of calls and for every task set whose shares are planned: S10.7 to S10.9, and what is proved beside
--- them. Each joins the laws of its parts.
+-- The theorems, over every list of calls and for every task set whose shares are planned: S10.7 to S10.9 and S10.11, and what is
+-- proved beside them. Each joins the laws of its parts.
 use mathlib.Core.List.{List}
 use Rattle.sheet.specs.declared.task.TaskSet.{TaskSet}
 use Rattle.shares.specs.declared.share.Share.{Share}
@@ -14,6 +14,7 @@ use Rattle.model.proofs.Capacity.{capacity}
 use Rattle.model.proofs.Apart.{releases-apart}
 use Rattle.model.proofs.Deadline.{deadline}
 use Rattle.model.proofs.Low.{low-deadline}
+use Rattle.model.proofs.Kept.{kept-deadline}
 use Rattle.model.proofs.Nominal.{nominal}
 
 pub demand3 : (ts : TaskSet) (shares : List Share) → Planned ts shares → (calls : List Call) → Demand3 ts shares calls
@@ -22,6 +23,7 @@ demand3 ts shares planned calls =
       deadline = deadline ts shares planned calls;
       capacity = capacity ts shares planned calls;
       nominal = nominal ts shares planned calls;
+      kept = kept-deadline ts shares planned calls;
     }
 
 pub beside : (ts : TaskSet) (shares : List Share) → Planned ts shares → (calls : List Call) → Beside ts shares calls

@@ -6,7 +6,8 @@ use mathlib.Core.List.{List, [], _∷_, _++_}
 use lib.ListN.{replicate, getD}
 use Rattle.basics.specs.Lists.{range, keep}
 use Rattle.nodes.specs.Sets.{has}
-use Rattle.sheet.specs.Level.{isHigh}
+use Rattle.sheet.specs.Level.{isHigh, isLow}
+use Rattle.shares.specs.Low.{isKept}
 use Rattle.model.specs.Row.{Row, isSubset, allEnded, predecessorsOf, isReady, ready, running, runningSet, releasedRow, joined, tickedRow, isLate, survives, switchedRow}
 use Rattle.model.specs.Step.{Model, Call, release, tick, accepted, ran, switched, refused, step, rowAt, granted, runningAt, unknownTask, lowInCritical, tooEarly, wrongCount, notRunning, releaseRefusal, tickRefusal, released, ticked}
 use Rattle.model.specs.Run.{after, answers, isAccepted, ticksIn, isRunning, runsIn, isDue}
@@ -69,6 +70,22 @@ silent = tick (0 ∷ 0 ∷ 0 ∷ 0 ∷ [])
 abbrev three : List Call
 three = release 2 ∷ release 1 ∷ release 3 ∷ []
 
+-- A high task with V 2, a low one that is kept, and a low one that is not; the low ones have two nodes and two processors each.
+abbrev keeping : Model
+keeping =
+    record {
+      critical = false;
+      rows = idle 1 1 (0 ∷ []) 9 2 1 1 ∷ idle 0 2 (0 ∷ 0 ∷ []) 9 0 2 2 ∷ idle 0 2 (0 ∷ 0 ∷ []) 9 0 2 0 ∷ [];
+    }
+
+-- A job of each of them begins; node 0 of the low jobs ends with the first tick, and the second one switches.
+abbrev switchOver : List Call
+switchOver = release 0 ∷ release 1 ∷ release 2 ∷ tick (0 ∷ 1 ∷ 1 ∷ []) ∷ tick (0 ∷ 0 ∷ 0 ∷ []) ∷ []
+
+-- The high job alone switches, and then the low tasks are released.
+abbrev releasedAfter : List Call
+releasedAfter = release 0 ∷ tick (0 ∷ 0 ∷ 0 ∷ []) ∷ tick (0 ∷ 0 ∷ 0 ∷ []) ∷ release 1 ∷ release 2 ∷ []
+
 -- Node 2 waits for node 0; with share 2 the nodes 0 and 1 run first.
 abbrev fork : Model
 fork = record { critical = false; rows = idle 1 4 (0 ∷ 0 ∷ 1 ∷ 0 ∷ []) 30 9 2 3 ∷ [] }
@@ -122,13 +139,21 @@ pub record Worked : Type 0 where
       ∷ refused (record { number = 15; task = 1 })
       ∷ refused (record { number = 15; task = 0 })
       ∷ []
-  -- S8.6, S8.7 and S9.12: the switch names the lowest task that is late and drops low jobs, whose ended sets stay; a low task is
-  -- then refused.
+  -- S8.6, S8.7 and S9.12: the switch names the lowest task that is late and drops the job of a low task that is not kept, whose ended
+  -- set stays; such a task is then refused. The job of a high task stays.
   pub lowest : answers mixed (three ++ tick (0 ∷ 0 ∷ 0 ∷ 1 ∷ []) ∷ silent ∷ release 3 ∷ [])
       ≡ accepted ∷ accepted ∷ accepted ∷ ran ∷ switched 1 ∷ refused (record { number = 12; task = 3 }) ∷ []
   pub dropped : changedAt (after mixed (three ++ tick (0 ∷ 0 ∷ 0 ∷ 1 ∷ []) ∷ silent ∷ [])) 3
       ≡ record { age = 2; ended = 1; alive = false }
-  pub kept : changedAt (after mixed (three ++ silent ∷ silent ∷ [])) 2 ≡ record { age = 2; ended = 0; alive = true }
+  pub high-stays : changedAt (after mixed (three ++ silent ∷ silent ∷ [])) 2 ≡ record { age = 2; ended = 0; alive = true }
+  -- S7.4 and S8.6: in one switch the job of the kept low task stays alive, and runs on; that of the other is dropped.
+  pub switches : answers keeping switchOver ≡ accepted ∷ accepted ∷ accepted ∷ ran ∷ switched 0 ∷ []
+  pub kept-stays : changedAt (after keeping switchOver) 1 ≡ record { age = 2; ended = 1; alive = true }
+  pub kept-runs : runningAt (after keeping switchOver) 1 ≡ 1 ∷ []
+  pub other-dropped : changedAt (after keeping switchOver) 2 ≡ record { age = 2; ended = 1; alive = false }
+  -- S9.12: in critical mode the kept low task is released, the other refused.
+  pub kept-released : answers keeping releasedAfter
+      ≡ accepted ∷ ran ∷ switched 0 ∷ accepted ∷ refused (record { number = 12; task = 2 }) ∷ []
   -- S8.3: the lowest ready nodes run, as many as the share in the mode; a node that ends lets a later one start.
   pub first-nodes : runs fork (release 0 ∷ []) ≡ 0 ∷ 1 ∷ []
   pub next-nodes : runs fork (release 0 ∷ tick (1 ∷ []) ∷ []) ≡ 1 ∷ 2 ∷ []
@@ -155,7 +180,7 @@ pub record Worked : Type 0 where
   pub afresh : changedAt (after (after alone endsInTime) (quiet 36 ++ release 0 ∷ [])) 0 ≡ record { age = 0; ended = 0; alive = true }
 
 worked : Worked
-unfolding has range isHigh isSubset allEnded predecessorsOf isReady ready running runningSet releasedRow joined tickedRow isLate survives switchedRow step rowAt granted runningAt unknownTask lowInCritical tooEarly wrongCount notRunning releaseRefusal tickRefusal released ticked isAccepted isRunning isDue
+unfolding has range isHigh isLow isKept isSubset allEnded predecessorsOf isReady ready running runningSet releasedRow joined tickedRow isLate survives switchedRow step rowAt granted runningAt unknownTask lowInCritical tooEarly wrongCount notRunning releaseRefusal tickRefusal released ticked isAccepted isRunning isDue
 worked =
     record {
       in-time = refl;
@@ -173,7 +198,12 @@ worked =
       first-fault = refl;
       lowest = refl;
       dropped = refl;
-      kept = refl;
+      high-stays = refl;
+      switches = refl;
+      kept-stays = refl;
+      kept-runs = refl;
+      other-dropped = refl;
+      kept-released = refl;
       first-nodes = refl;
       next-nodes = refl;
       in-critical = refl;

@@ -1,4 +1,4 @@
--- The promises of S10.7 to S10.9, read off the model: what holds of a task set, its shares and a list of calls from the start.
+-- The promises of S10.7 to S10.9 and S10.11, read off the model: what holds of a task set, its shares and a list of calls from the start.
 use Prim.Native.Nat.{ℕ, _+_, _≤_}
 use mathlib.Core.Path.{_≡_}
 use mathlib.Core.Bool.{Bool, true, false, cond}
@@ -8,6 +8,7 @@ use Rattle.sheet.specs.declared.task.Budget.{Budget}
 use Rattle.sheet.specs.declared.task.Task.{Task}
 use Rattle.sheet.specs.declared.task.TaskSet.{TaskSet}
 use Rattle.shares.specs.declared.share.Share.{Share}
+use Rattle.shares.specs.Low.{isKept}
 use Rattle.shares.specs.Totals.{shareIn, shareAt}
 use Rattle.model.specs.Row.{Row, precedes, allEnded}
 use Rattle.model.specs.Step.{Model, Call, release, tick, Answer, accepted, ran, switched, refused, step, rowAt, runningAt}
@@ -63,6 +64,17 @@ EndInTime isSuch budget ts shares calls =
 unfoldable pub Deadline : TaskSet → List Share → List Call → Type 0
 Deadline ts shares calls = EndInTime isHigh (λ t. t .figures .overload) ts shares calls
 
+-- S10.11, kept: a job of a low task that is kept, whose lengths keep its budget, with true reports, has ended once its deadline has
+-- passed, in whichever mode it was released and over the switch. Nothing is asked of other tasks and their reports.
+unfoldable pub KeptDeadline : TaskSet → List Share → List Call → Type 0
+KeptDeadline ts shares calls =
+    (i : ℕ) (job : ReleaseIn (fresh ts shares) i calls) (lengths : ℕ → ℕ) →
+    isKept (taskIn ts i .level) (shareAt shares i) ≡ true →
+    KeepsBudget (taskIn ts i) (taskIn ts i .figures .nominal) lengths →
+    TrueReports i lengths (begun job) (job .since) →
+    DeadlinePassed (taskIn ts i) i (begun job) (job .since) →
+    Ended (taskIn ts i) (rowAt (after (fresh ts shares) calls) i)
+
 -- S10.8, capacity: no task has more running nodes than its share in the mode, nor have all together more than M.
 pub record Capacity (ts : TaskSet) (shares : List Share) (m : Model) : Type 0 where
   pub each : (i : ℕ) → length (runningAt m i) ≤ shareIn (m .critical) (shareAt shares i)
@@ -99,8 +111,9 @@ Nominal ts shares calls =
     isHigh (taskIn ts i .level) ≡ true → NominalJob (taskIn ts i) i (begun job) (job .since)) →
     StaysTypical (fresh ts shares) calls
 
--- S10.7 to S10.9 over one list of calls. Every prefix of a list is a list, so this speaks of every moment.
+-- S10.7 to S10.9 and S10.11 over one list of calls. Every prefix of a list is a list, so this speaks of every moment.
 pub record Demand3 (ts : TaskSet) (shares : List Share) (calls : List Call) : Type 0 where
   pub deadline : Deadline ts shares calls
   pub capacity : Capacity ts shares (after (fresh ts shares) calls)
   pub nominal : Nominal ts shares calls
+  pub kept : KeptDeadline ts shares calls

@@ -64,10 +64,11 @@ pub record PassingPair (f : Figures) (s : Share) : Type 0 where
   pub ordered : s .typical ≤ s .critical
   pub passing : passes f (s .typical) (s .critical) ≡ true
 
--- S4.1: a low task has its typical share, and so LN is below D.
+-- S4.1: a low task has its typical share, and so LN is below D. S5.6: a critical share above 0 is the same.
 pub record LowPair (f : Figures) (s : Share) : Type 0 where
   pub room : f .nominal .span < f .deadline
   pub typical : s .typical ≡ lowShare f
+  pub critical : 0 < s .critical → s .critical ≡ s .typical
 
 -- S5.1 and S5.2: what is assumed of a task set and its shares. There is a pair for each task; each task keeps the sheet's rules; a
 -- high task's pair passes and a low task has its share; and in each mode the shares total at most M.

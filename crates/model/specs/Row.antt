@@ -1,6 +1,6 @@
 -- One task in the model: what the sheet and the plan fix, what calls change, and which of its nodes are ready and running.
 use Prim.Native.Nat.{ℕ, suc, min}
-use mathlib.Core.Bool.{Bool, true, not, _&&_}
+use mathlib.Core.Bool.{Bool, true, not, _&&_, _||_}
 use mathlib.Core.List.{List}
 use lib.Bits.{bitAnd, bitOr}
 use lib.Dec.{eqb, leb}
@@ -9,6 +9,7 @@ use Rattle.shares.specs.declared.share.Share.{Share}
 use Rattle.basics.specs.Lists.{range, keep, all}
 use Rattle.nodes.specs.Sets.{has, setOf}
 use Rattle.sheet.specs.Level.{isHigh}
+use Rattle.shares.specs.Low.{isKept}
 
 -- S7.1: a task's level, k, masks, D, V and shares. The sheet and the plan fix them; no call changes them.
 pub record Fixed : Type 0 where
@@ -95,9 +96,9 @@ tickedRow r report =
 unfoldable pub isLate : Row → Bool
 isLate r = isHigh (r .fixed .level) && r .job .alive && leb (r .fixed .virtualDeadline) (r .age)
 
--- S8.6: whether a switch leaves the task's job: that of a high task.
+-- S8.6: whether a switch leaves the task's job: that of a high task, and that of a low one that is kept.
 unfoldable pub survives : Fixed → Bool
-survives f = isHigh (f .level)
+survives f = isHigh (f .level) || isKept (f .level) (f .share)
 
 -- S8.6: what a switch does to one task: a job that does not survive it is no longer alive, and its ended set stands.
 unfoldable pub switchedRow : Row → Row

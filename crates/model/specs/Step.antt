@@ -40,7 +40,7 @@ pub record Step : Type 0 where
 unfoldable pub unknownTask : ℕ
 unknownTask = 11
 
--- S9.12: a low task in critical mode: its job would not survive the switch.
+-- S9.12: a low task that is not kept, in critical mode: its job would not survive the switch.
 unfoldable pub lowInCritical : ℕ
 lowInCritical = 12
 
@@ -134,7 +134,7 @@ abbrev pub lowestLate : ℕ → List Row → Option ℕ
 lowestLate i [] = none
 lowestLate i (r ∷ rows) = cond (isLate r) (some i) (lowestLate (suc i) rows)
 
--- S8.6: the mode turns critical and low jobs are dropped, if there is a late task.
+-- S8.6: the mode turns critical and the jobs that do not survive are dropped, if there is a late task.
 abbrev pub switchedTo : List Row → Option ℕ → Step
 switchedTo rows none = record { answer = ran; model = record { critical = false; rows = rows } }
 switchedTo rows (some i) = record { answer = switched i; model = record { critical = true; rows = map switchedRow rows } }

@@ -1,6 +1,6 @@
 -- `entries::release::entry_answer` meets its contract: each refusal is what its callee ensures. Assumes nothing.
 use mathlib.Core.Bool.{Bool, not, _&&_, _||_}
-use mathlib.Core.Path.{ap, _∙_}
+use mathlib.Core.Path.{_≡_, ap, _∙_}
 use lib.Dec.{ltb}
 use Rattle.sheet.specs.Answers.{refusedIf}
 use Rattle.model.specs.Row.{survives}
@@ -26,11 +26,13 @@ or-else-requires c κs = search needs
 returns : tie.Need-returns
 unfolding lowInCritical tooEarly
 returns c =
-    let args = c .before .before .before .before .before .before .args in
+    let asked = c .before .before .before .before .before in
+    let first = c .before .before .before .before .refused-unless in
+    let args = asked .before .args in
     let e = args .e in
+    let mode : first .result ≡ refusedIf (not (not (args .critical && not (asked .survives .result)))) 12 (args .task) = first .ensures in
     two-causes (args .critical && not (survives (fixedOf e))) (e .job .alive || ltb (e .age) (e .deadline)) 12 13 (args .task) _ _ _
-    (c .before .before .before .before .refused-unless .ensures
-    ∙ ap (λ (t : Bool). refusedIf (not (not (args .critical && not t))) 12 (args .task)) (c .before .before .before .before .before .survives .ensures))
+    (mode ∙ ap (λ (t : Bool). refusedIf (not (not (args .critical && not t))) 12 (args .task)) (asked .survives .ensures))
     (c .before .refused-unless2 .ensures)
     (c .or-else .ensures)
 
