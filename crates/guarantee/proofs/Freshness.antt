@@ -2,7 +2,6 @@
 use Prim.Native.Nat.{ℕ, suc, _≤_, _<_}
 use mathlib.Core.Bool.{Bool, true, false, _&&_}
 use mathlib.Core.List.{List, [], _∷_}
-use mathlib.Core.Option.{some}
 use mathlib.Core.Path.{_≡_, refl, sym, ap, ap₂, _∙_}
 use native.Mathlib.Omega.{arith}
 use lib.ListN.{length, getD, take}
@@ -16,12 +15,10 @@ use Rattle.sheet.specs.Level.{figureLimit}
 use Rattle.basics.proofs.Cells.{cells-length}
 use Rattle.shares.specs.declared.share.Share.{Share}
 use Rattle.shares.specs.Totals.{shareTotal, shareAt}
-use Rattle.allocation.specs.Blocks.{lengthIn}
-use Rattle.allocation.specs.Lawful.{LawfulSet}
+use Rattle.allocation.specs.Lawful.{LawfulSet, LawfulShares}
 use Rattle.allocation.specs.declared.allocate.Allocation.{Allocation}
-use Rattle.allocation.specs.Allocation.{chosenFor, allocationOf, allocationAt}
+use Rattle.allocation.specs.Allocation.{allocationOf, allocationAt}
 use Rattle.allocation.proofs.Lawfulness.{figures-kept}
-use Rattle.allocation.proofs.Laws.{chosen-virtual}
 use Rattle.allocation.proofs.Lines.{cells-at}
 use Rattle.model.specs.Row.{Row}
 use Rattle.model.specs.Step.{noRow, rowAt}
@@ -59,7 +56,7 @@ shares-fresh critical [] shares = omega arith
 shares-fresh critical (t ∷ tasks) [] = omega arith
 shares-fresh critical (t ∷ tasks) (s ∷ shares) = omega (arith, shares-fresh critical tasks shares)
 
-module _ (tasks : TaskSet) (lawful : LawfulSet tasks) (shares : List Share) (chosen-it : chosenFor tasks ≡ some shares)
+module _ (tasks : TaskSet) (lawful : LawfulSet tasks) (shares : List Share) (shared : LawfulShares tasks shares)
     (allocations : List Allocation) (fixed : (i : ℕ) → i < tasks .count → allocationAt allocations i ≡ allocationOf tasks shares i) where
   state : State
   state = freshState tasks allocations
@@ -86,13 +83,13 @@ module _ (tasks : TaskSet) (lawful : LawfulSet tasks) (shares : List Share) (cho
       model-row state entries-long i (omega (arith, count-is))
       ∙ ap rowOf (entry-is i inside)
       ∙ row-fresh tasks shares i
-      ∙ sym (fresh-row tasks shares (planned tasks lawful shares chosen-it) i inside)
+      ∙ sym (fresh-row tasks shares (planned tasks lawful shares shared) i inside)
 
   rows-is : modelOf state .rows ≡ fresh tasks shares .rows
   unfolding rowAt
   rows-is =
       ext-getD noRow (modelOf state .rows) (fresh tasks shares .rows)
-      (model-length state entries-long ∙ count-is ∙ sym (fresh-length tasks shares (planned tasks lawful shares chosen-it)))
+      (model-length state entries-long ∙ count-is ∙ sym (fresh-length tasks shares (planned tasks lawful shares shared)))
       (λ i h. row-is i (omega (arith, model-length state entries-long, count-is)))
 
   -- The fresh state holds the model's fresh start.
@@ -101,7 +98,7 @@ module _ (tasks : TaskSet) (lawful : LawfulSet tasks) (shares : List Share) (cho
   fresh-model = ap (λ (rows : List Row). record { critical = false; rows = rows }) rows-is
 
   entry-sound : (i : ℕ) → i < tasks .count → entrySound (freshEntry (taskIn tasks i) (allocationOf tasks shares i)) ≡ true
-  unfolding freshEntry allocationOf shareAt lengthIn
+  unfolding freshEntry allocationOf
   entry-sound i inside =
       let t = taskIn tasks i in
       let rules = lawful .lawful i inside in
@@ -112,7 +109,7 @@ module _ (tasks : TaskSet) (lawful : LawfulSet tasks) (shares : List Share) (cho
         nodes = rules .nodes;
         masks = rules .masks;
         deadline = rw (le-leb 1 (t .figures .deadline) (kept .deadline-from)) (le-leb (t .figures .deadline) (figureLimit (t .level)) (kept .deadline-to));
-        virtual = chosen-virtual tasks lawful shares chosen-it i inside;
+        virtual = shared .virtual i inside;
         age = omega arith;
         ended = pow-pos (t .nodes);
         alive = refl;
@@ -129,7 +126,7 @@ module _ (tasks : TaskSet) (lawful : LawfulSet tasks) (shares : List Share) (cho
   unfolding fresh
   shares-fit critical =
       rw rows-is
-      (omega (arith, shares-fresh critical (take (tasks .count) (tasks .tasks)) shares, planned tasks lawful shares chosen-it .fits critical))
+      (omega (arith, shares-fresh critical (take (tasks .count) (tasks .tasks)) shares, planned tasks lawful shares shared .fits critical))
 
   -- The fresh state is sound.
   pub fresh-sound : isSound (freshState tasks allocations) ≡ true

@@ -1,8 +1,7 @@
 -- What the reader (S2) and the planner (S5) say of an accepted sheet is what the model's theorem assumes.
-use Prim.Native.Nat.{ℕ, _≤_, _<_}
-use mathlib.Core.Bool.{Bool, true, false, not}
+use Prim.Native.Nat.{ℕ, _<_}
+use mathlib.Core.Bool.{true, not}
 use mathlib.Core.List.{List}
-use mathlib.Core.Option.{some}
 use mathlib.Core.Path.{_≡_, ap}
 use native.Mathlib.Omega.{arith}
 use borrow.Author.Tests.{ltb-true}
@@ -12,12 +11,10 @@ use Rattle.sheet.specs.Format.{taskIn}
 use Rattle.sheet.specs.Rules.{maskLawful, masksLawful}
 use Rattle.shares.specs.declared.share.Share.{Share}
 use Rattle.sheet.specs.Level.{isLow, isHigh}
-use Rattle.shares.specs.Totals.{shareAt, shareTotal}
+use Rattle.shares.specs.Totals.{shareAt}
 use Rattle.shares.proofs.Levels.{has-below}
-use Rattle.allocation.specs.Lawful.{LawfulSet, LawfulTask}
-use Rattle.allocation.specs.Allocation.{chosenFor}
+use Rattle.allocation.specs.Lawful.{LawfulSet, LawfulTask, LawfulShares}
 use Rattle.allocation.proofs.Lawfulness.{within-from, figures-kept, low-equal, heavy-work}
-use Rattle.allocation.proofs.Laws.{chosen-length, chosen-typical, chosen-critical, chosen-high, chosen-low}
 use Rattle.model.specs.Row.{predecessorsOf}
 use Rattle.model.specs.Plan.{LawfulTask as ModelTask, PassingPair, LowPair, Planned}
 use Rattle.basics.proofs.Below.{all-at}
@@ -35,23 +32,18 @@ task-lawful t lawful =
       masks = λ v below. ltb-true _ _ (all-at (t .nodes) (maskLawful (t .predecessors)) (lawful .masks) v below);
     }
 
--- The sheet's task set with the shares that are chosen for it.
-module _ (tasks : TaskSet) (lawful : LawfulSet tasks) (shares : List Share) (chosen-it : chosenFor tasks ≡ some shares) where
+-- The sheet's task set with the shares that its tasks get.
+module _ (tasks : TaskSet) (lawful : LawfulSet tasks) (shares : List Share) (shared : LawfulShares tasks shares) where
   high-pair : (i : ℕ) → i < tasks .count → isHigh (taskIn tasks i .level) ≡ true → PassingPair (taskIn tasks i .figures) (shareAt shares i)
-  unfolding shareAt isLow
+  unfolding isLow
   high-pair i inside high =
-      let pair = chosen-high tasks lawful shares chosen-it i inside (ap not high) in
+      let pair = shared .high i inside (ap not high) in
       record { positive = pair .positive; ordered = pair .ordered; passing = pair .passing }
 
   low-pair : (i : ℕ) → i < tasks .count → isLow (taskIn tasks i .level) ≡ true → LowPair (taskIn tasks i .figures) (shareAt shares i)
-  unfolding shareAt
   low-pair i inside low =
-      let pair = chosen-low tasks lawful shares chosen-it i inside low in
-      record { room = has-below _ _ (pair .has); typical = pair .typical }
-
-  totals : (critical : Bool) → shareTotal critical shares ≤ tasks .processors
-  totals false = chosen-typical tasks lawful shares chosen-it
-  totals true = chosen-critical tasks lawful shares chosen-it
+      let pair = shared .low i inside low in
+      record { room = has-below _ _ (pair .has); typical = pair .typical; critical = pair .critical }
 
   pub planned : Planned tasks shares
   planned =
@@ -59,9 +51,9 @@ module _ (tasks : TaskSet) (lawful : LawfulSet tasks) (shares : List Share) (cho
       let few = lawful .few-tasks in
       record {
         tasks = omega arith;
-        each = chosen-length tasks lawful shares chosen-it;
+        each = shared .each;
         lawful = λ i inside. task-lawful (taskIn tasks i) (lawful .lawful i inside);
         high = high-pair;
         low = low-pair;
-        fits = totals;
+        fits = shared .fits;
       }

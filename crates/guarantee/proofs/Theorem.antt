@@ -2,14 +2,13 @@
 use Prim.Native.Nat.{ℕ, _<_}
 use mathlib.Core.Bool.{true}
 use mathlib.Core.List.{List}
-use mathlib.Core.Option.{some}
 use mathlib.Core.Path.{_≡_, refl, sym, ap, _∙_}
 use Rattle.sheet.specs.declared.answer.Answer.{Answer}
 use Rattle.sheet.specs.declared.answer.Answer.the-variants.{Accepted, Refused}
 use Rattle.reader.specs.Reading.{readOf}
-use Rattle.allocation.specs.Lawful.{LawfulSet}
-use Rattle.allocation.specs.Allocation.{chosenFor, allocationOf, allocationAt, allocationAnswer, allocatedOf}
-use Rattle.allocation.proofs.Allocations.{read-lawful, read-chosen, allocated-at}
+use Rattle.allocation.specs.Lawful.{LawfulSet, LawfulShares}
+use Rattle.allocation.specs.Allocation.{allocationOf, allocationAt, allocationAnswer, allocatedOf}
+use Rattle.allocation.proofs.Allocations.{read-lawful, read-shares, allocated-at}
 use Rattle.model.specs.Step.{Model, Call}
 use Rattle.model.specs.Run.{after}
 use Rattle.model.specs.Beside.{Beside}
@@ -39,9 +38,9 @@ module _ (sheet : List ℕ) (accepted : startOf sheet .answer ≡ Accepted) wher
   unfolding tasksFor
   lawful = read-lawful sheet answered
 
-  chosen-it : chosenFor (tasksFor sheet) ≡ some (sharesFor sheet)
+  shared : LawfulShares (tasksFor sheet) (sharesFor sheet)
   unfolding tasksFor sharesFor
-  chosen-it = read-chosen sheet answered
+  shared = read-shares sheet answered
 
   -- What is fixed for the sheet's tasks.
   fixed : (i : ℕ) → i < tasksFor sheet .count → allocationAt (allocatedOf sheet .allocations) i ≡ allocationOf (tasksFor sheet) (sharesFor sheet) i
@@ -53,14 +52,14 @@ module _ (sheet : List ℕ) (accepted : startOf sheet .answer ≡ Accepted) wher
   state-is = ap (λ (a : Answer). startedWith a (freshState (readOf sheet .set) (allocatedOf sheet .allocations)) .state) answered
 
   pub state-sound : isSound (startState sheet) ≡ true
-  state-sound = rw state-is (fresh-sound (tasksFor sheet) lawful (sharesFor sheet) chosen-it (allocatedOf sheet .allocations) fixed)
+  state-sound = rw state-is (fresh-sound (tasksFor sheet) lawful (sharesFor sheet) shared (allocatedOf sheet .allocations) fixed)
 
   pub state-model : modelOf (startState sheet) ≡ modelFor sheet
   unfolding modelFor
-  state-model = rw state-is (fresh-model (tasksFor sheet) lawful (sharesFor sheet) chosen-it (allocatedOf sheet .allocations) fixed)
+  state-model = rw state-is (fresh-model (tasksFor sheet) lawful (sharesFor sheet) shared (allocatedOf sheet .allocations) fixed)
 
   sheet-planned : Planned (tasksFor sheet) (sharesFor sheet)
-  sheet-planned = planned (tasksFor sheet) lawful (sharesFor sheet) chosen-it
+  sheet-planned = planned (tasksFor sheet) lawful (sharesFor sheet) shared
 
   guaranteed : (calls : List Call) → Guaranteed sheet calls
   unfolding modelFor
@@ -72,6 +71,7 @@ module _ (sheet : List ℕ) (accepted : startOf sheet .answer ≡ Accepted) wher
         deadline = whole .deadline;
         capacity = whole .capacity;
         nominal = whole .nominal;
+        kept = whole .kept;
       }
 
   besides : (calls : List Call) → Beside (tasksFor sheet) (sharesFor sheet) calls

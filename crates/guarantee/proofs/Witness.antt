@@ -1,9 +1,8 @@
--- What S10.7, S10.9 and S10.10 ask can be met. The sheet is read and planned by computation; its model is run by computation, and the reports
--- pass the test of true ones.
+-- What S10.7 and S10.9 to S10.11 ask can be met. The sheets are read and planned by computation; their models are run by computation,
+-- and the reports pass the test of true ones.
 use Prim.Native.Nat.{ℕ, zero, suc, _+_, _≤_, _<_}
 use mathlib.Core.Bool.{true, true≢false, Bool, false≢true}
 use mathlib.Core.List.{List, [], _∷_, _++_}
-use mathlib.Core.Option.{Option, some}
 use mathlib.Core.Path.{_≡_, refl, sym, ap, ap₂, subst₂, _∙_}
 use native.Mathlib.Omega.{arith}
 use borrow.Author.Tests.{eqb-true}
@@ -23,27 +22,29 @@ use Rattle.reader.specs.declared.Reading.{Reading}
 use Rattle.reader.specs.Reading.{headerLawful, headerAnswer, placeAnswer, endAnswer, shapeAnswer, recordAnswer, readOf, readAnswer}
 use Rattle.shares.specs.declared.share.Share.{Share}
 use Rattle.shares.specs.Test.{excess, demand, passes, virtualDeadline}
-use Rattle.shares.specs.Low.{ceilDiv, lowShare, hasLowShare}
+use Rattle.shares.specs.Low.{ceilDiv, lowShare, hasLowShare, isKept}
+use Rattle.shares.specs.Totals.{shareAt}
 use Rattle.shares.specs.Deadline.{virtualDeadlineOf}
 use Rattle.nodes.specs.Sets.{has}
 use Rattle.nodes.proofs.Bits.{has-zero, has-power}
 use Rattle.allocation.specs.Choice.{lowOptions, pairsWithin, highOptions, optionsOf, fits, leastBy, fitting, chosen}
-use Rattle.allocation.specs.Allocation.{chosenFor, shareAnswer, choiceAnswer, allocationAnswer, sharesChosen}
+use Rattle.allocation.specs.Kept.{lowNumbers, holdable, firstHeld, typicalShareAt, leftOver, keptTasks, keptShare, withKept}
+use Rattle.allocation.specs.Allocation.{chosenFor, shareAnswer, choiceAnswer, sharesWith, sharesOf, allocationAnswer}
 use Rattle.model.specs.Budget.{sumBelow, Chain, alone, link, along}
 use Rattle.model.specs.Row.{isSubset, allEnded, predecessorsOf, precedes, isReady, ready, running, runningSet, releasedRow, joined, tickedRow, isLate, survives, switchedRow}
 use Rattle.model.specs.Step.{Model, Call, release, tick, step, rowAt, granted, runningAt, unknownTask, lowInCritical, tooEarly, wrongCount, notRunning, releaseRefusal, tickRefusal, released, ticked}
 use Rattle.model.specs.Run.{after, isAccepted, ticksIn, releasesIn, isRunning, isDue}
 use Rattle.model.specs.Plan.{freshRow, fresh}
-use Rattle.model.specs.Claim.{begun, KeepsBudget, NominalJob, Ended, StaysTypical, Deadline, EndInTime, Nominal}
+use Rattle.model.specs.Claim.{begun, KeepsBudget, NominalJob, Ended, StaysTypical, Deadline, EndInTime, Nominal, KeptDeadline}
 use Rattle.model.specs.Beside.{LowDeadline, TypicalUntil}
 use Rattle.start.specs.Start.{startOf}
 use Rattle.guarantee.specs.Runs.{allModelSaid}
 use Rattle.guarantee.specs.Guarantee.{sharesFor, modelFor, Guarantee, BesideGuarantee, tasksFor}
-use Rattle.guarantee.specs.Witness.{twoTasks, highTask, longLengths, overrun, overrunSaid, shortLengths, usual, lowTask, lowAlone, InTimeAsked, NominalAsked, DeadlineMet, NominalMet, LowMet}
+use Rattle.guarantee.specs.Witness.{twoTasks, highTask, longLengths, overrun, overrunSaid, shortLengths, usual, lowTask, lowAlone, oneKept, keptTask, keptLengths, overSwitch, overSwitchSaid, InTimeAsked, NominalAsked, DeadlineMet, NominalMet, LowMet, KeptMet}
 use Rattle.guarantee.proofs.Theorem.{answer-returned, guarantee, beside-guarantee}
 use Rattle.guarantee.proofs.Truths.{allTrue, true-reports, allTypical, typical-until, at-releases}
 
--- The tasks of the sheet, and their shares.
+-- The tasks of the sheets, and their shares.
 abbrev high : Task
 high =
     record {
@@ -64,31 +65,67 @@ low =
       predecessors = replicate 32 0;
     }
 
+abbrev kept : Task
+kept =
+    record {
+      level = 0;
+      nodes = 3;
+      figures =
+          record { deadline = 4; nominal = record { work = 6; span = 2 }; overload = record { work = 6; span = 2 } };
+      predecessors = replicate 32 0;
+    }
+
 abbrev both : TaskSet
 both = record { processors = 3; count = 2; tasks = high ∷ low ∷ replicate 14 zeroTask }
 
 abbrev pairs : List Share
 pairs = record { typical = 1; critical = 2 } ∷ record { typical = 2; critical = 0 } ∷ []
 
--- S2, S5: the sheet gives these tasks and shares.
+abbrev withOneKept : TaskSet
+withOneKept = record { processors = 4; count = 2; tasks = high ∷ kept ∷ replicate 14 zeroTask }
+
+abbrev keptPairs : List Share
+keptPairs = record { typical = 1; critical = 2 } ∷ record { typical = 2; critical = 2 } ∷ []
+
+-- S2, S5: the sheets give these tasks and shares.
 read-both : readOf twoTasks ≡ record { answer = Accepted; set = both }
 unfolding firstOver byteAt u16At u32At processorsOf countOf offsetOf lengthOf placeOf cellsFrom levelAt nodesAt figuresAt masksAt taskAt zeroTask tasksBelow taskSetOf levelLawful shapeLawful inRange inOrder lowLawful figuresLawful maskLawful allBelow masksLawful isHeavy taskAnswer headerLawful headerAnswer placeAnswer endAnswer shapeAnswer recordAnswer readAnswer readOf isHigh figureLimit bytesBeforeMasks
 read-both = refl
+
+read-kept : readOf oneKept ≡ record { answer = Accepted; set = withOneKept }
+unfolding firstOver byteAt u16At u32At processorsOf countOf offsetOf lengthOf placeOf cellsFrom levelAt nodesAt figuresAt masksAt taskAt zeroTask tasksBelow taskSetOf levelLawful shapeLawful inRange inOrder lowLawful figuresLawful maskLawful allBelow masksLawful isHeavy taskAnswer headerLawful headerAnswer placeAnswer endAnswer shapeAnswer recordAnswer readAnswer readOf isHigh figureLimit bytesBeforeMasks
+read-kept = refl
 
 read-set : tasksFor twoTasks ≡ both
 unfolding tasksFor
 read-set = ap (λ (r : Reading). r .set) read-both
 
-both-chosen : (choiceAnswer both ≡ Accepted) × (chosenFor both ≡ some pairs)
-unfolding choiceAnswer shareAnswer chosenFor taskIn firstOver range isLow ceilDiv lowShare hasLowShare excess demand passes lowOptions pairsWithin highOptions optionsOf fits leastBy fitting chosen isHigh
-both-chosen = (refl, refl)
+kept-set : tasksFor oneKept ≡ withOneKept
+unfolding tasksFor
+kept-set = ap (λ (r : Reading). r .set) read-kept
+
+both-shared : (choiceAnswer both ≡ Accepted) × (sharesOf both ≡ pairs)
+unfolding choiceAnswer shareAnswer chosenFor taskIn firstOver range isLow ceilDiv lowShare hasLowShare excess demand passes lowOptions pairsWithin highOptions optionsOf fits leastBy fitting chosen isHigh shareAt lowNumbers holdable firstHeld typicalShareAt leftOver keptTasks keptShare withKept sharesWith sharesOf
+both-shared = (refl, refl)
+
+kept-shared : (choiceAnswer withOneKept ≡ Accepted) × (sharesOf withOneKept ≡ keptPairs)
+unfolding choiceAnswer shareAnswer chosenFor taskIn firstOver range isLow ceilDiv lowShare hasLowShare excess demand passes lowOptions pairsWithin highOptions optionsOf fits leastBy fitting chosen isHigh shareAt lowNumbers holdable firstHeld typicalShareAt leftOver keptTasks keptShare withKept sharesWith sharesOf
+kept-shared = (refl, refl)
+
+-- Start accepts a sheet that is read and whose choice is accepted.
+started-with : (sheet : List ℕ) (ts : TaskSet) → readOf sheet ≡ record { answer = Accepted; set = ts } → choiceAnswer ts ≡ Accepted →
+    startOf sheet .answer ≡ Accepted
+unfolding startOf allocationAnswer
+started-with sheet ts read chosen =
+    answer-returned (allocationAnswer sheet) _
+    ∙ ap (λ (r : Reading). r .answer orElse choiceAnswer (r .set)) read
+    ∙ chosen
 
 pub started : startOf twoTasks .answer ≡ Accepted
-unfolding startOf allocationAnswer
-started =
-    answer-returned (allocationAnswer twoTasks) _
-    ∙ ap (λ (r : Reading). r .answer orElse choiceAnswer (r .set)) read-both
-    ∙ both-chosen .0
+started = started-with twoTasks both read-both (both-shared .0)
+
+kept-started : startOf oneKept .answer ≡ Accepted
+kept-started = started-with oneKept withOneKept read-kept (kept-shared .0)
 
 task-is : highTask ≡ high
 unfolding taskIn
@@ -111,8 +148,22 @@ firstLow = step start (release 1) .model
 model-is : modelFor twoTasks ≡ start
 unfolding modelFor sharesFor
 model-is =
-    ap (λ (ts : TaskSet). fresh ts (sharesChosen (chosenFor ts))) read-set
-    ∙ ap (λ (c : Option (List Share)). fresh both (sharesChosen c)) (both-chosen .1)
+    ap (λ (ts : TaskSet). fresh ts (sharesOf ts)) read-set ∙ ap (fresh both) (both-shared .1)
+
+-- The same for the other sheet: its model, and that after the Release of the kept task.
+abbrev keptStart : Model
+keptStart = fresh withOneKept keptPairs
+
+abbrev firstKept : Model
+firstKept = after keptStart (take 4 overSwitch)
+
+kept-shares : sharesFor oneKept ≡ keptPairs
+unfolding sharesFor
+kept-shares = ap sharesOf kept-set ∙ kept-shared .1
+
+kept-model : modelFor oneKept ≡ keptStart
+unfolding modelFor
+kept-model = ap₂ fresh kept-set kept-shares
 
 -- The high task has one edge, from node 1 to node 2, so that a chain is a node alone or these two.
 no-mask : (n v : ℕ) → _≡_ {A = ℕ} (getD (replicate n 0) v 0) 0
@@ -127,23 +178,23 @@ one-edge u (suc zero) e = absurd (true≢false (sym e ∙ has-zero u))
 one-edge u (suc (suc zero)) e = (eqb-true u 1 (sym (has-power 1 u) ∙ e), refl)
 one-edge u (suc (suc (suc v))) e = absurd (true≢false (sym e ∙ ap (λ (n : ℕ). has n u) (no-mask 29 v) ∙ has-zero u))
 
--- The low task has none, so that a chain is a node alone.
-no-edge : (u v : ℕ) → precedes (low .predecessors) u v ≡ true → ⊥
+-- The low tasks have none, so that a chain is a node alone.
+no-edge : (u v : ℕ) → precedes (replicate 32 0) u v ≡ true → ⊥
 unfolding precedes predecessorsOf
 no-edge u v e = true≢false (sym e ∙ ap (λ (n : ℕ). has n u) (no-mask 32 v) ∙ has-zero u)
 
-lone-kept : (u : ℕ) (rest : List ℕ) → Chain 2 (precedes (low .predecessors)) u rest → along shortLengths u rest ≤ 1
-lone-kept u rest (alone l) = lit≤ tt
-lone-kept u rest (link {v = v} l e c) = absurd (no-edge u v e)
+lone-span : (k length u : ℕ) (rest : List ℕ) → Chain k (precedes (replicate 32 0)) u rest → along (λ _. length) u rest ≤ length
+lone-span k length u rest (alone l) = omega arith
+lone-span k length u rest (link {v = v} l e c) = absurd (no-edge u v e)
 
 module _ (len : ℕ → ℕ) (span : ℕ) (each : (u : ℕ) → u < 4 → len u ≤ span) (chain : len 1 + len 2 ≤ span) where
-  chains-kept : (u : ℕ) (rest : List ℕ) → Chain 4 (precedes (high .predecessors)) u rest → along len u rest ≤ span
-  chains-kept u rest (alone l) = each u l
-  chains-kept u rest (link {v = v} l e (alone l′)) =
+  chains-span : (u : ℕ) (rest : List ℕ) → Chain 4 (precedes (high .predecessors)) u rest → along len u rest ≤ span
+  chains-span u rest (alone l) = each u l
+  chains-span u rest (link {v = v} l e (alone l′)) =
       let ends = one-edge u v e in
       let here : len u + len v ≡ len 1 + len 2 = ap₂ (λ (x y : ℕ). len x + len y) (ends .0) (ends .1) in
       omega (arith, chain, here)
-  chains-kept u rest (link {v = v} l e (link {v = w} l′ e′ c)) = absurd (omega (arith, one-edge u v e .1, one-edge v w e′ .0))
+  chains-span u rest (link {v = v} l e (link {v = w} l′ e′ c)) = absurd (omega (arith, one-edge u v e .1, one-edge v w e′ .0))
 
 -- The lengths of the run that overruns: each is 1 to 3.
 long-each : (v : ℕ) → v < 4 → (1 ≤ longLengths v) × (longLengths v ≤ 3)
@@ -159,7 +210,7 @@ long-keeps =
     record {
       positive = λ v h. long-each v h .0;
       work = lit≤ tt;
-      span = chains-kept longLengths 3 (λ v h. long-each v h .1) (lit≤ tt);
+      span = chains-span longLengths 3 (λ v h. long-each v h .1) (lit≤ tt);
     }
 
 long-beyond : KeepsBudget high (high .figures .nominal) longLengths → ⊥
@@ -172,12 +223,16 @@ short-keeps =
     record {
       positive = λ v h. lit≤ tt;
       work = lit≤ tt;
-      span = chains-kept shortLengths 2 (λ v h. lit≤ tt) (lit≤ tt);
+      span = chains-span shortLengths 2 (λ v h. lit≤ tt) (lit≤ tt);
     }
 
 low-keeps : KeepsBudget low (low .figures .nominal) shortLengths
 unfolding KeepsBudget sumBelow
-low-keeps = record { positive = λ v h. lit≤ tt; work = lit≤ tt; span = lone-kept }
+low-keeps = record { positive = λ v h. lit≤ tt; work = lit≤ tt; span = lone-span 2 1 }
+
+kept-keeps : KeepsBudget kept (kept .figures .nominal) keptLengths
+unfolding KeepsBudget sumBelow
+kept-keeps = record { positive = λ v h. lit≤ tt; work = lit≤ tt; span = lone-span 3 2 }
 
 -- The calls between the release of the job that overruns and the D-th tick after it.
 abbrev beforeDue : List Call
@@ -210,9 +265,17 @@ record Runs : Type 0 where
   pub low-ticks : ticksIn firstLow (take 2 (drop 1 lowAlone)) + 1 ≡ 3
   pub low-typical : allTypical firstLow (drop 1 lowAlone) ≡ true
   pub low-again : isAccepted (after start lowAlone) (release 1) ≡ true
+  -- The run of the kept job: its release, its answers and true reports, its D-th tick, and the job and the mode before that.
+  pub kept-begins : isAccepted (after keptStart (take 3 overSwitch)) (release 1) ≡ true
+  pub kept-said : allModelSaid keptStart (overSwitch ++ release 1 ∷ []) ≡ overSwitchSaid
+  pub kept-true : allTrue 1 keptLengths (λ _. 0) firstKept (drop 4 overSwitch) ≡ true
+  pub kept-due : isAccepted (after firstKept (take 3 (drop 4 overSwitch))) (tick (4 ∷ 4 ∷ [])) ≡ true
+  pub kept-ticks : ticksIn firstKept (take 3 (drop 4 overSwitch)) + 1 ≡ 4
+  pub kept-critical : after keptStart (take 7 overSwitch) .critical ≡ true
+  pub kept-alive : rowAt (after keptStart (take 7 overSwitch)) 1 .job .alive ≡ true
 
 runs : Runs
-unfolding fresh freshRow virtualDeadlineOf isLow virtualDeadline has range isHigh isSubset allEnded predecessorsOf isReady ready running runningSet releasedRow joined tickedRow isLate survives switchedRow step rowAt granted runningAt unknownTask lowInCritical tooEarly wrongCount notRunning releaseRefusal tickRefusal released ticked isAccepted isRunning isDue
+unfolding fresh freshRow virtualDeadlineOf isLow virtualDeadline has range isHigh isKept isSubset allEnded predecessorsOf isReady ready running runningSet releasedRow joined tickedRow isLate survives switchedRow step rowAt granted runningAt unknownTask lowInCritical tooEarly wrongCount notRunning releaseRefusal tickRefusal released ticked isAccepted isRunning isDue
 runs =
     record {
       begins = refl;
@@ -230,29 +293,37 @@ runs =
       low-ticks = refl;
       low-typical = refl;
       low-again = refl;
+      kept-begins = refl;
+      kept-said = refl;
+      kept-true = refl;
+      kept-due = refl;
+      kept-ticks = refl;
+      kept-critical = refl;
+      kept-alive = refl;
     }
 
--- A run that begins with a release of task i, and has a tick that reports nothing as the D-th after it, asks the rest of the job.
-asked-of : (isSuch : ℕ → Bool) (budget : Budget) (t : Task) (i : ℕ) (before later : List Call) (len : ℕ → ℕ) →
-    isAccepted start (release i) ≡ true →
+-- A run with an accepted release of task i, and with the D-th tick after it, asks the rest of the job.
+asked-of : (isSuch : ℕ → Bool) (budget : Budget) (m : Model) (t : Task) (i : ℕ) (past before : List Call) (reports : List ℕ)
+    (later : List Call) (len : ℕ → ℕ) →
+    isAccepted (after m past) (release i) ≡ true →
     isSuch (t .level) ≡ true →
     KeepsBudget t budget len →
-    allTrue i len (λ _. 0) (step start (release i) .model) (before ++ noReports ∷ later) ≡ true →
-    isAccepted (after (step start (release i) .model) before) noReports ≡ true →
-    ticksIn (step start (release i) .model) before + 1 ≡ t .figures .deadline →
-    releasesIn i (after (step start (release i) .model) (before ++ noReports ∷ [])) later ≡ 0 →
-    InTimeAsked isSuch budget start t i (release i ∷ before ++ noReports ∷ later) len
+    allTrue i len (λ _. 0) (step (after m past) (release i) .model) (before ++ tick reports ∷ later) ≡ true →
+    isAccepted (after (step (after m past) (release i) .model) before) (tick reports) ≡ true →
+    ticksIn (step (after m past) (release i) .model) before + 1 ≡ t .figures .deadline →
+    releasesIn i (after (step (after m past) (release i) .model) (before ++ tick reports ∷ [])) later ≡ 0 →
+    InTimeAsked isSuch budget m t i (past ++ release i ∷ (before ++ tick reports ∷ later)) len
 unfolding begun
-asked-of isSuch budget t i before later len begins level-is keeps truth due ticks unreleased =
+asked-of isSuch budget m t i past before reports later len begins level-is keeps truth due ticks unreleased =
     record {
-      job = record { before = []; since = before ++ noReports ∷ later; list = refl; accepted = begins };
+      job = record { before = past; since = before ++ tick reports ∷ later; list = refl; accepted = begins };
       level-is = level-is;
       keeps = keeps;
-      reports = true-reports i len (step start (release i) .model) (before ++ noReports ∷ later) truth;
+      reports = true-reports i len (step (after m past) (release i) .model) (before ++ tick reports ∷ later) truth;
       passed =
           record {
             before = before;
-            reports = 0 ∷ 0 ∷ [];
+            reports = reports;
             later = later;
             list = refl;
             accepted = due;
@@ -264,14 +335,27 @@ asked-of isSuch budget t i before later len begins level-is keeps truth due tick
 overrun-asked : InTimeAsked isHigh (high .figures .overload) start high 0 overrun longLengths
 unfolding isHigh
 overrun-asked =
-    asked-of isHigh (high .figures .overload) high 0 beforeDue (drop 12 overrun) longLengths
+    asked-of isHigh (high .figures .overload) start high 0 [] beforeDue (0 ∷ 0 ∷ []) (drop 12 overrun) longLengths
     (runs .begins) refl long-keeps (runs .long-true) (runs .due) (runs .ticks) (runs .unreleased)
 
 low-asked : InTimeAsked isLow (low .figures .nominal) start low 1 lowAlone shortLengths
 unfolding isHigh isLow
 low-asked =
-    asked-of isLow (low .figures .nominal) low 1 (take 2 (drop 1 lowAlone)) [] shortLengths
+    asked-of isLow (low .figures .nominal) start low 1 [] (take 2 (drop 1 lowAlone)) (0 ∷ 0 ∷ []) [] shortLengths
     (runs .low-begins) refl low-keeps (runs .low-true) (runs .low-due) (runs .low-ticks) refl
+
+-- What is asked of the kept job, by a task set and its shares.
+abbrev KeptAsked : TaskSet → List Share → Type 0
+KeptAsked ts shares =
+    InTimeAsked (λ level. isKept level (shareAt shares 1)) (taskIn ts 1 .figures .nominal) (fresh ts shares) (taskIn ts 1) 1 overSwitch
+    keptLengths
+
+kept-asked : KeptAsked withOneKept keptPairs
+unfolding isHigh isLow isKept taskIn shareAt
+kept-asked =
+    asked-of (λ level. isKept level (shareAt keptPairs 1)) (kept .figures .nominal) keptStart kept 1 (take 3 overSwitch)
+    (take 3 (drop 4 overSwitch)) (4 ∷ 4 ∷ []) (drop 8 overSwitch) keptLengths
+    (runs .kept-begins) refl kept-keeps (runs .kept-true) (runs .kept-due) (runs .kept-ticks) refl
 
 -- Of the three releases of the other run that of the low task asks nothing.
 usual-asked : NominalAsked both start usual
@@ -329,6 +413,20 @@ low-met =
       again = ap (λ (m : Model). isAccepted (after m lowAlone) (release 1)) model-is ∙ runs .low-again;
     }
 
+pub kept-met : KeptMet
+unfolding Guarantee modelFor
+kept-met =
+    record {
+      started = kept-started;
+      said =
+          guarantee oneKept kept-started (overSwitch ++ release 1 ∷ []) .answers
+          ∙ ap (λ (m : Model). allModelSaid m (overSwitch ++ release 1 ∷ [])) kept-model
+          ∙ runs .kept-said;
+      critical = ap (λ (m : Model). after m (take 7 overSwitch) .critical) kept-model ∙ runs .kept-critical;
+      alive = ap (λ (m : Model). rowAt (after m (take 7 overSwitch)) 1 .job .alive) kept-model ∙ runs .kept-alive;
+      asked = subst₂ KeptAsked (sym kept-set) (sym kept-shares) kept-asked;
+    }
+
 -- S10.7 of the one run: its job has ended.
 pub job-ended : Ended highTask (rowAt (after (modelFor twoTasks) overrun) 0)
 unfolding Guarantee Deadline EndInTime modelFor
@@ -347,3 +445,10 @@ unfolding BesideGuarantee LowDeadline modelFor
 low-ended =
     let a = low-met .asked in
     beside-guarantee twoTasks started lowAlone .low 1 (a .job) shortLengths (a .level-is) (a .keeps) (a .reports) (low-met .typical) (a .passed)
+
+-- S10.11 of the run on the other sheet: the kept job has ended.
+pub kept-ended : Ended keptTask (rowAt (after (modelFor oneKept) overSwitch) 1)
+unfolding Guarantee KeptDeadline modelFor
+kept-ended =
+    let a = kept-met .asked in
+    guarantee oneKept kept-started overSwitch .kept 1 (a .job) keptLengths (a .level-is) (a .keeps) (a .reports) (a .passed)

@@ -6,11 +6,11 @@ use Rattle.sheet.specs.declared.answer.Answer.the-variants.{Accepted}
 use Rattle.sheet.specs.declared.task.TaskSet.{TaskSet}
 use Rattle.reader.specs.Reading.{readOf}
 use Rattle.shares.specs.declared.share.Share.{Share}
-use Rattle.allocation.specs.Allocation.{chosenFor, sharesChosen}
+use Rattle.allocation.specs.Allocation.{sharesOf}
 use Rattle.model.specs.Step.{Model, Call}
 use Rattle.model.specs.Run.{after}
 use Rattle.model.specs.Plan.{fresh}
-use Rattle.model.specs.Claim.{Deadline, Capacity, Nominal}
+use Rattle.model.specs.Claim.{Deadline, Capacity, Nominal, KeptDeadline}
 use Rattle.model.specs.Beside.{Beside}
 use Rattle.dispatcher.specs.declared.state.State.{State}
 use Rattle.dispatcher.specs.Holds.{modelOf}
@@ -21,9 +21,9 @@ use Rattle.guarantee.specs.Runs.{stateAfter, allSaid, allModelSaid}
 unfoldable pub tasksFor : List ℕ → TaskSet
 tasksFor sheet = readOf sheet .set
 
--- S5.3: the shares chosen for these tasks.
+-- S5.3 and S5.6: the shares of these tasks: those chosen, and those kept in the critical mode.
 unfoldable pub sharesFor : List ℕ → List Share
-sharesFor sheet = sharesChosen (chosenFor (tasksFor sheet))
+sharesFor sheet = sharesOf (tasksFor sheet)
 
 -- S10.2: the model of a run before its first call: fresh, and made of the sheet and its shares alone.
 unfoldable pub modelFor : List ℕ → Model
@@ -45,6 +45,8 @@ pub record Guaranteed (sheet : List ℕ) (calls : List Call) : Type 0 where
   pub capacity : Capacity (tasksFor sheet) (sharesFor sheet) (after (modelFor sheet) calls)
   -- S10.9: while each high job keeps the nominal budget, with true reports, the mode stays typical and no tick says that it switched.
   pub nominal : Nominal (tasksFor sheet) (sharesFor sheet) calls
+  -- S10.11: a job of a kept low task that keeps its budget, with true reports, has ended with its D-th tick.
+  pub kept : KeptDeadline (tasksFor sheet) (sharesFor sheet) calls
 
 -- S10.1: it holds of every sheet that Start accepts and of every list of calls, whatever their arguments and answers.
 unfoldable pub Guarantee : Type 0

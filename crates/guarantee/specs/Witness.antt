@@ -1,24 +1,26 @@
 -- What the deadline (S10.7), the nominal clause (S10.9) and the clause of low jobs (S10.10) ask can be met: one sheet, and a run for
--- each of the three clauses.
+-- each of the three clauses. So can what the clause of kept tasks (S10.11) asks, by a sheet and a run of its own.
 use Prim.Native.Nat.{ℕ}
 use mathlib.Core.Bool.{true, Bool}
 use mathlib.Core.List.{List, [], _∷_, _++_}
 use mathlib.Core.Path.{_≡_}
-use lib.ListN.{getD}
+use lib.ListN.{getD, take}
 use Rattle.sheet.specs.declared.answer.Answer.the-variants.{Accepted, Refused}
 use Rattle.sheet.specs.declared.task.Budget.{Budget}
 use Rattle.sheet.specs.declared.task.Task.{Task}
 use Rattle.sheet.specs.declared.task.TaskSet.{TaskSet}
 use Rattle.sheet.specs.Format.{taskIn}
 use Rattle.sheet.specs.Level.{isHigh, isLow}
-use Rattle.model.specs.Step.{Model, Call, release, tick}
+use Rattle.shares.specs.Low.{isKept}
+use Rattle.shares.specs.Totals.{shareAt}
+use Rattle.model.specs.Step.{Model, Call, release, tick, rowAt}
 use Rattle.model.specs.Run.{after, isAccepted, releasesIn, TrueReports}
 use Rattle.model.specs.Claim.{ReleaseIn, begun, KeepsBudget, DeadlinePassed, NominalJob}
 use Rattle.model.specs.Beside.{TypicalUntil}
 use Rattle.dispatcher.specs.declared.tick.TickAnswer.the-variants.{Ran, Switched, Refused as TickRefused}
 use Rattle.start.specs.Start.{startOf}
 use Rattle.guarantee.specs.Runs.{Said, released, ticked, allSaid}
-use Rattle.guarantee.specs.Guarantee.{modelFor, startState, tasksFor}
+use Rattle.guarantee.specs.Guarantee.{sharesFor, modelFor, startState, tasksFor}
 
 -- S2.6: the record of task 0. It is high, with D 8, CN 4, CO 9, LN 2, LO 3 and four nodes; node 2 waits for node 1, the others for
 -- none. Its shares are (1, 2), and its V is 4.
@@ -111,7 +113,55 @@ usual =
 abbrev pub lowAlone : List Call
 lowAlone = release 1 ∷ tick (0 ∷ 3 ∷ []) ∷ tick (0 ∷ 0 ∷ []) ∷ tick (0 ∷ 0 ∷ []) ∷ []
 
--- S10.7, S10.10: what is asked of a job of task i in a run for it to end in time, at a level and under a budget.
+-- S2.6: the record of a low task, with D 4, C 6, L 2 and three nodes that wait for none. Its share is 2.
+abbrev pub keptRecord : List ℕ
+keptRecord =
+    0 ∷ 3 ∷ 4 ∷ 0 ∷ 6 ∷ 0 ∷ 6 ∷ 0 ∷ 2 ∷ 0 ∷ 2 ∷ 0 ∷ 0 ∷ 0 ∷ 0 ∷ 0 ∷ 0 ∷ 0 ∷ 0 ∷ 0 ∷ 0 ∷ 0 ∷ 0 ∷ 0 ∷ []
+
+-- S2.1 to S2.4: the sheet of task 0 above and of this one on four processors, in 62 bytes. In the critical mode task 0 leaves two
+-- processors over, and task 1 is kept on them (S5.6).
+abbrev pub oneKept : List ℕ
+oneKept = 4 ∷ 2 ∷ 10 ∷ 0 ∷ 28 ∷ 0 ∷ 38 ∷ 0 ∷ 24 ∷ 0 ∷ (highRecord ++ keptRecord)
+
+-- S2.5: task 1 of that sheet.
+abbrev pub keptTask : Task
+keptTask = taskIn (tasksFor oneKept) 1
+
+-- S10.6: lengths of its nodes that use up its budget: together 6, and 2 along each chain, which is a node alone.
+abbrev pub keptLengths : ℕ → ℕ
+keptLengths v = 2
+
+-- S10.1: a run with a high job of the long lengths, and two ticks later a job of the kept task. Nodes 0 and 1 of the kept job end with
+-- its second tick, which switches; node 2 ends with its fourth, which is the D-th. The high job ends one tick later.
+abbrev pub overSwitch : List Call
+overSwitch =
+    release 0
+    ∷ tick (0 ∷ 0 ∷ [])
+    ∷ tick (0 ∷ 0 ∷ [])
+    ∷ release 1
+    ∷ tick (1 ∷ 0 ∷ [])
+    ∷ tick (0 ∷ 3 ∷ [])
+    ∷ tick (2 ∷ 0 ∷ [])
+    ∷ tick (4 ∷ 4 ∷ [])
+    ∷ tick (8 ∷ 0 ∷ [])
+    ∷ []
+
+-- S3.1, S8.7, S9.12: what the calls of that run answer, and then a Release of the kept task in the critical mode.
+abbrev pub overSwitchSaid : List Said
+overSwitchSaid =
+    released Accepted
+    ∷ ticked Ran
+    ∷ ticked Ran
+    ∷ released Accepted
+    ∷ ticked Ran
+    ∷ ticked (Switched 0)
+    ∷ ticked Ran
+    ∷ ticked Ran
+    ∷ ticked Ran
+    ∷ released Accepted
+    ∷ []
+
+-- S10.7, S10.10, S10.11: what is asked of a job of task i in a run for it to end in time, at a level and under a budget.
 pub record InTimeAsked (isSuch : ℕ → Bool) (budget : Budget) (start : Model) (t : Task) (i : ℕ) (calls : List Call) (lengths : ℕ → ℕ) : Type 0 where
   pub job : ReleaseIn start i calls
   pub level-is : isSuch (t .level) ≡ true
@@ -156,3 +206,16 @@ pub record LowMet : Type 0 where
   pub typical : TypicalUntil (lowTask .figures .deadline) (begun (asked .job)) (asked .job .since)
   -- The task can be released again.
   pub again : isAccepted (after (modelFor twoTasks) lowAlone) (release 1) ≡ true
+
+-- S10.11 is met by a job of a kept low task that is released in the typical mode and goes on over the switch.
+pub record KeptMet : Type 0 where
+  -- Start accepts the sheet.
+  pub started : startOf oneKept .answer ≡ Accepted
+  -- The run switches, and at its end the kept task can be released again.
+  pub said : allSaid (startState oneKept) (overSwitch ++ release 1 ∷ []) ≡ overSwitchSaid
+  -- Just before its D-th tick, in the critical mode, the job is alive.
+  pub critical : after (modelFor oneKept) (take 7 overSwitch) .critical ≡ true
+  pub alive : rowAt (after (modelFor oneKept) (take 7 overSwitch)) 1 .job .alive ≡ true
+  -- All that the clause asks holds of it.
+  pub asked : InTimeAsked (λ level. isKept level (shareAt (sharesFor oneKept) 1)) (keptTask .figures .nominal)
+      (modelFor oneKept) keptTask 1 overSwitch keptLengths
