@@ -3,12 +3,13 @@
 
     simulate.py TEXT [--task I] --shares A [B] --lengths N ...
 
-TEXT is a sheet as text (see sheet.py), A and B are the task's typical and critical share as the plan gives them, and
-there is one length in ticks for each node. The job is released at tick 0. On every tick the lowest-numbered ready nodes
-run, as many as the share allows. A high job that is alive at its virtual deadline turns the state critical.
+TEXT is a sheet as text (see sheet.py), A and B are the task's typical and critical share as the plan gives them (a low
+task that is not kept has A alone), and there is one length in ticks for each node. The job is released at tick 0. On
+every tick the lowest-numbered ready nodes run, as many as the share allows. A high job that is alive at its virtual
+deadline turns the state critical. There a job with the share B goes on, and one without it is dropped.
 
     --virtual-deadline V   another virtual deadline than the plan's, nominal span + (work - span) / A rounded down
-    --switch-after T       another task turns the state critical with tick T of this job (0: before its first)
+    --switch-after T       another task turns the state critical with tick T of this job (0: before its release)
     --switch-each          one line for every such T that this job leaves open
 
 An illustration for the host. It is no part of the image, and nothing is proved of it.
@@ -37,6 +38,7 @@ class Tick:
 class Run:
     ticks: list
     dropped: bool
+    critically: bool  # whether the state was critical at the release
 
     @property
     def switch(self):
@@ -65,12 +67,12 @@ def mask_of(nodes):
 
 
 def simulate(task, shares, lengths, virtual, switch_after=None):
-    """Runs the job to its end; a low job without a critical share is dropped where the state turns critical."""
+    """Runs the job to its end; a job without a critical share is dropped where the state turns critical."""
     left, ended, ticks = list(lengths), set(), []
-    critical = switch_after == 0
+    critical = critically = switch_after == 0
     while len(ended) < len(left):
-        if critical and not task.level:
-            return Run(ticks, True)
+        if critical and len(shares) == 1:
+            return Run(ticks, True, critically)
         running = running_nodes(task, ended, shares[critical])
         for node in running:
             left[node] -= 1
@@ -81,14 +83,24 @@ def simulate(task, shares, lengths, virtual, switch_after=None):
         switched = not critical and bool(overrun or age == switch_after)
         ticks.append(Tick(critical, running, now, switched))
         critical = critical or switched
-    return Run(ticks, False)
+    return Run(ticks, False, critically)
 
 
 def verdict(task, run):
     if run.dropped:
-        return f"dropped after tick {len(run.ticks)}"
+        return "not released, refusal 12" if run.critically else f"dropped after tick {len(run.ticks)}"
     late = "" if len(run.ticks) <= task.deadline else ", too late"
     return f"ended after tick {len(run.ticks)}, deadline {task.deadline}{late}"
+
+
+def met(task, run):
+    """How the job met the critical state. A low job that was alive at the switch and went on is a kept one."""
+    if run.critically:
+        return "critical from the start"
+    if run.switch is None:
+        return "no switch"
+    kept = not task.level and run.switch < len(run.ticks)
+    return f"kept over the switch after tick {run.switch}" if kept else f"switched after tick {run.switch}"
 
 
 def budget(task, lengths):
@@ -109,8 +121,7 @@ def show_run(task, run):
         rows.append((str(number), state, *lists, "switched" if tick.switched else ""))
     widths = [max(len(row[column]) for row in rows) for column in range(5)]
     lines = ["  ".join(cell.ljust(width) for cell, width in zip(row, widths)).rstrip() for row in rows]
-    switch = "no switch" if run.switch is None else f"switched after tick {run.switch}"
-    console.put("\n".join([*lines, f"{verdict(task, run)}, {switch}\n"]))
+    console.put("\n".join([*(lines if run.ticks else ()), f"{verdict(task, run)}, {met(task, run)}\n"]))
 
 
 def show_each(task, shares, lengths, virtual):
@@ -144,10 +155,13 @@ def chosen_task(parser, options):
     if not 0 <= options.task < len(sheet.tasks):
         parser.error(f"--task: expected a number below {len(sheet.tasks)}, the tasks, got {options.task}")
     task = sheet.tasks[options.task]
-    expected = 1 + task.level
-    if len(options.shares) != expected:
-        level = "high" if task.level else "low"
-        parser.error(f"--shares: expected {expected} for a {level} task, got {len(options.shares)}")
+    count = len(options.shares)
+    if task.level and count != 2:
+        parser.error(f"--shares: expected 2 for a high task, got {count}")
+    if not task.level and count > 2:
+        parser.error(f"--shares: expected 1 for a low task, 2 for one that is kept, got {count}")
+    if not task.level and len(set(options.shares)) > 1:
+        parser.error("--shares: expected the same share twice for a low task that is kept")
     if len(options.lengths) != len(task.predecessors):
         nodes = len(task.predecessors)
         parser.error(f"--lengths: expected {nodes}, one for each node, got {len(options.lengths)}")

@@ -1,4 +1,4 @@
-"""Tests of simulate.py: case 13, the four runs of the examples, two bounds over random jobs, and arguments."""
+"""Tests of simulate.py: case 13, the runs of the examples, bounds over random jobs, what it says, and arguments."""
 
 import contextlib
 import io
@@ -58,9 +58,27 @@ class Examples(unittest.TestCase):
         ends = [run_of(task, (3, 4), lengths, switch_after=after)[0] for after in range(7)]
         self.assertEqual(ends, [51, 50, 49, 48, 47, 48, 49])
 
-    def test_a_low_job_is_dropped(self):
-        run = simulate.simulate(example("early-end"), (3,), (2, 1, 2, 1, 3, 4), 0, 2)
-        self.assertEqual((len(run.ticks), run.dropped), (2, True))
+    def test_a_low_job_that_is_not_kept_is_dropped(self):
+        camera = example("shuttle-lamp", 2)
+        for after in range(12):
+            run = simulate.simulate(camera, (4,), (4,) * 12, 0, after)
+            self.assertEqual((len(run.ticks), run.dropped, run.critically), (after, True, after == 0))
+
+    def test_a_low_job_that_is_kept_takes_no_notice_of_the_switch(self):
+        lamp, lengths = example("shuttle-lamp", 1), (4,) * 6
+        alone = simulate.simulate(lamp, (2, 2), lengths, 0)
+        self.assertEqual(len(alone.ticks), 16)
+        for after in range(18):
+            run = simulate.simulate(lamp, (2, 2), lengths, 0, after)
+            self.assertFalse(run.dropped)
+            self.assertEqual([tick.running for tick in run.ticks], [tick.running for tick in alone.ticks])
+            self.assertEqual([tick.critical for tick in run.ticks], [number > after for number in range(1, 17)])
+
+    def test_the_loom_of_the_shuttle_lamp(self):
+        brake = example("shuttle-lamp")
+        self.assertEqual(simulate.virtual_deadline(brake, 2), 8)
+        self.assertEqual(run_of(brake, (2, 5), (1, 2, 2, 2, 2, 2, 1))[1], None)
+        self.assertEqual(run_of(brake, (2, 5), (2, 9, 9, 9, 9, 9, 1)), (18, 8))
 
 
 class Bounds(unittest.TestCase):
@@ -89,11 +107,24 @@ class Bounds(unittest.TestCase):
             for after in range(simulate.virtual_deadline(task, a) + 1):
                 self.assertLessEqual(run_of(task, (a, b), lengths, switch_after=after)[0], task.deadline)
 
+    def test_a_kept_job_within_its_budget_ends_by_its_deadline_at_whatever_tick_the_switch_comes(self):
+        rng = random.Random(5)
+        for _ in range(300):
+            masks, lengths, work, span = random_job(rng)
+            share = rng.randrange(1, 5)
+            deadline = span - (span - work) // share  # the least with this share (S4.1)
+            task = sheets.Task("", 0, masks, deadline, work, work, span, span)
+            for after in range(deadline + 1):
+                self.assertLessEqual(run_of(task, (share, share), lengths, switch_after=after)[0], deadline)
+
 
 class Program(unittest.TestCase):
-    def refuse(self, message, *arguments):
-        command = [sys.executable, HERE / "simulate.py", HERE.parent / "examples" / "neighbour.sheet", *arguments]
-        done = subprocess.run(command, capture_output=True, text=True, check=False)
+    def ran(self, name, *arguments):
+        command = [sys.executable, HERE / "simulate.py", HERE.parent / "examples" / f"{name}.sheet", *arguments]
+        return subprocess.run(command, capture_output=True, text=True, check=False)
+
+    def refuse(self, message, *arguments, name="neighbour"):
+        done = self.ran(name, *arguments)
         self.assertEqual((done.returncode, done.stdout), (2, ""))
         self.assertIn(message, done.stderr)
 
@@ -101,6 +132,38 @@ class Program(unittest.TestCase):
         self.refuse("--task: expected a number below 2", "--task", "2", "--shares", "1", "--lengths", "1")
         self.refuse("--shares: expected 2", "--shares", "1", "--lengths", "1")
         self.refuse("--lengths: expected 7", "--task", "1", "--shares", "3", "4", "--lengths", "1")
+
+    def test_shares_that_no_low_task_has(self):
+        lamp = ("--task", "1", "--lengths", *"444444", "--shares")
+        self.refuse("--shares: expected 1 for a low task", *lamp, "2", "2", "2", name="shuttle-lamp")
+        self.refuse("--shares: expected the same share twice", *lamp, "2", "3", name="shuttle-lamp")
+
+    def test_what_is_said_of_a_switch(self):
+        lamp = ("--task", "1", "--lengths", *"444444", "--shares", "2", "2")
+        camera = ("--task", "2", "--lengths", *"444444444444", "--shares", "4")
+        brake = ("--lengths", *"2999991", "--shares", "2", "5")
+        for task, after, said in (
+            (lamp, "8", "ended after tick 16, deadline 18, kept over the switch after tick 8"),
+            (lamp, "15", "ended after tick 16, deadline 18, kept over the switch after tick 15"),
+            (lamp, "16", "ended after tick 16, deadline 18, switched after tick 16"),
+            (lamp, "17", "ended after tick 16, deadline 18, no switch"),
+            (lamp, "0", "ended after tick 16, deadline 18, critical from the start"),
+            (camera, "8", "dropped after tick 8, switched after tick 8"),
+            (camera, "12", "ended after tick 12, deadline 16, switched after tick 12"),
+            (camera, "0", "not released, refusal 12, critical from the start"),
+            (brake, "3", "ended after tick 13, deadline 24, switched after tick 3"),
+            (brake, "0", "ended after tick 12, deadline 24, critical from the start"),
+        ):
+            done = self.ran("shuttle-lamp", *task, "--switch-after", after)
+            self.assertEqual((done.returncode, done.stderr), (0, ""))
+            self.assertEqual(done.stdout.splitlines()[-1], said)
+
+    def test_each_switch_of_a_low_task(self):
+        done = self.ran("shuttle-lamp", "--task", "2", "--lengths", *"444444444444", "--shares", "4", "--switch-each")
+        first, *dropped, last = done.stdout.splitlines()[1:]
+        self.assertEqual(first, "switch after tick 0: not released, refusal 12")
+        self.assertEqual(dropped, [f"switch after tick {t}: dropped after tick {t}" for t in range(1, 12)])
+        self.assertEqual(last, "no switch: ended after tick 12, deadline 16")
 
     def test_arguments_out_of_range(self):
         huge = "9" * 6000
