@@ -409,7 +409,9 @@ def faults(sheet):
 
 @dataclass
 class Entry:
-    """A line of the printer's plan: a task, its first processor and how many, in both states, its virtual deadline."""
+    """A line of the printer's plan: a task, its first processor and how many, in both states, its virtual deadline.
+
+    In the critical state a low task that is kept has as many as in the typical one, any other low task has none."""
 
     task: int
     typical: int

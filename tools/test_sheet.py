@@ -1,7 +1,9 @@
-"""Tests of sheet.py: the bytes of the cases, both ways round, each error and warning with its line, and the plan."""
+"""Tests of sheet.py: the bytes of the cases, both ways round, each error and warning with its line, and the plan with
+its kept tasks."""
 
 import contextlib
 import io
+import itertools
 import pathlib
 import random
 import shutil
@@ -57,6 +59,33 @@ def random_bytes(rng):
         directory += place.to_bytes(2, "little") + len(part).to_bytes(2, "little")
         place += len(part)
     return bytes([rng.randrange(256), len(records)]) + directory + b"".join(records)
+
+
+def random_loom(rng):
+    """Low tasks with shares of 2 to 4, and high ones that take more in the critical state, on few processors."""
+    sheet = sheets.Sheet(rng.randrange(3), [])
+    for _ in range(rng.randrange(2, 9)):
+        if rng.random() < 0.4:
+            share, figures = rng.choice(((1, (45, 9, 52, 4, 20)), (2, (24, 12, 48, 4, 12))))
+            sheet.tasks.append(sheets.Task("", 1, [0], *figures))
+        else:
+            share, span = rng.randrange(2, 5), rng.randrange(1, 9)
+            work = span + 12 * share - rng.randrange(12)
+            sheet.tasks.append(sheets.Task("", 0, [0], span + 12, work, work, span, span))
+        sheet.processors += share
+    return sheet
+
+
+def with_kept(sheet, entries):
+    """Each task's block in the critical state, by S5.6 and S5.4: high tasks as planned, low ones by all sets of them."""
+    low = [entry.task for entry in entries if not sheet.tasks[entry.task].level]
+    lengths = [0 if entry.task in low else entry.critically for entry in entries]
+    takes = [entry.typically for entry in entries]
+    sets = [kept for count in range(len(low) + 1) for kept in itertools.combinations(low, count)]
+    room = [kept for kept in sets if sum(lengths) + sum(takes[i] for i in kept) <= sheet.processors]
+    for task in min(room, key=lambda kept: (-len(kept), sum(takes[i] for i in kept), kept)):
+        lengths[task] = takes[task]
+    return list(zip(itertools.accumulate([0, *lengths]), lengths))
 
 
 def edited(old, new):
@@ -341,6 +370,33 @@ class Plan(unittest.TestCase):
         for data, names in ((text, ("0 A ", "1 B ", "2 E ")), (CASE_14, ("0   ", "1   ", "2   "))):
             lines = ["task  typical  critical  virtual deadline", *(r.format(n) for r, n in zip(rows, names))]
             self.assertEqual(tool("plan", "-", data=data), (0, ("\n".join(lines) + "\n").encode(), ""))
+
+    def test_a_low_task_that_is_kept_and_one_that_is_not(self):
+        text = (HERE.parent / "examples" / "shuttle-lamp.sheet").read_bytes()
+        for processors, rows in (
+            (8, ["0-1 (2)  0-4 (5)   8", "2-3 (2)  5-6 (2)   none", "4-7 (4)  none      none"]),
+            (9, ["0-2 (3)  0-2 (3)   6", "3-4 (2)  3-4 (2)   none", "5-8 (4)  5-8 (4)   none"]),
+        ):
+            data = text.replace(b"processors 8", b"processors %d" % processors)
+            status, output, errors = tool("plan", "-", data=data)
+            self.assertEqual((status, errors), (0, ""))
+            self.assertEqual([line[16:] for line in output.decode().splitlines()[1:]], rows)
+
+    def planned(self, sheet):
+        """Whether the sheet is planned; in the critical state it then has the high tasks and the kept low ones."""
+        entries, _, _ = sheets.answer_of(sheets.printed(sheets.encode(sheet)), len(sheet.tasks))
+        if entries:
+            blocks = [(entry.critical, entry.critically) for entry in entries]
+            self.assertEqual(blocks, with_kept(sheet, entries), sheets.render(sheet))
+        return entries is not None
+
+    def test_the_kept_tasks_are_the_first_of_all_sets(self):
+        for path in EXAMPLES:
+            sheet = sheets.parse(path.read_bytes())
+            for sheet.processors in range(1, 17):
+                self.planned(sheet)
+        rng = random.Random(6)
+        self.assertGreaterEqual(sum(self.planned(random_loom(rng)) for _ in range(300)), 150)
 
     def test_the_folder_it_is_run_from_plays_no_part(self):
         command = [sys.executable, HERE / "sheet.py", "plan", "-"]
