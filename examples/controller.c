@@ -59,7 +59,7 @@ static long read_sheet(const char *name, uint8_t *bytes) {
     return (long)length;
 }
 
-/* Releases a task if it is due (else 13), and if it is not a low one while the mode is critical (12). */
+/* Releases a task if it is due (else 13); in critical mode a low task that is not kept rests (12). */
 static int release(unsigned tick, unsigned task) {
     uint32_t answer = dibwunek_release(state, DIBWUNEK_STATE_WORDS, task);
     unsigned v;
@@ -96,7 +96,7 @@ static int run(uint32_t *reports) {
     return 0;
 }
 
-/* Tells the dispatcher that a tick has passed, and says what came of it. */
+/* Tells the dispatcher that a tick has passed, and says what came of it: a switch drops the low jobs that are not kept. */
 static int pass(unsigned tick, const uint32_t *reports) {
     unsigned count = state[DIBWUNEK_COUNT], task;
     uint32_t alive[DIBWUNEK_ENTRIES], answer;

@@ -9,7 +9,7 @@
  *    1  the sheet's header                    9  the buffer is too short for the plan
  *    2  the sheet's directory                10  the state is not sound
  *    3  level, k or length of a record       11  there is no task of this number
- *    4  the figures of a record              12  the task is low and the mode is critical
+ *    4  the figures of a record              12  the task is low and not kept, and the mode is critical
  *    5  a mask of a record                   13  the task's job is alive, or came less than D ticks ago
  *    6  the task is not heavy                14  there are not as many reports as tasks
  *    7  the task has no share                15  a report names a node that is not running
@@ -34,7 +34,8 @@ extern "C" {
 
 /*
  * The words of a state (S13.1): M, n, the mode (0 typical, 1 critical), then for each of 16 entries level, k, 32 masks, D, V,
- * typical share, critical share, age, ended set, alive (0 or 1).
+ * typical share, critical share, age, ended set, alive (0 or 1). A low task is kept in critical mode if its critical share is not 0
+ * (S7.4).
  */
 #define DIBWUNEK_ENTRIES 16
 #define DIBWUNEK_ENTRY_WORDS 41
@@ -90,18 +91,19 @@ uint32_t dibwunek_plan(const uint8_t *sheet, size_t sheet_length, uint8_t *buffe
  */
 uint32_t dibwunek_start(const uint8_t *sheet, size_t sheet_length, uint32_t *state, size_t state_length);
 
-/* Release (S8.4): begins a job of a task. Numbers 10 to 13, 100. */
+/* Release (S8.4): begins a job of a task. In critical mode a low task is refused with 12 unless it is kept. Numbers 10 to 13, 100. */
 uint32_t dibwunek_release(uint32_t *state, size_t state_length, size_t task);
 
 /*
  * Tick (S8.5, S8.6): one tick has passed. There is a report for each task: the set of its nodes that ended with this tick, of those
- * that ran. Numbers 10, 14, 15, 100.
+ * that ran. A tick that turns the mode critical drops the jobs of low tasks that are not kept: they are not alive, and not all of
+ * their nodes have ended. High jobs and kept ones go on. Numbers 10, 14, 15, 100.
  */
 uint32_t dibwunek_tick(uint32_t *state, size_t state_length, const uint32_t *reports, size_t report_count);
 
 /*
- * Board (S8.8): writes M pairs of bytes, task and node, one for each processor: what runs until the next tick. The buffer has just
- * 2 M bytes. Numbers 10, 16, 100.
+ * Board (S8.8): writes M pairs of bytes, task and node, one for each processor: what runs until the next tick. A job may stand on
+ * other processors once the mode has turned critical. The buffer has just 2 M bytes. Numbers 10, 16, 100.
  */
 uint32_t dibwunek_board(const uint32_t *state, size_t state_length, uint8_t *buffer, size_t buffer_length);
 

@@ -1,5 +1,5 @@
 """Tests of the header and of examples/controller.c: it compiles without a warning and links, prints what happens on the worked
-sheet, and says what is wrong with any other input."""
+sheet, lets a kept job go on and a dropped one rest, and says what is wrong with any other input."""
 
 import pathlib
 import subprocess
@@ -12,12 +12,14 @@ FLAGS = ["-std=c99", "-Wall", "-Wextra", "-Werror", "-pedantic", "-Iinclude"]
 
 PRINTED = """\
 task 0: shares 2 and 2, virtual deadline 11
-task 1: shares 2 and 0, virtual deadline 0
+task 1: shares 2 and 2, virtual deadline 0
 tick  0: task 0 is released
 tick  0: task 1 is released
 tick  8: task 1 has ended
 tick 11: the mode turns critical because of task 0
 tick 16: task 0 has ended
+tick 20: task 1 is released
+tick 28: task 1 has ended
 tick 36: task 0 is released
 tick 40: the mode is critical
 """
@@ -60,11 +62,19 @@ class Controller(unittest.TestCase):
         done = ran(self.program, self.sheet("worked.bin"), text=True)
         self.assertEqual((done.returncode, done.stdout, done.stderr), (0, PRINTED, ""))
 
-    def test_a_low_job_that_is_dropped(self):
+    def test_a_low_job_that_is_kept(self):
         sheet = self.sheet("slow.bin", lambda text: text.replace("nodes 3", "nodes 6"))
         done = ran(self.program, sheet, text=True)
         self.assertEqual((done.returncode, done.stderr), (0, ""))
-        self.assertIn("tick 11: the mode turns critical because of task 0\ntick 11: task 1 is dropped\n", done.stdout)
+        self.assertIn("tick 11: the mode turns critical because of task 0\ntick 12: task 1 has ended\n", done.stdout)
+        self.assertIn("tick 20: task 1 is released\ntick 32: task 1 has ended\n", done.stdout)
+
+    def test_a_low_job_that_is_dropped(self):
+        change = lambda text: text.replace("processors 4", "processors 3").replace("nodes 3", "nodes 8")
+        done = ran(self.program, self.sheet("dropped.bin", change), text=True)
+        self.assertEqual((done.returncode, done.stderr), (0, ""))
+        self.assertIn("tick 15: the mode turns critical because of task 0\ntick 15: task 1 is dropped\n", done.stdout)
+        self.assertEqual(done.stdout.count("task 1 is released"), 1)
 
     def test_a_missing_file(self):
         self.refuses(["no/such/file"], 1, "controller: no/such/file: No such file or directory\n")
