@@ -1,8 +1,9 @@
 //! A planner by S4, S5, S6 and refusals 7 to 9 of the specification.
-//! It keeps whole choices, one for each pair of totals that the tasks so far can reach, and shares nothing with the
-//! proved planner: neither code nor method.
+//! It holds whole choices, one for each pair of totals that the tasks so far can reach, and looks at every set of low
+//! tasks to find the one that is kept. It shares nothing with the proved planner: neither code nor method.
 use crate::reference::answers::{Cause, Refusal, Reply};
 use crate::reference::reader::{self, Figures, Level, Sheet, Task};
+use std::cmp::Reverse;
 
 /// A task's share in each state.
 #[derive(Clone, Copy, Debug, PartialEq, Eq, PartialOrd, Ord)]
@@ -25,24 +26,78 @@ pub struct Plan {
     pub tasks: Vec<Planned>,
     /// The fitting choices whose totals are those of the chosen one, it counted.
     pub ties: u64,
+    /// The processors that the high tasks leave over in the critical state.
+    pub left: usize,
 }
 
 /// The bytes that the printer takes as the sheet.
 pub const PRINTER_INPUT: usize = 4_096;
 
-/// Plans what was read: refusal 7 over the tasks, then 8.
+/// Plans what was read: refusal 7 over the tasks, then 8. A kept task's critical share is its typical one.
 pub fn plan(sheet: &Sheet) -> Result<Plan, Refusal> {
+    let mut choice = chosen(sheet)?;
+    let left = usize::from(sheet.processors) - choice.critical;
+    for task in kept(&low_shares(sheet, &choice), left) {
+        choice.pairs[task].critical = choice.pairs[task].typical;
+    }
+    let planned =
+        |(task, &shares): (&Task, &Pair)| Planned { shares, virtual_deadline: virtual_deadline(task, shares.typical) };
+    let tasks = sheet.tasks.iter().zip(&choice.pairs).map(planned).collect();
+    Ok(Plan { tasks, ties: choice.ways, left })
+}
+
+/// The choice that comes first of all that fit. Its critical total is that of the high tasks: a low one's pair has 0.
+fn chosen(sheet: &Sheet) -> Result<Choice, Refusal> {
     let most = usize::from(sheet.processors);
     let options: Vec<Vec<Pair>> = sheet.tasks.iter().map(|task| options(task, most)).collect();
     if let Some(task) = options.iter().position(Vec::is_empty) {
         return Err(Refusal::of(Cause::NoShare, task));
     }
     // The choices stand in the order of their pairs: of two with the same totals the first would be taken.
-    let chosen = fitting(&options, most).into_iter().min_by_key(|choice| (choice.critical, choice.typical));
-    let Some(chosen) = chosen else { return Err(Refusal::whole(Cause::NoFit)) };
-    let planned =
-        |(task, &shares): (&Task, &Pair)| Planned { shares, virtual_deadline: virtual_deadline(task, shares.typical) };
-    Ok(Plan { tasks: sheet.tasks.iter().zip(&chosen.pairs).map(planned).collect(), ties: chosen.ways })
+    let first = fitting(&options, most).into_iter().min_by_key(|choice| (choice.critical, choice.typical));
+    first.ok_or(Refusal::whole(Cause::NoFit))
+}
+
+/// A low task, by its number, and its typical share.
+#[derive(Clone, Copy, Debug)]
+struct LowShare {
+    task: usize,
+    share: usize,
+}
+
+fn low_shares(sheet: &Sheet, choice: &Choice) -> Vec<LowShare> {
+    let of_task = |(task, pair): (usize, &Pair)| LowShare { task, share: pair.typical };
+    let is_low = |low: &LowShare| sheet.tasks[low.task].level == Level::Low;
+    choice.pairs.iter().enumerate().map(of_task).filter(is_low).collect()
+}
+
+/// The kept tasks, in the order of their numbers: of all sets of low tasks whose shares total at most what is left over,
+/// the one with the most tasks, then the one with the fewest processors, then the one whose list of numbers comes first.
+fn kept(low: &[LowShare], left: usize) -> Vec<usize> {
+    // Bit i of a set says that the i-th low task is in it.
+    let members = |set: usize| low.iter().enumerate().filter(move |(i, _)| set >> i & 1 == 1).map(|(_, low)| low.task);
+    let totals = totals(low);
+    let order = |set: &usize| (Reverse(set.count_ones()), totals[*set]);
+    let fitting = (0..totals.len()).filter(|&set| totals[set] <= left);
+    let first =
+        fitting.min_by(|one, other| order(one).cmp(&order(other)).then_with(|| members(*one).cmp(members(*other))));
+    members(first.unwrap_or(0)).collect()
+}
+
+/// The processors of each set of low tasks. Each task doubles the sets: first those without it, then the same with it.
+fn totals(low: &[LowShare]) -> Vec<usize> {
+    let mut totals = vec![0];
+    for low in low {
+        totals.extend_from_within(..);
+        let half = totals.len() / 2;
+        totals[half..].iter_mut().for_each(|total| *total += low.share);
+    }
+    totals
+}
+
+/// Whether a sheet is planned.
+pub fn is_planned(sheet: &Sheet) -> bool {
+    chosen(sheet).is_ok()
 }
 
 /// Reads and plans a sheet.
@@ -306,11 +361,11 @@ mod tests {
     #[test]
     fn a_low_task_needs_room_for_its_span() {
         let with = |d, l| low(Figures { d, cn: 66, co: 66, ln: l, lo: l });
-        assert_eq!(planned(64, &[with(18, 17)]), Ok(vec![0, 49, 0, 0, 0, 0]));
+        assert_eq!(planned(64, &[with(18, 17)]), Ok(vec![0, 49, 0, 49, 0, 0]));
         for task in [with(18, 18), with(18, 19)] {
             assert_eq!(planned(64, &[high(A), task]), Err(Refusal::of(Cause::NoShare, 1)));
         }
-        assert_eq!(planned(49, &[with(18, 17)]), Ok(vec![0, 49, 0, 0, 0, 0]));
+        assert_eq!(planned(49, &[with(18, 17)]), Ok(vec![0, 49, 0, 49, 0, 0]));
         assert_eq!(planned(48, &[with(18, 17)]), Err(Refusal::of(Cause::NoShare, 0)));
     }
 
@@ -332,12 +387,11 @@ mod tests {
                 continue;
             }
             let naive = naive(&sheet);
-            match plan(&sheet) {
-                Ok(plan) => {
-                    let pairs: Vec<Pair> = plan.tasks.iter().map(|task| task.shares).collect();
-                    assert_eq!(naive, Some((pairs, plan.ties)), "{sheet:?}");
+            match super::chosen(&sheet) {
+                Ok(choice) => {
+                    assert_eq!(naive, Some((choice.pairs, choice.ways)), "{sheet:?}");
                     chosen += 1;
-                    tied += (plan.ties > 1) as usize;
+                    tied += (choice.ways > 1) as usize;
                 }
                 Err(refusal) => {
                     assert_eq!(naive, None, "{sheet:?}");
@@ -347,6 +401,53 @@ mod tests {
         }
         println!("naive planner: {chosen} chosen, {tied} of them among ties, {unfit} without a fitting choice");
         assert!(chosen >= 1_000 && tied >= 200 && unfit >= 500);
+    }
+
+    fn kept_of(shares: &[usize], left: usize) -> Vec<usize> {
+        let low: Vec<LowShare> = shares.iter().enumerate().map(|(task, &share)| LowShare { task, share }).collect();
+        kept(&low, left)
+    }
+
+    #[test]
+    fn the_kept_set_has_most_tasks_then_fewest_processors_then_the_first_numbers() {
+        assert_eq!(kept_of(&[], 5), []);
+        assert_eq!(kept_of(&[3, 2], 1), []);
+        assert_eq!(kept_of(&[5, 2, 3], 5), [1, 2], "two tasks come before one");
+        assert_eq!(kept_of(&[4, 3, 2], 4), [2], "two processors come before four");
+        assert_eq!(kept_of(&[2, 2, 2], 5), [0, 1], "0 1 comes before 0 2");
+        assert_eq!(kept_of(&[3, 2, 3, 2, 3], 7), [0, 1, 3]);
+        assert_eq!(kept_of(&[3, 2, 3, 2, 3], 10), [0, 1, 2, 3]);
+        assert_eq!(kept_of(&[4, 2, 3], 9), [0, 1, 2]);
+        assert_eq!(kept_of(&[2; 16], 15), [0, 1, 2, 3, 4, 5, 6]);
+    }
+
+    #[test]
+    fn a_kept_task_has_its_typical_share_in_both_states() {
+        let f = low(Figures { cn: 30, co: 30, ..E });
+        let (a, e) = (high(A), low(E));
+        let two = [a.clone(), e.clone()];
+        assert_eq!(planned(8, &two), Ok(vec![0, 1, 1, 5, 0, 2, 2, 5, 9, 0, 0, 0]), "6 are left over");
+        assert_eq!(planned(7, &two), Ok(vec![0, 1, 1, 5, 0, 2, 2, 5, 9, 0, 0, 0]), "just 5");
+        assert_eq!(planned(6, &two), Ok(vec![0, 1, 1, 5, 0, 2, 2, 0, 9, 0, 0, 0]), "4");
+        let three = vec![0, 5, 5, 1, 6, 2, 0, 0, 0, 2, 2, 2, 0, 0, 9, 0, 0, 0];
+        assert_eq!(planned(8, &[e, a, f]), Ok(three), "of 5 and 2 processors the 2");
+    }
+
+    #[test]
+    fn the_kept_tasks_are_the_cheapest() {
+        let mut random = Random::of_test("kept sets");
+        for _ in 0..3_000 {
+            let widest = random.within(2..=8);
+            let shares: Vec<usize> = (0..random.within(0..=10)).map(|_| random.within(2..=widest)).collect();
+            let left = random.within(0..=1 + shares.iter().sum::<usize>());
+            let mut in_turn: Vec<usize> = (0..shares.len()).collect();
+            in_turn.sort_by_key(|&task| shares[task]);
+            let total = |count: usize| in_turn[..count].iter().map(|&task| shares[task]).sum::<usize>();
+            let count = (0..=shares.len()).rev().find(|&count| total(count) <= left).unwrap_or(0);
+            let mut cheapest = in_turn[..count].to_vec();
+            cheapest.sort();
+            assert_eq!(kept_of(&shares, left), cheapest, "{shares:?}, {left} left over");
+        }
     }
 
     #[test]
