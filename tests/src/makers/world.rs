@@ -5,7 +5,7 @@ use crate::makers::random::Random;
 use crate::makers::sheets::Draft;
 use crate::makers::states;
 use crate::reference::answers::Cause;
-use crate::reference::dispatcher::{State, HIGH};
+use crate::reference::dispatcher::State;
 use crate::reference::logs::Call;
 use crate::reference::planner;
 use crate::reference::reader::Sheet;
@@ -120,8 +120,8 @@ fn refused_call(random: &mut Random, state: &State) -> Option<Call> {
     let (cause, call) = match random.within(0..=4) {
         0 => (Cause::NoSuchTask, Call::Release(*random.pick(&[count, count + 1, 16, 255, usize::MAX]))),
         1 => {
-            let low = (0..count).find(|&task| state.entries[task].level != HIGH)?;
-            (Cause::LowWhenCritical, Call::Release(low))
+            let dropped = (0..count).find(|&task| !state.entries[task].stays())?;
+            (Cause::NotKept, Call::Release(dropped))
         }
         2 => (Cause::NotDue, Call::Release(task)),
         3 => {

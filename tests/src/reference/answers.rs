@@ -14,7 +14,7 @@ pub enum Cause {
     PlanBuffer = 9,
     NotSound = 10,
     NoSuchTask = 11,
-    LowWhenCritical = 12,
+    NotKept = 12,
     NotDue = 13,
     ReportCount = 14,
     NotRunning = 15,

@@ -128,6 +128,16 @@ impl Entry {
         }
     }
 
+    /// Whether it is a low task that the critical state keeps.
+    pub fn is_kept(&self) -> bool {
+        self.level != HIGH && self.critical > 0
+    }
+
+    /// Whether a switch leaves its job, and the critical state takes its releases.
+    pub fn stays(&self) -> bool {
+        self.level == HIGH || self.is_kept()
+    }
+
     fn faults(&self) -> Vec<Fault> {
         let k = usize::from(self.nodes);
         let forward = self.own().any(|v| self.preceding[v][v..].contains(&true));
@@ -212,8 +222,8 @@ impl State {
     pub fn release(&self, task: usize) -> Result<State, Refusal> {
         self.sound()?;
         let entry = self.own().get(task).ok_or(Refusal::whole(Cause::NoSuchTask))?;
-        if entry.level != HIGH && self.mode == Mode::Critical {
-            return Err(Refusal::of(Cause::LowWhenCritical, task));
+        if self.mode == Mode::Critical && !entry.stays() {
+            return Err(Refusal::of(Cause::NotKept, task));
         }
         if entry.alive || entry.age < entry.deadline {
             return Err(Refusal::of(Cause::NotDue, task));
@@ -250,8 +260,8 @@ impl State {
         };
         if switched.is_some() {
             state.mode = Mode::Critical;
-            for entry in state.entries.iter_mut().take(reports.len()).filter(|entry| entry.level != HIGH) {
-                entry.alive = false;
+            for entry in state.entries.iter_mut().take(reports.len()) {
+                entry.alive = entry.alive && entry.stays();
             }
         }
         Ok(Ticked { state, switched })
@@ -320,7 +330,7 @@ mod tests {
         }
         assert_eq!(pairs(&state), [(0, 0, 0), (2, 1, 0)]);
         assert!(!state.entries[2].alive);
-        assert_eq!(state.release(2), Err(Refusal::of(Cause::LowWhenCritical, 2)));
+        assert_eq!(state.release(2), Err(Refusal::of(Cause::NotKept, 2)));
         assert_eq!(state.release(1), Err(Refusal::of(Cause::NotDue, 1)));
         assert_eq!(state.release(3), Err(Refusal::whole(Cause::NoSuchTask)));
         assert_eq!(state.tick(&[0; 2]), Err(Refusal::whole(Cause::ReportCount)));
@@ -328,6 +338,51 @@ mod tests {
         assert_eq!(state.tick(&[1, 1, 1]), Err(Refusal::of(Cause::NotRunning, 2)));
         assert_eq!(state.board(15), Err(Refusal::whole(Cause::BoardBuffer)));
         assert_eq!(state.tick(&[1, 1, 0]).unwrap().state.entries[0].age, 8);
+    }
+
+    /// A beside E on seven processors: A has 1, then 2, and E is kept with 5.
+    #[test]
+    fn a_kept_job_goes_on_over_the_switch_and_comes_again() {
+        let [a, e] = [14, 46].map(|at| CASE_14[at..at + 16].to_vec());
+        let mut state = start(&Draft { processors: 7, records: vec![a, e] }.bytes()).unwrap();
+        assert!(!state.entries[0].is_kept() && state.entries[0].stays() && state.entries[1].is_kept());
+        state = state.release(0).unwrap().release(1).unwrap();
+        let [on_one, on_two] = [2, 4].map(|place| {
+            let mut board = vec![255; 14];
+            board[..2].copy_from_slice(&[0, 0]);
+            board[place..place + 2].copy_from_slice(&[1, 0]);
+            board
+        });
+        for tick in 1..=9 {
+            assert_eq!(state.board(14).unwrap(), on_one);
+            let ticked = state.tick(&[0; 2]).unwrap();
+            assert_eq!(ticked.switched, (tick == 9).then_some(0), "A's V is 9");
+            state = ticked.state;
+        }
+        assert_eq!(state.board(14).unwrap(), on_two);
+        assert_eq!((state.mode, state.entries[1].age), (Mode::Critical, 9));
+        state = state.tick(&[0, 1]).unwrap().state;
+        assert!(!state.entries[1].alive && state.entries[1].all_ended());
+        assert_eq!(state.release(1), Err(Refusal::of(Cause::NotDue, 1)));
+        for _ in 10..18 {
+            state = state.tick(&[0; 2]).unwrap().state;
+        }
+        assert!(state.release(1).unwrap().entries[1].alive);
+    }
+
+    /// Whatever its critical share above 0 is, a low task is kept.
+    #[test]
+    fn a_critical_share_of_its_own_keeps_a_low_task() {
+        let mut state = start(&CASE_14).unwrap().release(2).unwrap().release(0).unwrap();
+        (state.entries[1].critical, state.entries[2].critical) = (5, 1);
+        assert_eq!(state.faults(), []);
+        state.entries[0].age = 8;
+        let ticked = state.tick(&[0; 3]).unwrap();
+        assert_eq!(ticked.switched, Some(0));
+        assert!(ticked.state.entries[2].alive);
+        assert_eq!(ticked.state.board(16).unwrap()[14..], [2, 0]);
+        state.entries[2].critical = 0;
+        assert!(!state.tick(&[0; 3]).unwrap().state.entries[2].alive);
     }
 
     #[test]
