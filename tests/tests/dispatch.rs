@@ -7,9 +7,9 @@ use dibwunek_tests::harness::proved::dispatching::Proved;
 use dibwunek_tests::harness::proved::starting;
 use dibwunek_tests::makers::random::Random;
 use dibwunek_tests::makers::sheets::CASE_14;
-use dibwunek_tests::makers::states::{not_running, report, sound, unsound, with_ones, FAULTS};
+use dibwunek_tests::makers::states::{keeping, not_running, report, sound, unsound, with_ones, FAULTS};
 use dibwunek_tests::reference::answers::Reply;
-use dibwunek_tests::reference::dispatcher::State;
+use dibwunek_tests::reference::dispatcher::{Mode, State, HIGH};
 
 /// Compares the two dispatchers call by call, and counts the answers.
 struct Comparison {
@@ -25,6 +25,9 @@ impl Comparison {
         let on = || format!("Release({task}) of {:?}", of_words(line));
         let step = Proved.release(line, task);
         hold(&step, &Independent.release(line, task), on);
+        if step.0 == Reply::Done && low_when_critical(line).contains(&task) {
+            self.counts.add("kept tasks released when critical");
+        }
         self.count("released", line, step)
     }
 
@@ -32,6 +35,9 @@ impl Comparison {
         let on = || format!("Tick({reports:?}) of {:?}", of_words(line));
         let step = Proved.tick(line, reports);
         hold(&step, &Independent.tick(line, reports), on);
+        if let Reply::Switched(_) = step.0 {
+            self.count_switch(line, &step.1);
+        }
         self.count("ran", line, step)
     }
 
@@ -42,7 +48,27 @@ impl Comparison {
         let reply = Independent.board(line, &mut expected);
         hold(&(proved, &buffer), &(reply, &expected), on);
         assert!(reply.number() == 0 || buffer == before);
+        let shows = |task: usize| buffer.chunks_exact(2).any(|pair| usize::from(pair[0]) == task);
+        if reply == Reply::Done && low_when_critical(line).into_iter().any(shows) {
+            self.counts.add("boards with a kept task's nodes");
+        }
         self.count("board", line, (reply, line.to_vec())).0
+    }
+
+    /// Counts what a switch did to the alive jobs of low tasks.
+    fn count_switch(&mut self, before: &[u32], after: &[u32]) {
+        let [before, after] = [before, after].map(|line| of_words(line).expect("a switch leaves a state"));
+        for task in (0..usize::from(before.count)).filter(|&task| before.entries[task].alive) {
+            let entry = &after.entries[task];
+            let same = entry.critical == entry.typical;
+            match (entry.level, entry.alive) {
+                (HIGH, _) => {}
+                (_, true) if same => self.counts.add("jobs kept over a switch on as many processors"),
+                (_, true) => self.counts.add("jobs kept over a switch on more or fewer"),
+                (_, false) if entry.all_ended() => self.counts.add("low jobs that ended with a switch"),
+                (_, false) => self.counts.add("jobs dropped by a switch"),
+            }
+        }
     }
 
     fn count(&mut self, done: &str, before: &[u32], (reply, after): (Reply, Vec<u32>)) -> (Reply, Vec<u32>) {
@@ -57,6 +83,21 @@ impl Comparison {
         (reply, after)
     }
 }
+
+/// The low tasks of a critical state: those of them that are released or run are kept.
+fn low_when_critical(line: &[u32]) -> Vec<usize> {
+    let state = of_words(line).expect("an accepted call is on a state");
+    let low = (0..usize::from(state.count)).filter(|&task| state.entries[task].level != HIGH);
+    low.filter(|_| state.mode == Mode::Critical).collect()
+}
+
+const OF_KEPT: [&str; 5] = [
+    "kept tasks released when critical",
+    "boards with a kept task's nodes",
+    "jobs kept over a switch on as many processors",
+    "jobs kept over a switch on more or fewer",
+    "jobs dropped by a switch",
+];
 
 /// Reports of a tick: mostly of running nodes alone, else with a node that doesn't run, or not one for each task.
 fn reports(random: &mut Random, state: &State) -> Vec<u32> {
@@ -120,6 +161,24 @@ fn sound_states() {
         one_of_each(&mut random, &state, &mut comparison);
     }
     comparison.counts.close(["released", "ran", "switched", "board", "11", "12", "13", "14", "15", "16"], 200);
+}
+
+#[test]
+fn kept_and_dropped_tasks() {
+    let mut random = Random::of_test("kept and dropped tasks");
+    let mut comparison = Comparison::new("kept and dropped tasks");
+    for _ in 0..1_500 {
+        let state = keeping(&mut random);
+        let line = to_words(&state);
+        for task in 0..usize::from(state.count) {
+            comparison.release(&line, task);
+        }
+        comparison.tick(&line, &vec![0; state.count.into()]);
+        comparison.tick(&line, &reports(&mut random, &state));
+        comparison.board(&line, &vec![7; 2 * usize::from(state.processors)]);
+    }
+    assert_eq!(comparison.counts.of("10"), 0);
+    comparison.counts.close(OF_KEPT.into_iter().chain(["released", "ran", "switched", "board", "12", "13", "15"]), 100);
 }
 
 #[test]
@@ -263,7 +322,8 @@ fn walks() {
     let mut random = Random::of_test("walks");
     let mut comparison = Comparison::new("walks");
     for _ in 0..400 {
-        let mut line = to_words(&sound(&mut random));
+        let state = if random.once_in(2) { sound(&mut random) } else { keeping(&mut random) };
+        let mut line = to_words(&state);
         for _ in 0..60 {
             let seen = of_words(&line).expect("a line stays a state");
             let task = task_number(&mut random, &seen);
@@ -276,5 +336,6 @@ fn walks() {
         }
     }
     assert_eq!(comparison.counts.of("10"), 0);
+    comparison.counts.ask(OF_KEPT, 20);
     comparison.counts.close(["released", "ran", "switched", "board", "11", "12", "13", "14", "15", "16"], 50);
 }

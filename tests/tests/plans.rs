@@ -5,8 +5,8 @@ use dibwunek_tests::makers::random::Random;
 use dibwunek_tests::makers::sheets::{plausible, valid, Draft, CASE_14};
 use dibwunek_tests::makers::tight;
 use dibwunek_tests::reference::answers::Reply;
-use dibwunek_tests::reference::planner::{self, plan_into};
-use dibwunek_tests::reference::reader::{Sheet, Task};
+use dibwunek_tests::reference::planner::{self, plan_into, Pair};
+use dibwunek_tests::reference::reader::{Level, Sheet, Task};
 
 /// Compares the two planners on a sheet and a buffer of random bytes, and gives their answer.
 fn check(sheet: &[u8], length: usize, random: &mut Random, counts: &mut Counts) -> Reply {
@@ -85,6 +85,50 @@ fn choices_with_equal_totals() {
     counts.close(["several with the chosen totals", " 0", " 8", " 9"], 100);
 }
 
+/// Counts what the plan of a sheet keeps of its low tasks.
+fn count_kept(sheet: &Sheet, counts: &mut Counts) {
+    let Ok(plan) = planner::plan(sheet) else { return };
+    let low = sheet.tasks.iter().zip(&plan.tasks).filter(|(task, _)| task.level == Level::Low);
+    let shares = low.map(|(_, planned)| planned.shares);
+    let (kept, dropped): (Vec<Pair>, Vec<Pair>) = shares.partition(|shares| shares.critical > 0);
+    let how_many = match (kept.len(), dropped.len()) {
+        (_, 0) => "all",
+        (0, _) => "none",
+        _ => "some",
+    };
+    let full = plan.left == kept.iter().map(|shares| shares.critical).sum::<usize>();
+    counts.add(format!("{how_many} kept, {}", if full { "M full" } else { "more left over" }));
+    if kept.iter().any(|one| dropped.iter().any(|other| one.typical == other.typical)) {
+        counts.add("of equal shares one kept and one not");
+    }
+    if kept.len() + dropped.len() >= 10 {
+        counts.add("ten low tasks or more");
+    }
+}
+
+#[test]
+fn kept_low_tasks() {
+    let mut random = Random::of_test("kept low tasks");
+    let mut counts = Counts::new("kept low tasks");
+    for _ in 0..3_000 {
+        let sheet = tight::mostly_low(&mut random);
+        count_kept(&sheet, &mut counts);
+        let length = near(&mut random, sheet.tasks.len());
+        check(&Draft::of(&sheet).bytes(), length, &mut random, &mut counts);
+    }
+    let names = [
+        "all kept, M full",
+        "all kept, more left over",
+        "some kept, M full",
+        "some kept, more left over",
+        "none kept, M full",
+        "none kept, more left over",
+        "of equal shares one kept and one not",
+        "ten low tasks or more",
+    ];
+    counts.close(names, 30);
+}
+
 #[test]
 fn every_length_of_buffer() {
     let mut random = Random::of_test("every buffer");
@@ -154,4 +198,28 @@ fn cases_11_12_and_14() {
     assert_eq!(plan(7, &[&a, &b, &e]), refused(8, 255));
     let of_14 = vec![0, 1, 1, 2, 3, 5, 0, 2, 2, 6, 8, 0, 9, 0, 7, 0, 0, 0, 77, 77];
     assert_eq!(plan(8, &[&a, &b, &e]), (Reply::Done, of_14));
+}
+
+/// A has the shares (1, 2), E takes 5 processors, and F, which is E with a work of 30, takes 2.
+#[test]
+fn kept_tasks_by_hand() {
+    let [a, e] = [14, 46].map(|at| CASE_14[at..at + 16].to_vec());
+    let f = [&e[..4], &[30, 0, 30, 0], &e[8..]].concat();
+    let plan = |processors, records: &[&Vec<u8>]| {
+        let draft = Draft { processors, records: records.iter().map(|&record| record.clone()).collect() };
+        let mut buffer = vec![77; 6 * records.len()];
+        assert_eq!(planning::plan(&draft.bytes(), &mut buffer), Reply::Done);
+        buffer
+    };
+    for processors in [7, 8] {
+        assert_eq!(plan(processors, &[&a, &e]), [0, 1, 1, 5, 0, 2, 2, 5, 9, 0, 0, 0], "5 or 6 are left over");
+    }
+    assert_eq!(plan(6, &[&a, &e]), [0, 1, 1, 5, 0, 2, 2, 0, 9, 0, 0, 0], "4 are");
+    assert_eq!(
+        plan(8, &[&e, &a, &f]),
+        [0, 5, 5, 1, 6, 2, 0, 0, 0, 2, 2, 2, 0, 0, 9, 0, 0, 0],
+        "of E and F the smaller"
+    );
+    let first_two = [0, 2, 2, 2, 4, 1, 5, 2, 0, 2, 2, 2, 4, 2, 6, 0, 0, 0, 0, 0, 9, 0, 0, 0];
+    assert_eq!(plan(7, &[&f, &f, &a, &f]), first_two, "of three alike the first two");
 }

@@ -61,6 +61,7 @@ fn whole_sheets() {
             sheet.processors = random.within(1..=64) as u8;
         }
         check(&Draft::of(&sheet).bytes(), &mut counts);
+        check(&Draft::of(&tight::mostly_low(&mut random)).bytes(), &mut counts);
     }
     counts.close(["planned", "7", "8"], 5);
 }

@@ -69,6 +69,7 @@ fn whole_and_damaged_sheets() {
         check(&bytes, &mut counts);
         check(&plausible(&mut random), &mut counts);
         check(&Draft::of(&tight::tied(&mut random)).bytes(), &mut counts);
+        check(&Draft::of(&tight::mostly_low(&mut random)).bytes(), &mut counts);
     }
     counts.close(0..=8, 4);
 }

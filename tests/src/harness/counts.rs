@@ -28,6 +28,11 @@ impl Counts {
     pub fn close<N: ToString>(self, names: impl IntoIterator<Item = N>, least: usize) {
         let counts: Vec<String> = self.counts.iter().map(|(name, count)| format!("{name}: {count}")).collect();
         println!("{}: {}", self.test, counts.join(", "));
+        self.ask(names, least);
+    }
+
+    /// Asks for at least `least` of each of the names.
+    pub fn ask<N: ToString>(&self, names: impl IntoIterator<Item = N>, least: usize) {
         for name in names {
             let (name, count) = (name.to_string(), self.of(name));
             assert!(count >= least, "{}: only {count} of {name} (seed {})", self.test, random::seed());

@@ -1,7 +1,7 @@
 //! Makers of states: random sound ones, with noise where nothing is read, and the same with one fault.
 use crate::makers::random::Random;
 use crate::makers::sheets::{LIMIT, PROCESSORS};
-use crate::reference::dispatcher::{nodes, Entry, Fault, Mode, Nodes, State, ENTRIES, NODES};
+use crate::reference::dispatcher::{nodes, Entry, Fault, Mode, Nodes, State, ENTRIES, HIGH, NODES};
 
 /// A random sound state; what no call reads is noise.
 pub fn sound(random: &mut Random) -> State {
@@ -27,9 +27,10 @@ fn shares(random: &mut Random, processors: usize, count: usize) -> Vec<u8> {
     let mut shares = vec![0; count];
     let total = if random.once_in(2) { processors } else { random.within(0..=processors) };
     let few = random.within(1..=count);
+    let at_once = *random.pick(&[PROCESSORS, 3]);
     let mut left = total;
     while left > 0 {
-        let some = random.within(1..=left);
+        let some = random.within(1..=left.min(at_once));
         shares[random.within(0..=few - 1)] += some as u8;
         left -= some;
     }
@@ -38,6 +39,29 @@ fn shares(random: &mut Random, processors: usize, count: usize) -> Vec<u8> {
         shares.swap(one, other);
     }
     shares
+}
+
+/// A random sound state with the most processors. Of its low tasks some have no critical share, some their typical one
+/// and some another; many tasks may be released.
+pub fn keeping(random: &mut Random) -> State {
+    let mut state = State { processors: PROCESSORS as u8, ..sound(random) };
+    let own = &mut state.entries[..usize::from(state.count)];
+    let left = |share: fn(&Entry) -> u8| PROCESSORS as u8 - own.iter().map(share).sum::<u8>();
+    let (mut typical, mut critical) = (left(|entry| entry.typical), left(|entry| entry.critical));
+    for entry in own {
+        let more = typical.min(random.within(0..=3) as u8);
+        entry.typical += more;
+        typical -= more;
+        if entry.level != HIGH {
+            let (room, other) = (critical + entry.critical, random.within(1..=3) as u8);
+            entry.critical = room.min(*random.pick(&[0, entry.typical, other]));
+            critical = room - entry.critical;
+        }
+        if random.once_in(3) {
+            (entry.alive, entry.age) = (false, entry.deadline);
+        }
+    }
+    state
 }
 
 fn entry(random: &mut Random, typical: u8, critical: u8) -> Entry {
@@ -289,6 +313,7 @@ mod tests {
             assert_eq!(state.faults(), []);
             let running: usize = (0..usize::from(state.count)).map(|task| state.running(task).len()).sum();
             assert!(running <= usize::from(state.processors));
+            assert_eq!(keeping(&mut random).faults(), []);
             for fault in FAULTS {
                 assert_eq!(unsound(&mut random, fault).faults(), [fault]);
             }

@@ -3,7 +3,7 @@
 use crate::makers::random::Random;
 use crate::makers::sheets::{LIMIT, PROCESSORS};
 use crate::reference::planner::{self, least_deadline, Pair};
-use crate::reference::reader::{Figures, Level, Sheet, Task};
+use crate::reference::reader::{Figures, Level, Sheet, Task, TASKS};
 
 /// A random list of so many tasks, with the most processors. Often some of the tasks are alike.
 pub fn sheet(random: &mut Random, count: usize) -> Sheet {
@@ -43,6 +43,26 @@ pub fn tied(random: &mut Random) -> Sheet {
         if processors <= PROCESSORS {
             return Sheet { processors: processors as u8, tasks };
         }
+    }
+}
+
+/// A random sheet of at most two high tasks and some low ones, often with equal shares. M is near the least that will
+/// do, so that the high tasks leave none, few or many processors over.
+pub fn mostly_low(random: &mut Random) -> Sheet {
+    loop {
+        let mut tasks: Vec<Task> = (0..random.within(0..=2)).filter_map(|_| high(random, 12)).collect();
+        let count = *random.pick(&[1, 2, 3, 4, 6, 9, TASKS - tasks.len()]);
+        let widest = random.within(2..=(40 / count).clamp(2, 8));
+        let shares: Vec<usize> = (0..random.within(1..=3)).map(|_| random.within(2..=widest)).collect();
+        for _ in 0..count {
+            let share = *random.pick(&shares);
+            let figures = low_figures(random, share);
+            tasks.insert(random.within(0..=tasks.len()), Task { level: Level::Low, figures, masks: vec![0] });
+        }
+        let sheet = Sheet { processors: PROCESSORS as u8, tasks };
+        let Some(least) = least_processors(&sheet) else { continue };
+        let processors = least + *random.pick(&[0, 0, 0, 1, 2, 3, 8]);
+        return Sheet { processors: processors.min(PROCESSORS) as u8, ..sheet };
     }
 }
 
@@ -107,7 +127,7 @@ fn figures(d: usize, cn: usize, co: usize, ln: usize, lo: usize) -> Option<Figur
 pub fn least_processors(sheet: &Sheet) -> Option<usize> {
     let does = |processors: usize| {
         let sheet = Sheet { processors: processors as u8, tasks: sheet.tasks.clone() };
-        planner::plan(&sheet).is_ok()
+        planner::is_planned(&sheet)
     };
     let mut fits = [1, 2, 4, 8, 16, 32, PROCESSORS].into_iter().find(|&processors| does(processors))?;
     let mut fails = fits / 2;
