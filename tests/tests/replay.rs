@@ -3,7 +3,7 @@ use dibwunek_tests::harness::boundary::start;
 use dibwunek_tests::harness::counts::{hold, Counts};
 use dibwunek_tests::harness::proved::calls::replay;
 use dibwunek_tests::harness::proved::dispatching::Proved;
-use dibwunek_tests::harness::suites::{self, any_story, Subject};
+use dibwunek_tests::harness::suites::{self, any_story, low_story, Subject};
 use dibwunek_tests::makers::crafts::Kind;
 use dibwunek_tests::makers::random::Random;
 use dibwunek_tests::makers::sheets::plausible;
@@ -30,6 +30,16 @@ fn overload_lists() {
 #[test]
 fn wild_lists() {
     suites::wild_lists(SUBJECT, 200);
+}
+
+#[test]
+fn kept_lists() {
+    suites::kept_lists(SUBJECT, 200);
+}
+
+#[test]
+fn exact_kept_lists() {
+    suites::exact_kept_lists(SUBJECT, 300);
 }
 
 #[test]
@@ -75,8 +85,11 @@ const KINDS: [Kind; 5] = [Kind::Nominal, Kind::Overload, Kind::Overload, Kind::B
 fn replays_of_random_lists() {
     let mut random = Random::of_test("replays");
     let mut counts = Counts::new("replays of random lists");
-    for _ in 0..400 {
-        let story = any_story(&mut random, &KINDS, true, 6);
+    for round in 0..400 {
+        let story = match round % 2 {
+            0 => any_story(&mut random, &KINDS, true, 6),
+            _ => low_story(&mut random, 6),
+        };
         check(&mut random, &story.sheet, &log_of(&story.calls), &mut counts);
     }
     assert_eq!(counts.of("Start 0"), 400);

@@ -80,4 +80,6 @@ fn lists_from_the_proved_start() {
     suites::case_13(subject);
     suites::overload_lists(subject, 100);
     suites::wild_lists(subject, 100);
+    suites::kept_lists(subject, 100);
+    suites::exact_kept_lists(subject, 100);
 }

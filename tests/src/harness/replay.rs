@@ -1,6 +1,7 @@
 //! Runs a list of calls from Start on a dispatcher, and holds what it answers, returns and shows on its boards to
-//! the model of S10.2 and to what is promised of whole lists: high jobs within their overload budgets end in time,
-//! nothing switches while high jobs keep their nominal ones, and no task runs on more than its share.
+//! the model of S10.2 and to what is promised of whole lists: high jobs within their overload budgets end in time, and
+//! so do low ones within theirs, kept ones in either state; nothing switches while high jobs keep their nominal budgets,
+//! and no task runs on more than its share.
 use crate::harness::boundary::{of_words, to_words, Dispatcher};
 use crate::harness::counts::{hold, Counts};
 use crate::makers::lengths::Budget;
@@ -24,10 +25,14 @@ struct Watch<'a> {
     ended: Option<u32>,
     keeps_nominal: bool,
     keeps_overload: bool,
+    /// The state at its release.
+    began: Mode,
+    /// Whether the state turned critical while it was alive, and left it so.
+    over_switch: bool,
 }
 
 impl Watch<'_> {
-    fn new<'a>(task: &Task, lengths: &'a [u32]) -> Watch<'a> {
+    fn new<'a>(task: &Task, lengths: &'a [u32], began: Mode) -> Watch<'a> {
         let figures = task.figures;
         let allows =
             |work: u16, span: u16| Budget { work: work.into(), span: span.into() }.allows(&task.masks, lengths);
@@ -39,6 +44,8 @@ impl Watch<'_> {
             ended: None,
             keeps_nominal: allows(figures.cn, figures.ln),
             keeps_overload: allows(figures.co, figures.lo),
+            began,
+            over_switch: false,
         }
     }
 
@@ -51,6 +58,32 @@ impl Watch<'_> {
             ended |= u32::from(self.runs[v] == self.lengths[v]) << v;
         }
         self.truthful &= report == ended;
+    }
+
+    /// Counts a high job that ended in time.
+    fn count_high(&self, deadline: u32, counts: &mut Counts) {
+        counts.add("high jobs that were due");
+        let ended = self.ended.unwrap_or(deadline);
+        if ended + 1 >= deadline {
+            counts.add("of these ended within one tick of D");
+        }
+        if ended == deadline {
+            counts.add("of these ended in tick D");
+        }
+    }
+
+    /// Counts a kept low job that ended in time.
+    fn count_kept(&self, deadline: u32, counts: &mut Counts) {
+        counts.add("kept jobs that were due");
+        if self.over_switch {
+            counts.add("kept jobs alive over a switch");
+        }
+        if self.began == Mode::Critical {
+            counts.add("kept jobs released when critical");
+        }
+        if self.ended == Some(deadline) {
+            counts.add("kept jobs that ended in tick D");
+        }
     }
 }
 
@@ -79,7 +112,7 @@ pub fn run(dispatcher: &dyn Dispatcher, fresh: Vec<u32>, story: &Story, counts: 
                 let expected = model.release(*task).map(|next| model = next);
                 hold(&reply, &expected.map_or_else(Reply::from, |()| Reply::Done), || on(place));
                 if reply == Reply::Done {
-                    replay.release(*task, &story.lengths[&place]);
+                    replay.release(*task, &story.lengths[&place], model.mode);
                 }
                 (reply, next)
             }
@@ -117,8 +150,8 @@ pub fn run(dispatcher: &dyn Dispatcher, fresh: Vec<u32>, story: &Story, counts: 
 }
 
 impl<'a> Replay<'a> {
-    fn release(&mut self, task: usize, lengths: &'a [u32]) {
-        let watch = Watch::new(&self.sheet.tasks[task], lengths);
+    fn release(&mut self, task: usize, lengths: &'a [u32], mode: Mode) {
+        let watch = Watch::new(&self.sheet.tasks[task], lengths, mode);
         if self.sheet.tasks[task].level == Level::High {
             self.nominal &= watch.keeps_nominal;
         }
@@ -148,6 +181,7 @@ impl<'a> Replay<'a> {
     }
 
     fn tick(&mut self, reports: &[u32], running: &[Vec<usize>], reply: Reply, after: &State, on: impl Fn() -> String) {
+        let switched = matches!(reply, Reply::Switched(_));
         for (i, watch) in self.watches.iter_mut().enumerate() {
             let Some(watch) = watch else { continue };
             let task = &self.sheet.tasks[i];
@@ -156,30 +190,32 @@ impl<'a> Replay<'a> {
             if watch.ended.is_none() && entry.all_ended() {
                 watch.ended = Some(watch.ticks);
             }
-            if task.level == Level::Low {
-                continue;
+            watch.over_switch |= switched && entry.alive;
+            if switched && watch.ended.is_none() && !entry.alive {
+                self.counts.add("dropped jobs");
             }
-            self.nominal &= watch.truthful;
-            let v = u32::from(self.plan.tasks[i].virtual_deadline);
-            if watch.ticks == v && watch.truthful && watch.keeps_nominal && watch.ended == Some(v) {
-                self.counts.add("nominal jobs that ended in tick V");
+            if task.level == Level::High {
+                self.nominal &= watch.truthful;
+                let v = u32::from(self.plan.tasks[i].virtual_deadline);
+                if watch.ticks == v && watch.truthful && watch.keeps_nominal && watch.ended == Some(v) {
+                    self.counts.add("nominal jobs that ended in tick V");
+                }
             }
             let deadline = u32::from(task.figures.d);
-            if watch.ticks == deadline && watch.truthful && watch.keeps_overload {
-                assert!(entry.all_ended() && !entry.alive, "seed {}: a high job is late: {}", seed(), on());
-                self.counts.add("high jobs that were due");
-                let ended = watch.ended.unwrap_or(deadline);
-                if ended + 1 >= deadline {
-                    self.counts.add("of these ended within one tick of D");
-                }
-                if ended == deadline {
-                    self.counts.add("of these ended in tick D");
+            let stays = self.plan.tasks[i].shares.critical > 0;
+            let promised = stays || after.mode == Mode::Typical;
+            if watch.ticks == deadline && watch.truthful && watch.keeps_overload && promised {
+                assert!(entry.all_ended() && !entry.alive, "seed {}: a job of task {i} is late: {}", seed(), on());
+                match (task.level, stays) {
+                    (Level::High, _) => watch.count_high(deadline, self.counts),
+                    (Level::Low, true) => watch.count_kept(deadline, self.counts),
+                    (Level::Low, false) => self.counts.add("other low jobs that were due"),
                 }
             }
         }
         if self.nominal {
-            let switched = matches!(reply, Reply::Switched(_)) || after.mode == Mode::Critical;
-            assert!(!switched, "seed {}: switched within nominal budgets: {}", seed(), on());
+            let critical = switched || after.mode == Mode::Critical;
+            assert!(!critical, "seed {}: switched within nominal budgets: {}", seed(), on());
         }
     }
 }

@@ -2,7 +2,7 @@
 use crate::harness::boundary::{of_words, Dispatcher};
 use crate::harness::counts::Counts;
 use crate::harness::replay::run;
-use crate::makers::crafts::{crafted, crafted_task, exact, sheet_of, Crafted, Kind};
+use crate::makers::crafts::{crafted, crafted_task, exact, exact_kept, sheet_of, Crafted, Kind};
 use crate::makers::random::Random;
 use crate::makers::sheets::{Draft, CASE_14};
 use crate::makers::world::{longest_lasting, story, Manner, Story};
@@ -26,23 +26,43 @@ impl Subject<'_> {
     }
 }
 
+/// How the jobs of a level are.
+struct Conduct<'a> {
+    kinds: &'a [Kind],
+    /// Whether their reports may be false.
+    liars: bool,
+}
+
 /// A random list over a random sheet: kinds of high jobs, and whether they may lie. Low jobs do as they please.
 pub fn any_story(random: &mut Random, high: &[Kind], liars: bool, scale: usize) -> Story {
     let count = *random.pick(&[1, 1, 2, 2, 3, 4, 5, 8, 16]);
-    let (sheet, tasks) = crafted(random, count, scale);
+    let (sheet, tasks) = crafted(random, &[Level::High, Level::High, Level::High, Level::Low], count, scale);
+    let low = Conduct { kinds: &[Kind::Nominal, Kind::Nominal, Kind::Beyond, Kind::Endless], liars: true };
+    told(random, &sheet, &tasks, Conduct { kinds: high, liars }, low)
+}
+
+/// A random list over a random sheet of mostly low tasks. Low jobs keep their budgets under true reports, high ones do
+/// as they please.
+pub fn low_story(random: &mut Random, scale: usize) -> Story {
+    let count = *random.pick(&[2, 2, 3, 3, 4, 5, 8, 16]);
+    let (sheet, tasks) = crafted(random, &[Level::High, Level::Low, Level::Low], count, scale);
+    let high = [Kind::Nominal, Kind::Overload, Kind::Beyond, Kind::Endless];
+    let low = Conduct { kinds: &[Kind::Nominal], liars: false };
+    told(random, &sheet, &tasks, Conduct { kinds: &high, liars: true }, low)
+}
+
+fn told(random: &mut Random, sheet: &Sheet, tasks: &[Crafted], high: Conduct, low: Conduct) -> Story {
     let longest = sheet.tasks.iter().map(|task| usize::from(task.figures.d)).max().unwrap_or(0);
-    let is_high = |task: &Crafted| task.task.level == Level::High;
-    let low = [Kind::Nominal, Kind::Nominal, Kind::Beyond, Kind::Endless];
-    let kinds = |task: &Crafted| if is_high(task) { high.to_vec() } else { low.to_vec() };
+    let conduct = |task: &Crafted| if task.task.level == Level::High { &high } else { &low };
     let manner = Manner {
         ticks: random.within(1..=3) * longest + random.within(1..=3),
         eager: !random.once_in(3),
-        kinds: tasks.iter().map(kinds).collect(),
+        kinds: tasks.iter().map(|task| conduct(task).kinds.to_vec()).collect(),
         first: tasks.iter().map(|_| if random.once_in(2) { 0 } else { random.within(0..=longest) }).collect(),
-        liars: tasks.iter().map(|task| liars || !is_high(task)).collect(),
+        liars: tasks.iter().map(|task| conduct(task).liars).collect(),
         refused: !random.once_in(3),
     };
-    story(random, &sheet, &tasks, &manner)
+    story(random, sheet, tasks, &manner)
 }
 
 /// High jobs keep their nominal budgets, so nothing may switch, whatever the low jobs do.
@@ -84,6 +104,65 @@ pub fn wild_lists(subject: Subject, rounds: usize) {
     }
     let names = ["released", "ran", "switched", "high jobs that were due", "11", "12", "13", "14", "15"];
     counts.close(names, rounds / 10);
+}
+
+/// Low jobs keep their budgets: kept ones end in time, whatever the high jobs do.
+pub fn kept_lists(subject: Subject, rounds: usize) {
+    let mut random = Random::of_test("kept lists");
+    let mut counts = Counts::new("kept lists");
+    for _ in 0..rounds {
+        let story = low_story(&mut random, 6);
+        subject.run(&story, &mut counts);
+    }
+    let names = [
+        "switched",
+        "kept jobs that were due",
+        "kept jobs alive over a switch",
+        "kept jobs released when critical",
+        "kept jobs that ended in tick D",
+        "other low jobs that were due",
+        "dropped jobs",
+        "12",
+    ];
+    counts.close(names, rounds / 5);
+}
+
+/// Low jobs that last as long as their shares allow, to the tick, and a high job that turns the state critical before
+/// them or while they are alive. The kept ones come again and again.
+pub fn exact_kept_lists(subject: Subject, rounds: usize) {
+    let mut random = Random::of_test("exact kept lists");
+    let mut counts = Counts::new("exact kept lists");
+    for _ in 0..rounds {
+        let (sheet, tasks, high) = (0..1_000).find_map(|_| exact_kept(&mut random)).expect("one is made");
+        let plan = planner::plan(&sheet).expect("crafted tasks are planned");
+        let to_switch = usize::from(plan.tasks[high].virtual_deadline);
+        let low = (0..tasks.len()).filter(|&task| task != high);
+        let longest = low.map(|task| usize::from(sheet.tasks[task].figures.d)).max().unwrap_or(0);
+        let kind = |task: usize| match task == high {
+            true => Kind::Endless,
+            false => Kind::Given(tasks[task].overload.clone()),
+        };
+        let manner = Manner {
+            ticks: to_switch + 3 * longest,
+            eager: true,
+            kinds: (0..tasks.len()).map(|task| vec![kind(task)]).collect(),
+            first: tasks.iter().map(|_| random.within(0..=longest)).collect(),
+            liars: vec![false; tasks.len()],
+            refused: random.once_in(2),
+        };
+        let before = counts.of("kept jobs that were due");
+        subject.run(&story(&mut random, &sheet, &tasks, &manner), &mut counts);
+        assert!(counts.of("kept jobs that were due") > before, "no kept job was due: {sheet:?}");
+    }
+    assert_eq!(counts.of("kept jobs that ended in tick D"), counts.of("kept jobs that were due"));
+    let names = [
+        "switched",
+        "kept jobs alive over a switch",
+        "kept jobs released when critical",
+        "kept jobs that ended in tick D",
+    ];
+    counts.ask(["dropped jobs", "12"], rounds / 20);
+    counts.close(names, rounds);
 }
 
 /// Case 13 (S11.13): A alone on two processors, three nodes that nothing precedes, which run one after the other.
@@ -202,6 +281,16 @@ mod tests {
     #[test]
     fn wild_lists_of_the_independent_dispatcher() {
         wild_lists(SUBJECT, 100);
+    }
+
+    #[test]
+    fn kept_lists_of_the_independent_dispatcher() {
+        kept_lists(SUBJECT, 100);
+    }
+
+    #[test]
+    fn exact_kept_lists_of_the_independent_dispatcher() {
+        exact_kept_lists(SUBJECT, 100);
     }
 
     #[test]

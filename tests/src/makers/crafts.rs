@@ -62,13 +62,13 @@ impl Crafted {
     }
 }
 
-/// Random tasks, and M with which they are accepted: the least that their shares need, or a little more.
-pub fn crafted(random: &mut Random, count: usize, scale: usize) -> (Sheet, Vec<Crafted>) {
+/// Random tasks of some levels, and M with which they are accepted: the least that their shares need, or a little more.
+pub fn crafted(random: &mut Random, levels: &[Level], count: usize, scale: usize) -> (Sheet, Vec<Crafted>) {
     loop {
         let widest = random.within(2..=(PROCESSORS / count).clamp(2, 8));
         let tasks: Vec<Crafted> = (0..count)
             .map(|_| {
-                let level = *random.pick(&[Level::High, Level::High, Level::High, Level::Low]);
+                let level = *random.pick(levels);
                 crafted_task(random, level, widest, scale)
             })
             .collect();
@@ -81,14 +81,11 @@ pub fn crafted(random: &mut Random, count: usize, scale: usize) -> (Sheet, Vec<C
 /// The sheet of some tasks, where there are processors enough. Often some deadlines in turn are made the least with
 /// which the sheet is accepted.
 pub fn sheet_of(random: &mut Random, mut tasks: Vec<Crafted>) -> Option<(Sheet, Vec<Crafted>)> {
-    let typical: usize = tasks.iter().map(|task| task.shares.typical).sum();
-    let critical: usize = tasks.iter().map(|task| task.shares.critical).sum();
-    let processors = typical.max(critical) + *random.pick(&[0, 0, 1, 2]);
+    let processors = needed(&tasks) + *random.pick(&[0, 0, 1, 2]);
     if processors > PROCESSORS {
         return None;
     }
-    let of_tasks = tasks.iter().map(|crafted| crafted.task.clone()).collect();
-    let mut sheet = Sheet { processors: processors as u8, tasks: of_tasks };
+    let mut sheet = sheet(processors, &tasks);
     let count = tasks.len();
     let tightened = if random.once_in(4) { 0 } else { count.min(5) };
     let first = random.within(0..=count - 1);
@@ -99,13 +96,23 @@ pub fn sheet_of(random: &mut Random, mut tasks: Vec<Crafted>) -> Option<(Sheet, 
     Some((sheet, tasks))
 }
 
+/// The processors that the tasks' shares need.
+fn needed(tasks: &[Crafted]) -> usize {
+    let total = |share: fn(&Pair) -> usize| tasks.iter().map(|task| share(&task.shares)).sum::<usize>();
+    total(|shares| shares.typical).max(total(|shares| shares.critical))
+}
+
+fn sheet(processors: usize, tasks: &[Crafted]) -> Sheet {
+    Sheet { processors: processors as u8, tasks: tasks.iter().map(|crafted| crafted.task.clone()).collect() }
+}
+
 /// Makes a task's deadline the least with which the sheet is accepted; more never harms.
 fn tighten(sheet: &mut Sheet, task: usize) {
     let (mut fails, mut fits) = (0, sheet.tasks[task].figures.d);
     while fails + 1 < fits {
         let middle = (fails + fits) / 2;
         sheet.tasks[task].figures.d = middle;
-        *(if planner::plan(sheet).is_ok() { &mut fits } else { &mut fails }) = middle;
+        *(if planner::is_planned(sheet) { &mut fits } else { &mut fails }) = middle;
     }
     sheet.tasks[task].figures.d = fits;
 }
@@ -230,11 +237,7 @@ pub fn exact(random: &mut Random) -> Option<(Sheet, Vec<Crafted>, usize)> {
     let (ln, each, then) = (random.within(1..=8), random.within(0..=8), random.within(1..=8));
     let v = ln + each;
     let lo = v.max(then) + random.within(0..=5);
-    let steps = random.within(1..=4.min(lo));
-    let of_chain = (0..steps).map(|step| lo / steps + usize::from(step < lo % steps));
-    let overload: Vec<usize> = [vec![v; a], vec![then; b], of_chain.collect()].concat();
-    let in_chain = |v: usize| if v > a + b { 1 << (v - 1) } else { 0 };
-    let masks: Vec<u32> = (0..overload.len()).map(in_chain).collect();
+    let (overload, masks) = then_chain(random, [vec![v; a], vec![then; b]].concat(), lo);
     let [d, cn, co, ln, lo] = [v + then + lo, ln + a * each, a * v + b * then + lo, ln, lo].map(|figure| figure as u16);
     let figures = Figures { d, cn, co, ln, lo };
     let high = given(Level::High, figures, masks, Pair { typical: a, critical: b }, overload);
@@ -248,10 +251,41 @@ pub fn exact(random: &mut Random) -> Option<(Sheet, Vec<Crafted>, usize)> {
 
     let place = random.within(0..=1);
     let tasks = if place == 0 { vec![high, low] } else { vec![low, high] };
-    let of_tasks = tasks.iter().map(|crafted| crafted.task.clone()).collect();
-    let sheet = Sheet { processors: processors as u8, tasks: of_tasks };
+    let sheet = sheet(processors, &tasks);
     let plan = planner::plan(&sheet).ok()?;
     (plan.tasks[place].shares == tasks[place].shares).then_some((sheet, tasks, place))
+}
+
+/// A sheet of a high task, whose number is given, and of low ones of which one at least is kept. Each low task's lengths
+/// keep its processors busy for D − L ticks, and only then let a chain of length L begin: its job ends in tick D and not
+/// before. None where no low task is kept.
+pub fn exact_kept(random: &mut Random) -> Option<(Sheet, Vec<Crafted>, usize)> {
+    let mut tasks: Vec<Crafted> = (0..random.within(1..=4)).map(|_| exact_low(random)).collect();
+    let high = random.within(0..=tasks.len());
+    tasks.insert(high, crafted_task(random, Level::High, 8, 6));
+    let sheet = sheet(needed(&tasks) + *random.pick(&[0, 0, 0, 1]), &tasks);
+    let plan = planner::plan(&sheet).ok()?;
+    let keeps_one = (0..tasks.len()).any(|task| task != high && plan.tasks[task].shares.critical > 0);
+    keeps_one.then_some((sheet, tasks, high))
+}
+
+fn exact_low(random: &mut Random) -> Crafted {
+    let (share, rounds, each) = (random.within(2..=4), random.within(1..=3), random.within(1..=4));
+    let l = each + random.within(0..=4);
+    let (lengths, masks) = then_chain(random, vec![each; share * rounds], l);
+    let [d, c, l] = [l + rounds * each, l + share * rounds * each, l].map(|figure| figure as u16);
+    let figures = Figures { d, cn: c, co: c, ln: l, lo: l };
+    given(Level::Low, figures, masks, Pair { typical: share, critical: 0 }, lengths)
+}
+
+/// Nodes of some lengths side by side, and with higher numbers a chain of at most four that total the span: the lengths,
+/// and the masks.
+fn then_chain(random: &mut Random, beside: Vec<usize>, span: usize) -> (Vec<usize>, Vec<u32>) {
+    let steps = random.within(1..=4.min(span));
+    let of_chain = (0..steps).map(|step| span / steps + usize::from(step < span % steps));
+    let in_chain = |v: usize| if v > beside.len() { 1 << (v - 1) } else { 0 };
+    let masks = (0..beside.len() + steps).map(in_chain).collect();
+    (beside.into_iter().chain(of_chain).collect(), masks)
 }
 
 fn given(level: Level, figures: Figures, masks: Vec<u32>, shares: Pair, lengths: Vec<usize>) -> Crafted {
