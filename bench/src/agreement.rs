@@ -76,6 +76,10 @@ fn changed<T: Copy>(items: &[T], values: &[T], tried: impl Fn(&[T])) {
     }
 }
 
+fn named<'a>(inputs: &'a [Input], names: &'a [&str]) -> impl Iterator<Item = &'a Input> {
+    inputs.iter().filter(|input| names.contains(&input.name.as_str()))
+}
+
 pub fn check(inputs: &[Input]) {
     for input in inputs {
         sheets_agree(input, &input.sheet);
@@ -83,9 +87,10 @@ pub fn check(inputs: &[Input]) {
             [&input.fresh, &input.alive, &input.late].into_iter().for_each(|line| states_agree(input, line));
         }
     }
-    let small = &inputs[0];
-    changed(&small.sheet, &VALUES, |sheet| sheets_agree(small, sheet));
-    for input in &inputs[..2] {
+    for input in named(inputs, &["small", "low"]) {
+        changed(&input.sheet, &VALUES, |sheet| sheets_agree(input, sheet));
+    }
+    for input in named(inputs, &["small", "full", "low"]) {
         changed(&input.alive, &WORDS, |line| states_agree(input, line));
     }
 }

@@ -102,6 +102,11 @@ impl TaskState {
         lowest(self.ready(), self.share(critical))
     }
 
+    /// Whether the critical mode has processors for it: a high task, or a low one that is kept.
+    fn stays(&self) -> bool {
+        self.level == HIGH || self.share.critical > 0
+    }
+
     fn is_late(&self) -> bool {
         self.level == HIGH && self.alive && self.age >= self.virtual_deadline
     }
@@ -170,7 +175,7 @@ fn released(state: &mut State, task: usize) -> Answer {
     }
     let critical = state.critical;
     let entry = state.tasks_mut().get_mut(task).ok_or(Refusal { number: 11, task: NO_TASK })?;
-    if critical && entry.level != HIGH {
+    if critical && !entry.stays() {
         return Err(refusal(12, task));
     }
     if entry.alive || entry.age < entry.deadline {
@@ -214,7 +219,7 @@ fn ticked(state: &mut State, reports: &[u32]) -> Result<Option<u8>, Refusal> {
     if late.is_some() {
         state.critical = true;
         for entry in state.tasks_mut() {
-            entry.alive &= entry.level == HIGH;
+            entry.alive &= entry.stays();
         }
     }
     Ok(late.map(|task| task as u8))

@@ -9,6 +9,8 @@ pub struct Input {
     pub name: String,
     /// Whether it shows growth: then the calls are measured on states by value only.
     pub growth: bool,
+    /// Whether Plan alone is measured.
+    pub plan_only: bool,
     pub sheet: Vec<u8>,
     pub processors: usize,
     pub count: usize,
@@ -35,6 +37,20 @@ fn high_tasks(m: u8, n: u8, k: u8, share: u16) -> Vec<u8> {
     Draft::of(&Sheet { processors: m, tasks: vec![task; n.into()] }).bytes()
 }
 
+/// A high task with the shares (10, 34) and 15 low ones, of 32 nodes each, on 64 processors. The low tasks have the
+/// shares 5, 4, 3, 2 in turn. In the critical mode 30 processors are left over, just enough for those with 2 and 3 and
+/// three of the four with 4.
+fn low_tasks() -> Vec<u8> {
+    let task = |level, figures| Task { level, figures, masks: (0..32).map(mask).collect() };
+    let low = |share: u16| {
+        let c = 10 + 140 * share;
+        task(Level::Low, Figures { d: 150, cn: c, co: c, ln: 10, lo: 10 })
+    };
+    let high = task(Level::High, Figures { d: 150, cn: 810, co: 1_290, ln: 10, lo: 50 });
+    let tasks = [high].into_iter().chain([5, 4, 3, 2].into_iter().cycle().take(15).map(low)).collect();
+    Draft::of(&Sheet { processors: 64, tasks }).bytes()
+}
+
 /// The first eight nodes wait for none; a later one waits for the eight before it.
 fn mask(v: u8) -> u32 {
     if v < 8 {
@@ -59,6 +75,7 @@ fn input(name: String, sheet: Vec<u8>) -> Input {
     Input {
         name,
         growth: false,
+        plan_only: false,
         sheet,
         processors,
         count,
@@ -76,12 +93,13 @@ fn grown(m: u8, n: u8, k: u8) -> Input {
     Input { growth: true, ..input }
 }
 
-/// The small sheet, the full one, the worst one, and growth over M, n and k.
+/// The small sheet, the full one, the worst one, the one of low tasks, and growth over M, n and k.
 pub fn all() -> Vec<Input> {
     let mut inputs = vec![
         input("small".into(), CASE_14.to_vec()),
         input("full".into(), high_tasks(64, 16, 32, 4)),
         input("worst".into(), high_tasks(64, 16, 32, 63)),
+        Input { plan_only: true, ..input("low".into(), low_tasks()) },
     ];
     inputs.extend([8, 16, 32, 64].map(|m| grown(m, 4, 32)));
     inputs.extend([1, 4, 8, 16].map(|n| grown(64, n, 32)));

@@ -80,7 +80,24 @@ fn select(offers: &[Offer], m: u8) -> Result<[Share; TASKS], Refusal> {
     Ok(shares)
 }
 
-/// Refusals 7 and 8, and the shares that are chosen.
+/// Keeps low tasks on the processors that the high shares leave over: always the least share, of equal ones the first,
+/// for as long as it fits.
+fn keep_low(tasks: &[Task], shares: &mut [Share], m: u8) {
+    let mut left = m - shares.iter().map(|share| share.critical).sum::<u8>();
+    loop {
+        let rest =
+            tasks.iter().zip(shares.iter_mut()).filter(|(task, share)| task.level != HIGH && share.critical == 0);
+        match rest.map(|(_, share)| share).min_by_key(|share| share.typical) {
+            Some(share) if share.typical <= left => {
+                share.critical = share.typical;
+                left -= share.typical;
+            }
+            _ => return,
+        }
+    }
+}
+
+/// Refusals 7 and 8, and the shares that are chosen, with those of the kept tasks.
 pub fn choose(set: &TaskSet) -> Result<[Share; TASKS], Refusal> {
     let m = set.processors;
     let mut offers = [[0; 64]; TASKS];
@@ -90,7 +107,10 @@ pub fn choose(set: &TaskSet) -> Result<[Share; TASKS], Refusal> {
             return Err(refusal(7, i));
         }
     }
-    select(&offers[..usize::from(set.count)], m)
+    let n = usize::from(set.count);
+    let mut shares = select(&offers[..n], m)?;
+    keep_low(set.tasks(), &mut shares[..n], m);
+    Ok(shares)
 }
 
 pub fn virtual_deadline(task: &Task, a: u8) -> u32 {

@@ -122,6 +122,9 @@ fn rows_of(input: &Input) -> Vec<Row> {
         ..row(call, made(input, input.ticks))
     };
     let in_place = |call, whole| Row { base: Some(copy(&input.fresh)), ..row(call, whole) };
+    if input.plan_only {
+        return vec![row("plan", plan(input))];
+    }
     let mut rows = vec![row("plan", plan(input)), row("start, words", start(input))];
     if input.accepted {
         rows.extend([alone("tick", ticks), alone("release", releases), alone("board", boards)]);
