@@ -1,14 +1,13 @@
 -- What is fixed for the tasks of a set: a line of sixteen shares fixes what the shares do, the numbers are small since the shares
 -- fit, and a sheet's answers go refusal by refusal.
 use Prim.Native.Nat.{ℕ, zero, suc, _+_, _≤_, _<_}
-use mathlib.Core.Bool.{Bool, true, false, cond}
+use mathlib.Core.Bool.{true, false, cond}
 use mathlib.Core.List.{List, _∷_}
 use mathlib.Core.Path.{_≡_, refl, sym, ap, ap₂, _∙_}
 use native.Mathlib.Decide.{decLt}
 use native.Mathlib.Omega.{arith}
 use lib.Dec.{ltb}
-use lib.ListN.{length, getD, take, set, replicate}
-use lib.Seq.{ext-getD, getD-take, length-take-le}
+use lib.ListN.{length, take, set, replicate}
 use borrow.Author.Tests.{le-ltb}
 use Rattle.sheet.specs.declared.answer.Answer.{Answer}
 use Rattle.sheet.specs.declared.answer.Answer.the-variants.{Accepted, Refused}
@@ -19,7 +18,7 @@ use Rattle.basics.specs.Lists.{cellsFrom, cells}
 use Rattle.basics.proofs.Cells.{cells-none, cells-store, cells-length}
 use Rattle.reader.specs.Reading.{readOf}
 use Rattle.shares.specs.declared.share.Share.{Share}
-use Rattle.shares.specs.Totals.{noProcessors, shareAt, shareTotal}
+use Rattle.shares.specs.Totals.{shareAt, shareTotal}
 use Rattle.allocation.specs.declared.allocate.Allocation.{Allocation}
 use Rattle.allocation.specs.Blocks.{offsetIn, lengthIn}
 use Rattle.allocation.specs.Lawful.{LawfulSet, LawfulShares}
@@ -27,7 +26,8 @@ use Rattle.allocation.specs.Allocation.{choiceAnswer, sixteen, sharesOf,
 use Rattle.allocation.specs.means.Bounds.{SharesFit, Bounded, AllBounded}
 use Rattle.allocation.proofs.Accepted.{both-accepted, accepted-lawful}
 use Rattle.allocation.proofs.KeptLine.{accepted-shares}
-use Rattle.allocation.proofs.Blocks.{total-part, shares-blocks}
+use Rattle.shares.proofs.Totals.{total-part}
+use Rattle.allocation.proofs.Blocks.{shares-blocks}
 use Rattle.allocation.proofs.Lawfulness.{figures-kept}
 use Rattle.allocation.proofs.Lines.{cells-at}
 use Rattle.allocation.proofs.Sixteen.{share-same, sixteen-take, offset-same}

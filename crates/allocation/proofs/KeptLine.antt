@@ -1,37 +1,38 @@
 -- S5.6 on the line of sixteen shares of a choice: its low tasks are those without a critical share, so that what is kept there is what
 -- is to be kept beside the choice.
-use Prim.Native.Nat.{ℕ, _+_, _-_, _≤_, _<_}
+use Prim.Native.Nat.{ℕ, _≤_, _<_}
 use mathlib.Core.Path.{_≡_, refl, sym, ap, _∙_, subst, fun-ext}
-use mathlib.Core.Bool.{Bool, true, false, cond, false≢true}
-use mathlib.Core.List.{List, []}
+use mathlib.Core.Bool.{Bool, true, false, cond}
+use mathlib.Core.List.{List}
 use mathlib.Core.Option.{Option, none, some}
 use native.Mathlib.Omega.{arith}
 use lib.Dec.{eqb}
 use lib.ListN.{length, getD, take}
 use lib.Seq.{ext-getD, take-length}
 use borrow.Author.Tests.{eq-eqb, ne-eqb}
-use Rattle.basics.specs.Lists.{range, keep, isNone}
+use Rattle.basics.specs.Lists.{range, keep}
 use Rattle.basics.proofs.Lists.{keep-ext-below}
 use Rattle.sheet.specs.declared.answer.Answer.{Answer}
 use Rattle.sheet.specs.declared.answer.Answer.the-variants.{Accepted, Refused}
 use Rattle.sheet.specs.declared.task.Task.{Task}
 use Rattle.sheet.specs.declared.task.TaskSet.{TaskSet}
-use Rattle.sheet.specs.Answers.{noTask, refusedIf, _orElse_, firstOver}
-use Rattle.sheet.specs.Format.{taskIn, missingTask}
+use Rattle.sheet.specs.Answers.{firstOver}
+use Rattle.sheet.specs.Format.{missingTask}
 use Rattle.sheet.specs.Level.{isLow}
 use Rattle.shares.specs.declared.share.Share.{Share}
-use Rattle.shares.specs.Totals.{noProcessors, shareAt, criticalTotal}
+use Rattle.shares.specs.Totals.{noProcessors, shareAt}
 use Rattle.allocation.specs.declared.choice.Chosen.{Chosen}
 use Rattle.allocation.specs.Blocks.{lengthIn}
-use Rattle.allocation.specs.Kept.{lowNumbers, firstHeld, typicalShareAt, leftOver, keptTasks, isIn, keptShare, withKept}
+use Rattle.keeping.specs.Kept.{lowNumbers, typicalShareAt, keptTasks, isIn, keptShare, withKept}
 use Rattle.allocation.specs.Lawful.{LawfulSet, LawfulShares}
-use Rattle.allocation.specs.Allocation.{noFit, tasksOf, chosenFor, shareAnswer, choiceAnswer, sharesChosen, sharesWith, sharesOf, sixteen, choiceOf}
-use Rattle.allocation.specs.means.Keeping.{criticalShareAt, without, keptLine, Keepable}
+use Rattle.allocation.specs.Allocation.{tasksOf, chosenFor, shareAnswer, choiceAnswer, sharesChosen, sharesWith, sharesOf, sixteen, choiceOf}
+use Rattle.keeping.specs.means.Keeping.{criticalShareAt, without, keptLine, Keepable}
 use Rattle.allocation.proofs.Laws.{chosen-length, chosen-critical, chosen-positive, chosen-high}
 use Rattle.allocation.proofs.Accepted.{accepted-choice}
 use Rattle.allocation.proofs.Sets.{chosenLine, none-shares, refused-none}
 use Rattle.allocation.proofs.Sixteen.{sixteen-length, share-same, sixteen-take}
-use Rattle.allocation.proofs.KeptLaws.{with-length, with-share, tasks-there, task-at, low-zero, shares-lawful}
+use Rattle.keeping.proofs.Laws.{with-length, with-share}
+use Rattle.allocation.proofs.SetShares.{tasks-there, task-at, low-zero, shares-lawful}
 
 -- The line of shares with kept ones.
 line-with : (kept : List ℕ) (choice : List Share) → length choice ≤ 16 → withKept kept (sixteen choice) ≡ sixteen (withKept kept choice)

@@ -20,13 +20,15 @@ use Rattle.sheet.specs.Level.{isLow}
 use Rattle.shares.specs.Test.{virtualDeadline}
 use Rattle.shares.specs.Totals.{typicalTotal, criticalTotal, noProcessors}
 use Rattle.shares.proofs.Ends.{virtual-within}
-use Rattle.allocation.specs.Choice.{optionsOf, choices, fits, rank, noLater, leastBy, fitting, chosen}
+use Rattle.basics.specs.Order.{noLater, leastBy}
+use Rattle.allocation.specs.Choice.{optionsOf, choices, fits, rank, fitting, chosen}
 use Rattle.allocation.specs.Way.{LowPair, HighPair}
 use Rattle.allocation.specs.Blocks.{lengthIn}
 use Rattle.allocation.specs.Allocation.{tasksOf, chosenFor}
 use Rattle.allocation.specs.Lawful.{LawfulSet}
 use Rattle.basics.proofs.Members.{keep-has, keep-from, none-empty}
-use Rattle.allocation.proofs.Ranks.{no-later-both, rank-same, least-member, least-first, least-none, least-of-none}
+use Rattle.basics.proofs.Order.{no-later-both, least-member, least-first, least-none, least-of-none}
+use Rattle.allocation.proofs.Ranks.{rank-same}
 use Rattle.allocation.proofs.Lawfulness.{figures-kept}
 use Rattle.allocation.proofs.Options.{low-from, high-from, options-low, options-high, offer-of}
 use Rattle.allocation.proofs.Sets.{fitting-takes, fitting-option, takes-length}

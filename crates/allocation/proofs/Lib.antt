@@ -13,11 +13,7 @@ pub mod Sets
 pub mod Accepted
 pub mod Allocations
 pub mod Laws
-pub mod Parts
-pub mod Greedy
-pub mod KeptLaws
-pub mod Scan
-pub mod KeptSteps
+pub mod SetShares
 pub mod KeptLine
 pub mod Ways
 pub mod Blocks

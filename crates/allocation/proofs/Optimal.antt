@@ -15,10 +15,12 @@ use Rattle.basics.proofs.Logic.{left-true, right-true}
 use Rattle.shares.specs.declared.share.Share.{Share}
 use Rattle.shares.specs.Totals.{typicalTotal, criticalTotal}
 use Rattle.basics.specs.Lists.{keep}
-use Rattle.allocation.specs.Choice.{choices, fits, pairNumbers, rank, noLater, leastBy}
+use Rattle.basics.specs.Order.{noLater, leastBy}
+use Rattle.allocation.specs.Choice.{choices, fits, pairNumbers, rank}
 use Rattle.allocation.specs.means.Selection.{sumAt, bestShare, totalWith, leastTotal, offered, sharesAt, bestTotal, selected}
 use Rattle.basics.proofs.Members.{each-has, each-from, map-has, map-from, keep-has, keep-from, none-empty}
-use Rattle.allocation.proofs.Ranks.{pairs-no-later, ranks-no-later, rank-same, least-is, least-of-none}
+use Rattle.basics.proofs.Order.{least-is, least-of-none}
+use Rattle.allocation.proofs.Ranks.{pairs-no-later, ranks-no-later, rank-same}
 use Rattle.allocation.proofs.Firsts.{least-from, least-to, least-at-most, least-first-at}
 
 -- What is asked of a task's offer: each option has a typical share of 1 to M and a critical share within M of at least

@@ -25,14 +25,15 @@ use Rattle.shares.specs.Offer.{tabulate, criticalAt, offerOf}
 use Rattle.shares.proofs.Levels.{critical-within}
 use Rattle.shares.proofs.Offers.{offer-at}
 use Rattle.allocation.specs.declared.choice.Chosen.{Chosen}
-use Rattle.allocation.specs.Choice.{optionsOf, choices, fits, rank, leastBy, fitting, chosen}
+use Rattle.basics.specs.Order.{leastBy}
+use Rattle.allocation.specs.Choice.{optionsOf, choices, fits, rank, fitting, chosen}
 use Rattle.shares.specs.Totals.{noProcessors}
-use Rattle.allocation.specs.Kept.{withKept}
+use Rattle.keeping.specs.Kept.{withKept}
 use Rattle.allocation.specs.Allocation.{noShare, tasksOf, chosenFor, shareAnswer, choiceAnswer, sharesChosen, sharesWith, sharesOf, sixteen, choiceOf}
 use Rattle.allocation.specs.Lawful.{LawfulTask, LawfulSet}
 use Rattle.allocation.specs.means.Selection.{cellAt, offered, selected, zeroOffer, missingOffer, offersOf, offersNone, offerAnswer, offersUpTo, selectionOf}
 use Rattle.basics.proofs.Members.{keep-from, all-member, all-members, none-empty, empty-none}
-use Rattle.allocation.proofs.Ranks.{least-of-none}
+use Rattle.basics.proofs.Order.{least-of-none}
 use Rattle.allocation.proofs.Optimal.{OfferOf, Offers, no-offer, offer-and, Takes, choice-takes, select-least}
 use Rattle.allocation.proofs.Options.{offer-of, offer-agrees}
 use Rattle.allocation.proofs.Cells.{tabulate-from, tabulate-has}

@@ -19,7 +19,8 @@ use Rattle.basics.proofs.Logic.{left-true, right-true}
 use Rattle.shares.specs.declared.share.Share.{Share}
 use Rattle.shares.specs.Totals.{noProcessors, shareAt, typicalTotal}
 use Rattle.basics.specs.Lists.{isEmpty, isNone}
-use Rattle.allocation.specs.Choice.{optionsOf, choices, fits, rank, noLater, chosen}
+use Rattle.basics.specs.Order.{noLater}
+use Rattle.allocation.specs.Choice.{optionsOf, choices, fits, rank, chosen}
 use Rattle.allocation.specs.Way.{MayTake, TakesNothing, FittingWay, BestWay}
 use Rattle.allocation.specs.Allocation.{noShare, noFit, tasksOf, chosenFor, shareAnswer, choiceAnswer}
 use Rattle.allocation.specs.Verdict.{CanTake, Verdict, no-share, no-fit, accepted}

@@ -20,10 +20,11 @@ use Rattle.shares.specs.Low.{ceilDiv, lowShare, hasLowShare}
 use Rattle.shares.specs.Test.{excess, demand, passes}
 use Rattle.shares.specs.Totals.{noProcessors, shareAt}
 use Rattle.basics.specs.Lists.{range}
-use Rattle.allocation.specs.Choice.{lowOptions, pairsWithin, highOptions, optionsOf, fits, rank, leastBy, fitting, chosen}
+use Rattle.basics.specs.Order.{leastBy}
+use Rattle.allocation.specs.Choice.{lowOptions, pairsWithin, highOptions, optionsOf, fits, rank, fitting, chosen}
 use Rattle.allocation.specs.Way.{MayTake, FittingWay}
-use Rattle.allocation.specs.Kept.{lowNumbers, holdable, firstHeld, typicalShareAt, leftOver, keptTasks, keptShare, withKept}
-use Rattle.allocation.specs.KeptSet.{HeldSet}
+use Rattle.keeping.specs.Kept.{lowNumbers, holdable, firstHeld, typicalShareAt, leftOver, keptTasks, keptShare, withKept}
+use Rattle.keeping.specs.KeptSet.{HeldSet}
 use Rattle.allocation.specs.Allocation.{chosenFor, shareAnswer, choiceAnswer, sharesWith, sharesOf}
 
 -- A typical and a critical share.
@@ -80,23 +81,8 @@ pub record Worked : Type 0 where
   -- S11.12: A, B and E on 7 processors.
   pub with-low : choiceAnswer (on 7 abe) ≡ Refused 8 255
 
--- Tasks 0, 1 and 2 with these shares.
-abbrev pub three : ℕ → ℕ → ℕ → ℕ → ℕ
-three a b c i = getD (a ∷ b ∷ c ∷ []) i 0
-
 pub record WorkedKept : Type 0 where
-  -- S5.6: on 3 processors two tasks of one each are kept, and not one task of three.
-  pub most : firstHeld (three 3 1 1) 3 (0 ∷ 1 ∷ 2 ∷ []) ≡ 1 ∷ 2 ∷ []
-  -- Of two sets with as many tasks the one with fewer processors is kept, though the other fits as well.
-  pub fewest : firstHeld (three 2 1 1) 3 (0 ∷ 1 ∷ 2 ∷ []) ≡ 1 ∷ 2 ∷ []
-  -- With as many of both the list that comes first.
-  pub first : firstHeld (three 1 1 1) 2 (0 ∷ 1 ∷ 2 ∷ []) ≡ 0 ∷ 1 ∷ []
-  -- A smaller share is kept first, whatever its number.
-  pub by-share : firstHeld (three 2 2 1) 3 (0 ∷ 1 ∷ 2 ∷ []) ≡ 0 ∷ 2 ∷ []
-  -- With nothing left over no task is kept; with enough, all are.
-  pub nothing : firstHeld (three 1 1 1) 0 (0 ∷ 1 ∷ 2 ∷ []) ≡ []
-  pub all : firstHeld (three 3 1 2) 6 (0 ∷ 1 ∷ 2 ∷ []) ≡ 0 ∷ 1 ∷ 2 ∷ []
-  -- A and two low tasks of 2 on 6 processors: A's pair stays as it is chosen, and both are kept.
+  -- S5.6: A and two low tasks of 2 on 6 processors: A's pair stays as it is chosen, and both are kept.
   pub both : sharesOf (on 6 (high taskA ∷ low (lowTask 30) ∷ low (lowTask 30) ∷ [])) ≡ pair 1 2 ∷ pair 2 2 ∷ pair 2 2 ∷ []
   -- On 5 there are three left over: one is kept, the first.
   pub one : sharesOf (on 5 (low (lowTask 30) ∷ high taskA ∷ low (lowTask 30) ∷ [])) ≡ pair 2 2 ∷ pair 1 2 ∷ pair 2 0 ∷ []
@@ -107,12 +93,6 @@ pub worked-kept : WorkedKept
 unfolding taskIn isLow ceilDiv lowShare hasLowShare excess demand passes range lowOptions pairsWithin highOptions optionsOf fits leastBy fitting chosen chosenFor isHigh lowNumbers holdable firstHeld typicalShareAt leftOver keptTasks keptShare withKept sharesWith sharesOf shareAt
 worked-kept =
     record {
-      most = refl;
-      fewest = refl;
-      first = refl;
-      by-share = refl;
-      nothing = refl;
-      all = refl;
       both = refl;
       one = refl;
       full = refl;

@@ -19,7 +19,7 @@ use Rattle.allocation.specs.declared.allocate.Allocation.{Allocation}
 use Rattle.allocation.specs.declared.allocate.Allocated.{Allocated}
 use Rattle.allocation.specs.declared.choice.Chosen.{Chosen}
 use Rattle.allocation.specs.Choice.{optionsOf, chosen}
-use Rattle.allocation.specs.Kept.{keptTasks, withKept}
+use Rattle.keeping.specs.Kept.{keptTasks, withKept}
 use Rattle.allocation.specs.Blocks.{offsetIn}
 
 -- S9.7: a task may take nothing.

@@ -1,9 +1,9 @@
 -- S5.1 to S5.3 by enumeration: what a task may take, what a choice is, when it fits, and which one is chosen.
 use Prim.Native.Nat.{ℕ, _+_, _-_}
-use mathlib.Core.Bool.{Bool, true, false, cond, _&&_, _||_}
+use mathlib.Core.Bool.{Bool, cond, _&&_}
 use mathlib.Core.List.{List, [], _∷_, map}
 use mathlib.Core.Option.{Option}
-use lib.Dec.{leb, ltb, eqb}
+use lib.Dec.{leb}
 use Rattle.sheet.specs.declared.task.Figures.{Figures}
 use Rattle.sheet.specs.declared.task.Task.{Task}
 use Rattle.shares.specs.declared.share.Share.{Share}
@@ -11,7 +11,8 @@ use Rattle.shares.specs.Test.{passes}
 use Rattle.sheet.specs.Level.{isLow}
 use Rattle.shares.specs.Low.{lowShare, hasLowShare}
 use Rattle.shares.specs.Totals.{typicalTotal, criticalTotal}
-use Rattle.basics.specs.Lists.{range, keep, each, all, find}
+use Rattle.basics.specs.Lists.{range, keep, each}
+use Rattle.basics.specs.Order.{leastBy}
 
 -- S4.1: a low task may take its share, where it has one, with the critical share 0.
 unfoldable pub lowOptions : ℕ → Figures → List Share
@@ -47,20 +48,10 @@ pairNumbers (s ∷ choice) = s .typical ∷ s .critical ∷ pairNumbers choice
 abbrev pub rank : List Share → List ℕ
 rank choice = criticalTotal choice ∷ typicalTotal choice ∷ pairNumbers choice
 
--- S5.3: the first number that differs decides, and the smaller comes first.
-abbrev pub noLater : List ℕ → List ℕ → Bool
-noLater [] ys = true
-noLater (x ∷ xs) [] = false
-noLater (x ∷ xs) (y ∷ ys) = ltb x y || eqb x y && noLater xs ys
-
--- The member of a list that comes no later than any other of it, by the numbers that the order goes by, or none.
-unfoldable pub leastBy : {A : Type 0} → (A → List ℕ) → List A → Option A
-leastBy numbers list = find (λ x. all (λ other. noLater (numbers x) (numbers other)) list) list
-
 -- S5.2: the choices for a list of tasks that fit M.
 unfoldable pub fitting : ℕ → List Task → List (List Share)
 fitting M tasks = keep (fits M) (choices (map (optionsOf M) tasks))
 
--- S5.3: the first of the choices that fit is chosen; none is, where none fits.
+-- S5.3: the first of the choices that fit is chosen, by these numbers; none is, where none fits.
 unfoldable pub chosen : ℕ → List Task → Option (List Share)
 chosen M tasks = leastBy rank (fitting M tasks)

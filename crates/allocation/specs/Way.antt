@@ -13,7 +13,8 @@ use Rattle.shares.specs.Test.{passes}
 use Rattle.sheet.specs.Level.{isLow}
 use Rattle.shares.specs.Low.{lowShare, hasLowShare}
 use Rattle.shares.specs.Totals.{shareAt, typicalTotal, criticalTotal}
-use Rattle.allocation.specs.Choice.{rank, noLater}
+use Rattle.basics.specs.Order.{noLater}
+use Rattle.allocation.specs.Choice.{rank}
 
 -- S4.2: what a high task may take is a pair within M that passes.
 pub record HighPair (M : ℕ) (f : Figures) (s : Share) : Type 0 where

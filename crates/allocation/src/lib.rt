@@ -1,6 +1,5 @@
 // The allocation: which shares the tasks of a set get, and what is fixed for each of them.
 pub mod allocate;
 pub mod choice;
-mod kept;
 mod offers;
 mod selection;

@@ -1,5 +1,6 @@
 pub mod Logic
 pub mod Members
+pub mod Order
 pub mod Lists
 pub mod Below
 pub mod Counts

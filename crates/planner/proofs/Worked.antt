@@ -16,11 +16,12 @@ use Rattle.reader.specs.Reading.{headerLawful, headerAnswer, placeAnswer, endAn
 use Rattle.shares.specs.Deadline.{virtualDeadlineOf}
 use Rattle.shares.specs.Low.{ceilDiv, lowShare, hasLowShare}
 use Rattle.shares.specs.Test.{excess, demand, passes, virtualDeadline}
-use Rattle.allocation.specs.Choice.{lowOptions, pairsWithin, highOptions, optionsOf, fits, leastBy, fitting, chosen}
+use Rattle.basics.specs.Order.{leastBy}
+use Rattle.allocation.specs.Choice.{lowOptions, pairsWithin, highOptions, optionsOf, fits, fitting, chosen}
 use Rattle.shares.specs.Totals.{shareAt}
 use Rattle.sheet.specs.declared.task.TaskSet.{TaskSet}
 use Rattle.allocation.specs.Blocks.{offsetIn}
-use Rattle.allocation.specs.Kept.{lowNumbers, holdable, firstHeld, typicalShareAt, leftOver, keptTasks, keptShare, withKept}
+use Rattle.keeping.specs.Kept.{lowNumbers, holdable, firstHeld, typicalShareAt, leftOver, keptTasks, keptShare, withKept}
 use Rattle.allocation.specs.Allocation.{chosenFor, shareAnswer, choiceAnswer, allocationOf, allocationsOf, allocationAt, allocationAnswer, allocatedOf, sharesWith, sharesOf}
 use Rattle.allocation.specs.declared.allocate.Allocation.{Allocation}
 use Rattle.allocation.proofs.Worked.{pair, on, ab}

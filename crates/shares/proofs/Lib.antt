@@ -8,3 +8,4 @@ pub mod Words
 pub mod Walk
 pub mod Offers
 pub mod Levels
+pub mod Totals

@@ -1,17 +1,17 @@
 -- Sets of numbers as parts of a list: each number of the list is in or not. Every set that is enumerated is a part and every part is
 -- enumerated; a rising list of members of a rising list is a part; what a test keeps is one.
 use Prim.Native.Nat.{ℕ, zero, suc, _+_, _≤_, _<_}
-use mathlib.Core.Path.{_≡_, refl, sym, ap, _∙_, subst}
+use mathlib.Core.Path.{_≡_, refl, sym, _∙_, subst}
 use mathlib.Core.Logic.{_⊎_, inl, inr}
 use mathlib.Core.Bool.{Bool, true, false, _||_, false≢true}
-use mathlib.Core.List.{List, [], _∷_, _++_, map, List·Memᴰ, List·Memᴰ·head, List·Memᴰ·tail, List·Memᴰ·not-nil, List·Memᴰ·cases-cons, List·Memᴰ·append-cases, List·Memᴰ·eq-of-singleton, Memᴰ·append-left, Memᴰ·append-right}
+use mathlib.Core.List.{List, [], _∷_, map, List·Memᴰ, List·Memᴰ·head, List·Memᴰ·tail, List·Memᴰ·not-nil, List·Memᴰ·cases-cons, List·Memᴰ·append-cases, List·Memᴰ·eq-of-singleton, Memᴰ·append-left, Memᴰ·append-right}
 use native.Mathlib.Omega.{arith}
 use lib.Dec.{eqb}
 use lib.ListN.{length, getD}
 use borrow.Author.Tests.{eqb-true, eq-eqb}
 use Rattle.basics.specs.Lists.{range, keptIf, keep}
-use Rattle.basics.proofs.Members.{map-has, map-from, keep-from, range-within}
-use Rattle.allocation.specs.Kept.{subsets, isIn}
+use Rattle.basics.proofs.Members.{map-has, map-from, range-within}
+use Rattle.keeping.specs.Kept.{subsets, isIn}
 
 -- A part of a list of numbers.
 pub data Part : List ℕ → List ℕ → Type 0 where

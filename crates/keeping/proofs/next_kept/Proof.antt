@@ -1,14 +1,14 @@
--- `kept::next_kept` meets its contract. The loop's invariant: what was found among the tasks passed. The measure is the tasks left.
-use Prim.Native.Nat.{_+_, _-_, _≤_}
+-- `keeping::next_kept` meets its contract. The loop's invariant: what was found among the tasks passed. The measure is the tasks left.
+use Prim.Native.Nat.{_-_, _≤_}
 use mathlib.Core.Path.{_≡_}
 use mathlib.Core.Logic.{⊎-elim}
 use Rattle.shares.specs.Totals.{shareAt}
-use Rattle.allocation.specs.Kept.{typicalShareAt}
-use Rattle.allocation.specs.means.Keeping.{criticalShareAt}
+use Rattle.keeping.specs.Kept.{typicalShareAt}
+use Rattle.keeping.specs.means.Keeping.{criticalShareAt}
 use native.Mathlib.Omega.{arith}
-use Rattle.allocation.proofs.Scan.{Seen, seen-none, seen-if, seen-else, seen-all}
-use Rattle.allocation.proofs.kept.next_kept.Statement.{statement}
-use Rattle.allocation.proofs.kept.next_kept.Tie as tie
+use Rattle.keeping.proofs.Scan.{Seen, seen-none, seen-if, seen-else, seen-all}
+use Rattle.keeping.proofs.next_kept.Statement.{statement}
+use Rattle.keeping.proofs.next_kept.Tie as tie
 
 abbrev Inv-loop : tie.InvT-loop
 Inv-loop n left shares next₀ room₀ i₀ next room i = (i ≤ n) × Seen n left shares i next room

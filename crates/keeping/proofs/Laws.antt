@@ -3,36 +3,27 @@
 use Prim.Native.Nat.{ℕ, zero, suc, _+_, _-_, _≤_, _<_}
 use mathlib.Core.Path.{_≡_, refl, sym, ap, _∙_, subst}
 use mathlib.Core.Logic.{_⊎_, inl, inr}
-use mathlib.Core.Bool.{Bool, true, false, cond, false≢true}
+use mathlib.Core.Bool.{Bool, true, false, cond}
 use mathlib.Core.List.{List, [], _∷_, map, List·Memᴰ, List·Memᴰ·head, List·Memᴰ·tail, List·Memᴰ·not-nil, List·Memᴰ·cases-cons}
 use mathlib.Core.Option.{Option, none, some}
 use native.Mathlib.Omega.{arith}
 use native.Mathlib.Decide.{decLt}
-use lib.Dec.{leb}
 use lib.ListN.{length, getD, length-map, List·getD-eq-default}
-use lib.Seq.{length-take-le, getD-take}
 use borrow.Author.Tests.{leb-true, le-leb}
-use Rattle.basics.specs.Lists.{range, keep}
+use Rattle.basics.specs.Lists.{range}
 use Rattle.basics.proofs.Logic.{bool-ext}
 use Rattle.basics.proofs.Lists.{length-range}
 use Rattle.basics.proofs.Members.{range-has, range-within, keep-has, keep-from}
 use Rattle.sheet.specs.declared.task.Task.{Task}
-use Rattle.sheet.specs.declared.task.TaskSet.{TaskSet}
-use Rattle.sheet.specs.Format.{taskIn, missingTask}
+use Rattle.sheet.specs.Format.{missingTask}
 use Rattle.sheet.specs.Level.{isLow}
 use Rattle.shares.specs.declared.share.Share.{Share}
-use Rattle.shares.specs.Deadline.{virtualDeadlineOf}
 use Rattle.shares.specs.Totals.{noProcessors, shareAt, shareIn, shareTotal, typicalTotal, criticalTotal}
-use Rattle.allocation.specs.Choice.{noLater, leastBy}
-use Rattle.allocation.specs.Way.{LowPair, HighPair}
-use Rattle.allocation.specs.Blocks.{lengthIn}
-use Rattle.allocation.specs.Kept.{lowNumbers, subsets, processorsFor, holdable, keptRank, setFound, firstHeld, typicalShareAt, leftOver, keptTasks, isIn, keptShare, withKept}
-use Rattle.allocation.specs.KeptSet.{LowSet, HeldSet, BestKept, KeptShares}
-use Rattle.allocation.specs.Lawful.{LawfulSet, KeptPair, LawfulShares}
-use Rattle.allocation.specs.Allocation.{tasksOf, chosenFor, sharesWith}
-use Rattle.allocation.proofs.Ranks.{no-later-then, least-member, least-first, least-none}
-use Rattle.allocation.proofs.Parts.{Part, nothing, taken, left, part-subset, subset-part, part-length, part-member, part-rising, keep-part, Rising, range-rising, rising-part, neighbours-rising, rising-neighbours, is-in, in-is}
-use Rattle.allocation.proofs.Laws.{chosen-length, chosen-typical, chosen-critical, chosen-high, chosen-low, chosen-positive, chosen-virtual}
+use Rattle.basics.specs.Order.{noLater, leastBy}
+use Rattle.keeping.specs.Kept.{lowNumbers, subsets, processorsFor, holdable, keptRank, setFound, firstHeld, typicalShareAt, leftOver, keptTasks, isIn, keptShare, withKept}
+use Rattle.keeping.specs.KeptSet.{LowSet, HeldSet, BestKept, KeptShares}
+use Rattle.basics.proofs.Order.{no-later-then, least-member, least-first, least-none}
+use Rattle.keeping.proofs.Parts.{Part, nothing, taken, left, part-subset, subset-part, part-length, part-member, part-rising, keep-part, Rising, range-rising, rising-part, neighbours-rising, rising-neighbours, is-in, in-is}
 
 -- The first of the sets that can be held is one of them, and comes no later than any.
 module _ (share : ℕ → ℕ) (room : ℕ) (numbers : List ℕ) where
@@ -192,7 +183,7 @@ map-range-at f first (suc count) (suc i) d inside =
     map-range-at f (suc first) count i d (omega arith) ∙ ap f e
 
 -- The share of task i, where it may be kept.
-abbrev shareIf : Bool → Share → Share
+abbrev pub shareIf : Bool → Share → Share
 shareIf kept s = cond kept (keptShare s) s
 
 module _ (kept : List ℕ) (choice : List Share) where
@@ -332,84 +323,3 @@ module _ (M : ℕ) (tasks : List Task) (choice : List Share) (each : length choi
           shareIf t (shareAt choice i) ≡ shareAt choice i
       left-out i out true e = absurd (out (is-in i (keptTasks M tasks choice) e))
       left-out i out false e = refl
-
--- The shares that the tasks of a lawful set get.
-module _ (set : TaskSet) (lawful : LawfulSet set) (choice : List Share) (chosen-it : chosenFor set ≡ some choice) where
-  pub tasks-there : length (tasksOf set) ≡ set .count
-  tasks-there =
-      let long = lawful .all-there in
-      let few = lawful .few-tasks in
-      length-take-le (set .count) (set .tasks) (omega arith)
-
-  -- Task i of the set is task i of the list.
-  pub task-at : (i : ℕ) → i < set .count → getD (tasksOf set) i missingTask ≡ taskIn set i
-  unfolding taskIn
-  task-at i inside = getD-take (set .count) (set .tasks) i missingTask inside
-
-  choice-length : length choice ≡ length (tasksOf set)
-  choice-length = chosen-length set lawful choice chosen-it ∙ sym tasks-there
-
-  pub low-zero : (i : ℕ) → i < length (tasksOf set) → isLow (getD (tasksOf set) i missingTask .level) ≡ true → shareAt choice i .critical ≡ 0
-  unfolding shareAt
-  low-zero i inside low =
-      let known : i < set .count = omega (arith, tasks-there) in
-      chosen-low set lawful choice chosen-it i known (sym (ap (λ (t : Task). isLow (t .level)) (task-at i known)) ∙ low) .critical
-
-  -- S5.6 of a task set: the kept set, and the shares.
-  pub set-kept : BestKept (set .processors) (tasksOf set) choice (keptTasks (set .processors) (tasksOf set) choice)
-  set-kept = kept-best (set .processors) (tasksOf set) choice (chosen-critical set lawful choice chosen-it)
-
-  pub set-shares : KeptShares choice (keptTasks (set .processors) (tasksOf set) choice) (sharesWith set choice)
-  unfolding sharesWith
-  set-shares = kept-shares (set .processors) (tasksOf set) choice choice-length low-zero
-
-  same-typical : (i : ℕ) → shareAt (sharesWith set choice) i .typical ≡ shareAt choice i .typical
-  unfolding sharesWith
-  same-typical i = with-typical (keptTasks (set .processors) (tasksOf set) choice) choice i
-
-  module _ (i : ℕ) (inside : i < set .count) where
-    high-pair : isLow (taskIn set i .level) ≡ false → HighPair (set .processors) (taskIn set i .figures) (shareAt (sharesWith set choice) i)
-    unfolding shareAt
-    high-pair high =
-        subst (HighPair (set .processors) (taskIn set i .figures)) (sym (set-shares .others i out)) (chosen-high set lawful choice chosen-it i inside high)
-      where
-        out : List·Memᴰ i (keptTasks (set .processors) (tasksOf set) choice) → ⊥
-        out m =
-            false≢true
-            (sym high
-            ∙ sym (ap (λ (t : Task). isLow (t .level)) (task-at i inside))
-            ∙ kept-low (set .processors) (tasksOf set) choice choice-length low-zero i m .1)
-
-    low-pair : isLow (taskIn set i .level) ≡ true → KeptPair (set .processors) (taskIn set i .figures) (shareAt (sharesWith set choice) i)
-    unfolding sharesWith keptShare shareAt
-    low-pair low =
-        let pair = chosen-low set lawful choice chosen-it i inside low in
-        record {
-          has = pair .has;
-          typical = same-typical i ∙ pair .typical;
-          critical =
-              subst (λ (s : Share). 0 < s .critical → s .critical ≡ s .typical)
-              (sym (with-share (keptTasks (set .processors) (tasksOf set) choice) choice i))
-              (go (isIn i (keptTasks (set .processors) (tasksOf set) choice)) (pair .critical));
-        }
-      where
-        go : (t : Bool) → getD choice i noProcessors .critical ≡ 0 → 0 < shareIf t (shareAt choice i) .critical →
-            shareIf t (shareAt choice i) .critical ≡ shareIf t (shareAt choice i) .typical
-        go true e some-left = refl
-        go false e some-left = absurd (omega arith)
-
-  pub shares-lawful : LawfulShares set (sharesWith set choice)
-  unfolding lengthIn sharesWith shareAt
-  shares-lawful =
-      record {
-        each = set-shares .each ∙ chosen-length set lawful choice chosen-it;
-        fits = fits;
-        high = high-pair;
-        low = low-pair;
-        some-share = λ i inside. rw (same-typical i) (chosen-positive set lawful choice chosen-it i inside);
-        virtual = λ i inside. rw (same-typical i) (chosen-virtual set lawful choice chosen-it i inside);
-      }
-    where
-      fits : (mode : Bool) → shareTotal mode (sharesWith set choice) ≤ set .processors
-      fits false = rw (with-typical-total (keptTasks (set .processors) (tasksOf set) choice) choice) (chosen-typical set lawful choice chosen-it)
-      fits true = let total = set-shares .total in let held = set-kept .held .fits in omega arith

@@ -1,7 +1,7 @@
 -- The search for the next task to keep, one task after the other: the first of all seen so far that so many processors hold, or none.
-use Prim.Native.Nat.{ℕ, zero, suc, _+_, _≤_, _<_}
+use Prim.Native.Nat.{ℕ, _+_, _≤_, _<_}
 use mathlib.Core.Path.{_≡_, refl, sym, ap, _∙_, subst}
-use mathlib.Core.Logic.{_⊎_, inl, inr}
+use mathlib.Core.Logic.{inl, inr}
 use mathlib.Core.Bool.{Bool, true, false, _&&_}
 use mathlib.Core.List.{List}
 use native.Mathlib.Decide.{decLt}
@@ -10,8 +10,8 @@ use lib.Dec.{eqb, ltb}
 use borrow.Author.Tests.{eqb-true, eq-eqb, ltb-true, ltb-false}
 use Rattle.basics.proofs.Logic.{left-true, right-true}
 use Rattle.shares.specs.declared.share.Share.{Share}
-use Rattle.allocation.specs.Kept.{typicalShareAt}
-use Rattle.allocation.specs.means.Keeping.{criticalShareAt, NoLater, Next, none, found}
+use Rattle.keeping.specs.Kept.{typicalShareAt}
+use Rattle.keeping.specs.means.Keeping.{criticalShareAt, NoLater, Next, none, found}
 
 module _ (n room : ℕ) (shares : List Share) where
   -- What is known once the tasks below i are seen: either next is n, and none that the room holds was seen, or next is the first of

@@ -1,6 +1,6 @@
 -- S5.6 by enumeration: the low tasks that are kept in the critical mode, on the processors that the high tasks leave over.
 use Prim.Native.Nat.{ℕ, _+_, _-_}
-use mathlib.Core.Bool.{Bool, true, false, cond, _||_}
+use mathlib.Core.Bool.{Bool, false, cond, _||_}
 use mathlib.Core.List.{List, [], _∷_, _++_, map}
 use mathlib.Core.Option.{Option, none, some}
 use lib.Dec.{leb, eqb}
@@ -11,7 +11,7 @@ use Rattle.sheet.specs.Level.{isLow}
 use Rattle.basics.specs.Lists.{range, keep}
 use Rattle.shares.specs.declared.share.Share.{Share}
 use Rattle.shares.specs.Totals.{shareAt, criticalTotal}
-use Rattle.allocation.specs.Choice.{leastBy}
+use Rattle.basics.specs.Order.{leastBy}
 
 -- The numbers of the low tasks, rising.
 unfoldable pub lowNumbers : List Task → List ℕ

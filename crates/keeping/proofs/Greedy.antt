@@ -2,7 +2,7 @@
 -- out. Against any other set each task that is in alone takes no more than that share, and each that is out alone no less, so that
 -- the split comes no later in the order of the sets than any set that can be held.
 use Prim.Native.Nat.{ℕ, zero, suc, _+_, _-_, _≤_, _<_}
-use mathlib.Core.Path.{_≡_, refl, sym, ap, _∙_, subst}
+use mathlib.Core.Path.{_≡_, refl, sym, ap, subst}
 use mathlib.Core.Logic.{_⊎_, inl, inr}
 use mathlib.Core.Bool.{Bool, true, false}
 use mathlib.Core.List.{List, [], _∷_, List·Memᴰ, List·Memᴰ·head, List·Memᴰ·tail}
@@ -13,10 +13,10 @@ use lib.ListN.{length}
 use borrow.Author.Tests.{leb-true, le-leb}
 use Rattle.basics.specs.Lists.{keptIf, keep}
 use Rattle.basics.proofs.Members.{keep-has, keep-from}
-use Rattle.allocation.specs.Choice.{noLater, leastBy}
-use Rattle.allocation.specs.Kept.{subsets, processorsFor, holdable, keptRank, setFound, firstHeld}
-use Rattle.allocation.proofs.Ranks.{no-later-if, least-is}
-use Rattle.allocation.proofs.Parts.{Part, nothing, taken, left, part-subset, subset-part, part-length, part-member, keep-part, Rising}
+use Rattle.basics.specs.Order.{noLater}
+use Rattle.keeping.specs.Kept.{subsets, processorsFor, holdable, keptRank, setFound, firstHeld}
+use Rattle.basics.proofs.Order.{no-later-if, least-is}
+use Rattle.keeping.proofs.Parts.{Part, nothing, taken, left, part-subset, subset-part, part-length, part-member, keep-part, Rising}
 
 -- As many processors for each task.
 abbrev even : ℕ → ℕ → ℕ

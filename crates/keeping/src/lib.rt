@@ -2,8 +2,8 @@
 ghost use mathlib.Core.Path.{_≡_};
 ghost use Prim.Native.Nat.{_≤_};
 ghost use lib.ListN.{take};
-ghost use Rattle.allocation.specs.Kept.{leftOver};
-ghost use Rattle.allocation.specs.means.Keeping.{keptLine, Next, Keepable};
+ghost use Rattle.keeping.specs.Kept.{leftOver};
+ghost use Rattle.keeping.specs.means.Keeping.{keptLine, Next, Keepable};
 use shares::share::Share;
 
 // The processors of m that the critical shares of n tasks leave over.

@@ -1,15 +1,14 @@
--- `kept::with_kept` meets its contract. The loop's invariant: what is kept so far, and the next task to keep. The measure is the
+-- `keeping::with_kept` meets its contract. The loop's invariant: what is kept so far, and the next task to keep. The measure is the
 -- processors left.
 use Prim.Native.Nat.{_≤_}
-use mathlib.Core.Path.{_≡_}
 use native.Mathlib.Omega.{arith}
 use borrow.Author.Needs.{needs}
 use Rattle.shares.specs.Totals.{shareAt}
-use Rattle.allocation.specs.Kept.{typicalShareAt, leftOver}
-use Rattle.allocation.specs.means.Keeping.{Next}
-use Rattle.allocation.proofs.KeptSteps.{KeptSoFar, kept-none, kept-more, kept-all, next-fits, line-length}
-use Rattle.allocation.proofs.kept.with_kept.Statement.{statement}
-use Rattle.allocation.proofs.kept.with_kept.Tie as tie
+use Rattle.keeping.specs.Kept.{typicalShareAt, leftOver}
+use Rattle.keeping.specs.means.Keeping.{Next}
+use Rattle.keeping.proofs.Steps.{KeptSoFar, kept-none, kept-more, kept-all, next-fits, line-length}
+use Rattle.keeping.proofs.with_kept.Statement.{statement}
+use Rattle.keeping.proofs.with_kept.Tie as tie
 
 abbrev Inv-loop : tie.InvT-loop
 Inv-loop n m count all₀ left₀ next₀ all left next = (left ≤ 64) × KeptSoFar m n all₀ all left × Next n left all next
@@ -73,7 +72,8 @@ loop-again c =
     let few = start .pre .few in
     let long = line-length (start .args .m) (start .args .n) (start .args .shares) (start .pre) (loop .inv .1) in (
       omega arith,
-      kept-more (start .args .m) (start .args .n) (start .args .shares) (start .pre) (loop .inv .1) (loop .next) (omega arith) (omega arith) (loop .inv .2),
+      kept-more (start .args .m) (start .args .n) (start .args .shares) (start .pre) (loop .inv .1) (loop .next) (omega arith) (omega arith) (loop .inv .2) _ _ (omega arith)
+          (omega arith),
       c .next-kept2 .ensures,
     )
 

@@ -1,27 +1,27 @@
 -- The least shares are kept first, one task after the other: what is kept after each step is a split of the tasks without a critical
 -- share, and where no more can be kept it is the first of the sets that can be held.
 use Prim.Native.Nat.{ℕ, _+_, _-_, _≤_, _<_}
-use mathlib.Core.Path.{_≡_, refl, sym, ap, _∙_, subst}
+use mathlib.Core.Path.{_≡_, refl, sym, ap, _∙_}
 use mathlib.Core.Logic.{_⊎_, inl, inr}
-use mathlib.Core.Bool.{Bool, true, false, cond, _||_, false≢true, true≢false}
-use mathlib.Core.List.{List, [], _∷_, map, List·Memᴰ, List·Memᴰ·head, List·Memᴰ·tail, List·Memᴰ·not-nil, List·Memᴰ·cases-cons}
+use mathlib.Core.Bool.{Bool, true, false, cond, _||_, false≢true}
+use mathlib.Core.List.{List, [], _∷_, List·Memᴰ, List·Memᴰ·not-nil, List·Memᴰ·cases-cons}
 use native.Mathlib.Omega.{arith}
 use native.Mathlib.Decide.{decLt, ℕ-discrete}
 use lib.Dec.{eqb}
 use lib.ListN.{length, getD, set, take, length-set}
 use lib.Seq.{ext-getD, getD-set-same, getD-set-other}
-use borrow.Author.Tests.{eqb-true, eqb-false, eq-eqb, ne-eqb}
+use borrow.Author.Tests.{eqb-true, eq-eqb, ne-eqb}
 use Rattle.basics.specs.Lists.{range, keptIf, keep}
 use Rattle.basics.proofs.Logic.{bool-ext}
 use Rattle.basics.proofs.Lists.{keep-agree, keep-none}
 use Rattle.basics.proofs.Members.{range-has, range-within, keep-has, keep-from}
 use Rattle.shares.specs.declared.share.Share.{Share}
 use Rattle.shares.specs.Totals.{noProcessors, shareAt}
-use Rattle.allocation.specs.Kept.{processorsFor, firstHeld, typicalShareAt, leftOver, isIn, keptShare, withKept}
-use Rattle.allocation.specs.means.Keeping.{criticalShareAt, without, keptLine, NoLater, Next, none, found, Keepable}
-use Rattle.allocation.proofs.Parts.{part-rising, keep-part, Rising, range-rising, is-in, in-is}
-use Rattle.allocation.proofs.Greedy.{Split, first-held}
-use Rattle.allocation.proofs.KeptLaws.{with-length, with-share, with-typical}
+use Rattle.keeping.specs.Kept.{processorsFor, typicalShareAt, leftOver, isIn, keptShare, withKept}
+use Rattle.keeping.specs.means.Keeping.{criticalShareAt, without, keptLine, NoLater, Next, none, found, Keepable}
+use Rattle.keeping.proofs.Parts.{part-rising, keep-part, Rising, range-rising, is-in, in-is}
+use Rattle.keeping.proofs.Greedy.{Split, first-held}
+use Rattle.keeping.proofs.Laws.{with-length, with-share, with-typical}
 
 -- One task more that a test keeps.
 abbrev also : (ℕ → Bool) → ℕ → ℕ → Bool
@@ -312,9 +312,10 @@ module _ (M n : ℕ) (shares : List Share) (able : Keepable M n shares) where
             split = split-more;
           }
 
-    pub kept-more : (x : ℕ) → x < n → n ≤ length line → Next n left line x →
-        KeptSoFar M n shares (set line x (record { typical = typicalShareAt line x; critical = typicalShareAt line x })) (left - typicalShareAt line x)
-    kept-more x inside there next = kept-with x inside there (least x inside next)
+    pub kept-more : (x : ℕ) → x < n → n ≤ length line → Next n left line x → (typical critical : ℕ) →
+        typical ≡ typicalShareAt line x → critical ≡ typicalShareAt line x →
+        KeptSoFar M n shares (set line x (record { typical = typical; critical = critical })) (left - typicalShareAt line x)
+    kept-more x inside there next typical critical same same′ = rw (same, same′) (kept-with x inside there (least x inside next))
 
     -- It takes at least one processor, and there are as many.
     pub next-fits : (x : ℕ) → x < n → Next n left line x → (1 ≤ typicalShareAt line x) × (typicalShareAt line x ≤ left)

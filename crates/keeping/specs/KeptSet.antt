@@ -9,8 +9,8 @@ use Rattle.sheet.specs.Format.{missingTask}
 use Rattle.sheet.specs.Level.{isLow}
 use Rattle.shares.specs.declared.share.Share.{Share}
 use Rattle.shares.specs.Totals.{shareAt, criticalTotal}
-use Rattle.allocation.specs.Choice.{noLater}
-use Rattle.allocation.specs.Kept.{processorsFor, typicalShareAt, keptShare}
+use Rattle.basics.specs.Order.{noLater}
+use Rattle.keeping.specs.Kept.{processorsFor, typicalShareAt, keptShare}
 
 -- A set of low tasks: their numbers, rising.
 pub record LowSet (tasks : List Task) (set : List ℕ) : Type 0 where

@@ -1,5 +1,5 @@
 -- S5.6 as the code goes about it: the low tasks are those without a critical share, and the least shares are kept first.
-use Prim.Native.Nat.{ℕ, suc, _≤_, _<_}
+use Prim.Native.Nat.{ℕ, _≤_, _<_}
 use mathlib.Core.Path.{_≡_}
 use mathlib.Core.Logic.{_⊎_}
 use mathlib.Core.List.{List}
@@ -8,7 +8,7 @@ use lib.ListN.{take}
 use Rattle.shares.specs.declared.share.Share.{Share}
 use Rattle.shares.specs.Totals.{shareAt, criticalTotal}
 use Rattle.basics.specs.Lists.{range, keep}
-use Rattle.allocation.specs.Kept.{firstHeld, typicalShareAt, leftOver, withKept}
+use Rattle.keeping.specs.Kept.{firstHeld, typicalShareAt, leftOver, withKept}
 
 -- The critical share of task i.
 unfoldable pub criticalShareAt : List Share → ℕ → ℕ

@@ -1,0 +1,7 @@
+-- Facts at literals first, then the laws that belong to no one function.
+pub mod Worked
+pub mod Parts
+pub mod Greedy
+pub mod Laws
+pub mod Scan
+pub mod Steps
