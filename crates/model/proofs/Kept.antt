@@ -56,7 +56,8 @@ module _ (ts : TaskSet) (shares : List Share) (planned : Planned ts shares) wher
   unfolding freshRow
   closes i known kept bound f₁ f₂ p few span work =
       let facts = kept-facts (taskIn ts i .level) (shareAt shares i) kept in
-      let same : shareAt shares i .critical ≡ shareAt shares i .typical = planned .low i known (facts .0) .critical (facts .1) in
+      let same : shareAt shares i .critical ≡ shareAt shares i .typical =
+      planned .low i known (facts .0) .critical (omega (arith, facts .1)) in
       ends-low ts shares planned i known (facts .0) (f₁ + f₂) p span (omega (arith, work, ap (λ (b : ℕ). b * f₂) same))
 
   -- S10.11: a job of a kept low task has ended with the D-th accepted tick after its release, whatever the modes.
