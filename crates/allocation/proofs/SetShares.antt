@@ -1,18 +1,21 @@
 -- S5.6 of a task set: which of its low tasks are kept beside the choice, and what holds of the shares that its tasks get.
-use Prim.Native.Nat.{ℕ, zero, suc, _+_, _≤_, _<_}
-use mathlib.Core.Path.{_≡_, refl, sym, ap, ap₂, _∙_, subst}
-use mathlib.Core.Bool.{Bool, true, false, false≢true}
-use mathlib.Core.List.{List, [], _∷_, List·Memᴰ}
+use Prim.Native.Nat.{ℕ, _≤_, _<_}
+use mathlib.Core.Path.{_≡_, refl, sym, ap, _∙_, subst}
+use mathlib.Core.Bool.{Bool, true, false, _&&_, false≢true}
+use mathlib.Core.List.{List, List·Memᴰ}
 use mathlib.Core.Option.{some}
 use native.Mathlib.Omega.{arith}
-use lib.ListN.{length, getD, take}
+use lib.ListN.{length, getD}
+use lib.Dec.{ltb}
 use lib.Seq.{length-take-le, getD-take}
+use borrow.Author.Tests.{lt-ltb}
 use Rattle.sheet.specs.declared.task.Task.{Task}
 use Rattle.sheet.specs.declared.task.TaskSet.{TaskSet}
 use Rattle.sheet.specs.Format.{taskIn, missingTask}
 use Rattle.sheet.specs.Level.{isLow}
 use Rattle.shares.specs.declared.share.Share.{Share}
 use Rattle.shares.specs.Deadline.{virtualDeadlineOf}
+use Rattle.shares.specs.Low.{isKept}
 use Rattle.shares.specs.Totals.{noProcessors, shareAt, shareTotal}
 use Rattle.allocation.specs.Way.{HighPair}
 use Rattle.allocation.specs.Blocks.{offsetIn, lengthIn}
@@ -20,20 +23,11 @@ use Rattle.keeping.specs.Kept.{keptTasks, isIn, keptShare, withKept}
 use Rattle.keeping.specs.KeptSet.{BestKept, KeptShares}
 use Rattle.allocation.specs.Lawful.{LawfulSet, KeptPair, LawfulShares}
 use Rattle.allocation.specs.Allocation.{tasksOf, chosenFor, sharesWith, allocationOf}
-use Rattle.allocation.specs.Typical.{TypicalStays}
+use Rattle.allocation.specs.SetShares.{TypicalStays, KeptMarked}
+use Rattle.shares.proofs.Totals.{total-same}
+use Rattle.keeping.proofs.Parts.{is-in}
 use Rattle.keeping.proofs.Laws.{shareIf, kept-best, with-length, with-share, with-typical, with-typical-total, kept-low, kept-shares}
 use Rattle.allocation.proofs.Laws.{chosen-length, chosen-typical, chosen-critical, chosen-high, chosen-low, chosen-positive, chosen-virtual}
-
--- Shares that are alike in typical mode begin their blocks at the same places.
-typical-totals : (a b : List Share) → length a ≡ length b → ((i : ℕ) → shareAt a i .typical ≡ shareAt b i .typical) →
-    (i : ℕ) → shareTotal false (take i a) ≡ shareTotal false (take i b)
-unfolding shareAt
-typical-totals a b long same zero = refl
-typical-totals [] [] long same (suc i) = refl
-typical-totals [] (t ∷ b) long same (suc i) = absurd (omega arith)
-typical-totals (s ∷ a) [] long same (suc i) = absurd (omega arith)
-typical-totals (s ∷ a) (t ∷ b) long same (suc i) =
-    ap₂ _+_ (same 0) (typical-totals a b (omega arith) (λ j. same (suc j)) i)
 
 -- S5.6: nothing but critical shares and blocks moves.
 pub typical-stays : (set : TaskSet) (choice : List Share) → TypicalStays set choice
@@ -41,7 +35,7 @@ unfolding allocationOf sharesWith offsetIn
 typical-stays set choice =
     record {
       share = same;
-      offset = typical-totals (withKept kept choice) choice (with-length kept choice) same;
+      offset = total-same false (withKept kept choice) choice (with-length kept choice) same;
       virtual = λ i. ap (virtualDeadlineOf (taskIn set i)) (same i);
     }
   where
@@ -131,3 +125,26 @@ module _ (set : TaskSet) (lawful : LawfulSet set) (choice : List Share) (chosen-
       fits : (mode : Bool) → shareTotal mode (sharesWith set choice) ≤ set .processors
       fits false = rw (with-typical-total (keptTasks (set .processors) (tasksOf set) choice) choice) (chosen-typical set lawful choice chosen-it)
       fits true = let total = set-shares .total in let held = set-kept .held .fits in omega arith
+
+  -- S7.4: the kept tasks, and no others, are low with a critical share.
+  pub kept-marked : KeptMarked set choice
+  unfolding KeptMarked isKept keptShare shareAt sharesWith lengthIn
+  kept-marked i inside =
+      ap (λ (s : Share). isLow (taskIn set i .level) && ltb 0 (s .critical))
+      (with-share (keptTasks (set .processors) (tasksOf set) choice) choice i)
+      ∙ go (isIn i (keptTasks (set .processors) (tasksOf set) choice)) refl (isLow (taskIn set i .level)) refl
+    where
+      level-is : isLow (getD (tasksOf set) i missingTask .level) ≡ isLow (taskIn set i .level)
+      level-is = ap (λ (t : Task). isLow (t .level)) (task-at i inside)
+
+      go : (t : Bool) → isIn i (keptTasks (set .processors) (tasksOf set) choice) ≡ t → (low : Bool) → isLow (taskIn set i .level) ≡ low →
+          (low && ltb 0 (shareIf t (shareAt choice i) .critical)) ≡ t
+      go true e true level = lt-ltb 0 (shareAt choice i .typical) (chosen-positive set lawful choice chosen-it i inside)
+      go true e false level =
+          absurd (false≢true
+          (sym level
+          ∙ sym level-is
+          ∙ kept-low (set .processors) (tasksOf set) choice choice-length low-zero i (is-in i _ e) .1))
+      go false e true level =
+          ap (ltb 0) (low-zero i (omega (arith, tasks-there)) (level-is ∙ level))
+      go false e false level = refl

@@ -56,25 +56,26 @@ high =
       predecessors = 0 ∷ 0 ∷ 2 ∷ replicate 29 0;
     }
 
-abbrev low : Task
-low =
+-- A low task whose nodes wait for none.
+abbrev lowOf : ℕ → ℕ → ℕ → ℕ → Task
+lowOf nodes deadline work span =
     record {
       level = 0;
-      nodes = 2;
+      nodes = nodes;
       figures =
-          record { deadline = 3; nominal = record { work = 4; span = 1 }; overload = record { work = 4; span = 1 } };
+          record {
+            deadline = deadline;
+            nominal = record { work = work; span = span };
+            overload = record { work = work; span = span };
+          };
       predecessors = replicate 32 0;
     }
 
+abbrev low : Task
+low = lowOf 2 3 4 1
+
 abbrev kept : Task
-kept =
-    record {
-      level = 0;
-      nodes = 3;
-      figures =
-          record { deadline = 4; nominal = record { work = 6; span = 2 }; overload = record { work = 6; span = 2 } };
-      predecessors = replicate 32 0;
-    }
+kept = lowOf 3 4 6 2
 
 abbrev both : TaskSet
 both = record { processors = 3; count = 2; tasks = high ∷ low ∷ replicate 14 zeroTask }
@@ -89,13 +90,15 @@ abbrev keptPairs : List Share
 keptPairs = record { typical = 1; critical = 2 } ∷ record { typical = 2; critical = 2 } ∷ []
 
 -- S2, S5: the sheets give these tasks and shares.
-read-both : readOf twoTasks ≡ record { answer = Accepted; set = both }
+sheets-read : (readOf twoTasks ≡ record { answer = Accepted; set = both }) × (readOf oneKept ≡ record { answer = Accepted; set = withOneKept })
 unfolding firstOver byteAt u16At u32At processorsOf countOf offsetOf lengthOf placeOf cellsFrom levelAt nodesAt figuresAt masksAt taskAt zeroTask tasksBelow taskSetOf levelLawful shapeLawful inRange inOrder lowLawful figuresLawful maskLawful allBelow masksLawful isHeavy taskAnswer headerLawful headerAnswer placeAnswer endAnswer shapeAnswer recordAnswer readAnswer readOf isHigh figureLimit bytesBeforeMasks
-read-both = refl
+sheets-read = (refl, refl)
+
+read-both : readOf twoTasks ≡ record { answer = Accepted; set = both }
+read-both = sheets-read .0
 
 read-kept : readOf oneKept ≡ record { answer = Accepted; set = withOneKept }
-unfolding firstOver byteAt u16At u32At processorsOf countOf offsetOf lengthOf placeOf cellsFrom levelAt nodesAt figuresAt masksAt taskAt zeroTask tasksBelow taskSetOf levelLawful shapeLawful inRange inOrder lowLawful figuresLawful maskLawful allBelow masksLawful isHeavy taskAnswer headerLawful headerAnswer placeAnswer endAnswer shapeAnswer recordAnswer readAnswer readOf isHigh figureLimit bytesBeforeMasks
-read-kept = refl
+read-kept = sheets-read .1
 
 read-set : tasksFor twoTasks ≡ both
 unfolding tasksFor
@@ -105,13 +108,15 @@ kept-set : tasksFor oneKept ≡ withOneKept
 unfolding tasksFor
 kept-set = ap (λ (r : Reading). r .set) read-kept
 
-both-shared : (choiceAnswer both ≡ Accepted) × (sharesOf both ≡ pairs)
+sheets-shared : ((choiceAnswer both ≡ Accepted) × (sharesOf both ≡ pairs)) × ((choiceAnswer withOneKept ≡ Accepted) × (sharesOf withOneKept ≡ keptPairs))
 unfolding choiceAnswer shareAnswer chosenFor taskIn firstOver range isLow ceilDiv lowShare hasLowShare excess demand passes lowOptions pairsWithin highOptions optionsOf fits leastBy fitting chosen isHigh shareAt lowNumbers holdable firstHeld typicalShareAt leftOver keptTasks keptShare withKept sharesWith sharesOf
-both-shared = (refl, refl)
+sheets-shared = ((refl, refl), (refl, refl))
+
+both-shared : (choiceAnswer both ≡ Accepted) × (sharesOf both ≡ pairs)
+both-shared = sheets-shared .0
 
 kept-shared : (choiceAnswer withOneKept ≡ Accepted) × (sharesOf withOneKept ≡ keptPairs)
-unfolding choiceAnswer shareAnswer chosenFor taskIn firstOver range isLow ceilDiv lowShare hasLowShare excess demand passes lowOptions pairsWithin highOptions optionsOf fits leastBy fitting chosen isHigh shareAt lowNumbers holdable firstHeld typicalShareAt leftOver keptTasks keptShare withKept sharesWith sharesOf
-kept-shared = (refl, refl)
+kept-shared = sheets-shared .1
 
 -- Start accepts a sheet that is read and whose choice is accepted.
 started-with : (sheet : List ℕ) (ts : TaskSet) → readOf sheet ≡ record { answer = Accepted; set = ts } → choiceAnswer ts ≡ Accepted →

@@ -8,7 +8,8 @@ use mathlib.Core.List.{List, [], _∷_, map, List·Memᴰ, List·Memᴰ·head, L
 use mathlib.Core.Option.{Option, none, some}
 use native.Mathlib.Omega.{arith}
 use native.Mathlib.Decide.{decLt}
-use lib.ListN.{length, getD, length-map, List·getD-eq-default}
+use lib.ListN.{length, getD, take, length-map, List·getD-eq-default}
+use lib.Seq.{take-length}
 use borrow.Author.Tests.{leb-true, le-leb}
 use Rattle.basics.specs.Lists.{range}
 use Rattle.basics.proofs.Logic.{bool-ext}
@@ -19,6 +20,7 @@ use Rattle.sheet.specs.Format.{missingTask}
 use Rattle.sheet.specs.Level.{isLow}
 use Rattle.shares.specs.declared.share.Share.{Share}
 use Rattle.shares.specs.Totals.{noProcessors, shareAt, shareIn, shareTotal, typicalTotal, criticalTotal}
+use Rattle.shares.proofs.Totals.{total-same}
 use Rattle.basics.specs.Order.{noLater, leastBy}
 use Rattle.keeping.specs.Kept.{lowNumbers, subsets, processorsFor, holdable, keptRank, setFound, firstHeld, typicalShareAt, leftOver, keptTasks, isIn, keptShare, withKept}
 use Rattle.keeping.specs.KeptSet.{LowSet, HeldSet, BestKept, KeptShares}
@@ -273,10 +275,10 @@ module _ (typical critical : ℕ → ℕ) (test : ℕ → Bool) where
 module _ (kept : List ℕ) (choice : List Share) where
   pub with-typical-total : typicalTotal (withKept kept choice) ≡ typicalTotal choice
   with-typical-total =
-      total-sum false (withKept kept choice)
-      ∙ ap (λ (n : ℕ). processorsFor (λ i. shareAt (withKept kept choice) i .typical) (range 0 n)) (with-length kept choice)
-      ∙ sum-ext _ _ (range 0 (length choice)) (λ i m. with-typical kept choice i)
-      ∙ sym (total-sum false choice)
+      ap typicalTotal (sym (take-length (withKept kept choice)))
+      ∙ total-same false (withKept kept choice) choice (with-length kept choice) (with-typical kept choice) (length (withKept kept choice))
+      ∙ ap (λ (n : ℕ). typicalTotal (take n choice)) (with-length kept choice)
+      ∙ ap typicalTotal (take-length choice)
 
   pub with-critical-total : Part (range 0 (length choice)) kept → ((j : ℕ) → List·Memᴰ j kept → shareAt choice j .critical ≡ 0) →
       criticalTotal (withKept kept choice) ≡ criticalTotal choice + processorsFor (typicalShareAt choice) kept

@@ -8,10 +8,11 @@ use native.Mathlib.Decide.{decLt}
 use native.Mathlib.Omega.{arith}
 use lib.Dec.{eqb, ltb}
 use borrow.Author.Tests.{eqb-true, eq-eqb, ltb-true, ltb-false}
+use Rattle.basics.proofs.Below.{below-cases}
 use Rattle.basics.proofs.Logic.{left-true, right-true}
 use Rattle.shares.specs.declared.share.Share.{Share}
 use Rattle.keeping.specs.Kept.{typicalShareAt}
-use Rattle.keeping.specs.means.Keeping.{criticalShareAt, NoLater, Next, none, found}
+use Rattle.keeping.specs.means.Keeping.{criticalShareAt, NotAfter, Next, none, found}
 
 module _ (n room : ℕ) (shares : List Share) where
   -- What is known once the tasks below i are seen: either next is n, and none that the room holds was seen, or next is the first of
@@ -19,24 +20,20 @@ module _ (n room : ℕ) (shares : List Share) where
   pub data Seen (i next below : ℕ) : Type 0 where
     no-task : next ≡ n → below ≡ room + 1 → ((j : ℕ) → j < i → criticalShareAt shares j ≡ 0 → room < typicalShareAt shares j) → Seen i next below
     a-task : next < i → criticalShareAt shares next ≡ 0 → typicalShareAt shares next ≡ below → below ≤ room →
-        ((j : ℕ) → j < i → criticalShareAt shares j ≡ 0 → NoLater (typicalShareAt shares) next j) → Seen i next below
+        ((j : ℕ) → j < i → criticalShareAt shares j ≡ 0 → NotAfter (typicalShareAt shares) next j) → Seen i next below
 
   pub seen-none : (below : ℕ) → below ≡ room + 1 → Seen 0 n below
   seen-none below whole = no-task refl whole (λ j before zero-share. absurd (omega arith))
 
   -- Up to the next number.
   below-next : (P : ℕ → Type 0) (i : ℕ) → ((j : ℕ) → j < i → P j) → P i → (j : ℕ) → j < i + 1 → P j
-  below-next P i before here j within = go (decLt j i)
-    where
-      go : Dec (j < i) → P j
-      go (yes h) = before j h
-      go (no h) = let same : i ≡ j = omega arith in subst P same here
+  below-next P i before here j within = below-cases P i before here j (omega arith)
 
   at-least : (i next below : ℕ) → Seen i next below → (j : ℕ) → j < i → criticalShareAt shares j ≡ 0 → below ≤ typicalShareAt shares j
   at-least i next below (no-task none-yet whole more) j before zero-share = let past = more j before zero-share in omega arith
   at-least i next below (a-task inside low same fits first) j before zero-share = go (first j before zero-share)
     where
-      go : NoLater (typicalShareAt shares) next j → below ≤ typicalShareAt shares j
+      go : NotAfter (typicalShareAt shares) next j → below ≤ typicalShareAt shares j
       go (inl less) = omega arith
       go (inr (equal, _)) = omega arith
 
@@ -49,7 +46,7 @@ module _ (n room : ℕ) (shares : List Share) where
       Seen (i + 1) i (typicalShareAt shares i)
   seen-taken i next below seen low less =
       a-task (omega arith) low refl (omega (arith, within i next below seen))
-      (below-next (λ j. criticalShareAt shares j ≡ 0 → NoLater (typicalShareAt shares) i j) i
+      (below-next (λ j. criticalShareAt shares j ≡ 0 → NotAfter (typicalShareAt shares) i j) i
       (λ j before zero-share. inl (omega (arith, at-least i next below seen j before zero-share)))
       (λ zero-share. inr (refl, omega arith)))
 
@@ -60,9 +57,9 @@ module _ (n room : ℕ) (shares : List Share) where
       (below-next (λ j. criticalShareAt shares j ≡ 0 → room < typicalShareAt shares j) i more (λ zero-share. omega (arith, past zero-share)))
   seen-left i next below (a-task inside low same fits first) past =
       a-task (omega arith) low same fits
-      (below-next (λ j. criticalShareAt shares j ≡ 0 → NoLater (typicalShareAt shares) next j) i first (λ zero-share. later (decLt below (typicalShareAt shares i)) (past zero-share)))
+      (below-next (λ j. criticalShareAt shares j ≡ 0 → NotAfter (typicalShareAt shares) next j) i first (λ zero-share. later (decLt below (typicalShareAt shares i)) (past zero-share)))
     where
-      later : Dec (below < typicalShareAt shares i) → below ≤ typicalShareAt shares i → NoLater (typicalShareAt shares) next i
+      later : Dec (below < typicalShareAt shares i) → below ≤ typicalShareAt shares i → NotAfter (typicalShareAt shares) next i
       later (yes h) least = inl (omega arith)
       later (no h) least = inr (omega arith, omega arith)
 

@@ -18,7 +18,7 @@ use Rattle.basics.proofs.Members.{range-has, range-within, keep-has, keep-from}
 use Rattle.shares.specs.declared.share.Share.{Share}
 use Rattle.shares.specs.Totals.{noProcessors, shareAt}
 use Rattle.keeping.specs.Kept.{processorsFor, typicalShareAt, leftOver, isIn, keptShare, withKept}
-use Rattle.keeping.specs.means.Keeping.{criticalShareAt, without, keptLine, NoLater, Next, none, found, Keepable}
+use Rattle.keeping.specs.means.Keeping.{criticalShareAt, without, keptLine, NotAfter, Next, none, found, Keepable}
 use Rattle.keeping.proofs.Parts.{part-rising, keep-part, Rising, range-rising, is-in, in-is}
 use Rattle.keeping.proofs.Greedy.{Split, first-held}
 use Rattle.keeping.proofs.Laws.{with-length, with-share, with-typical}
@@ -191,7 +191,7 @@ module _ (M n : ℕ) (shares : List Share) (able : Keepable M n shares) where
       pub low : List·Memᴰ x (without n shares)
       pub out : kept .test x ≡ false
       pub fits : typicalShareAt shares x ≤ left
-      pub first : (j : ℕ) → List·Memᴰ j (without n shares) → kept .test j ≡ false → NoLater (typicalShareAt shares) x j
+      pub first : (j : ℕ) → List·Memᴰ j (without n shares) → kept .test j ≡ false → NotAfter (typicalShareAt shares) x j
 
     least : (x : ℕ) → x < n → Next n left line x → Least x
     least x inside (none h) = absurd (omega arith)
@@ -236,7 +236,7 @@ module _ (M n : ℕ) (shares : List Share) (able : Keepable M n shares) where
           out-more i m e (yes same) = absurd (false≢true (sym e ∙ ap (also (kept .test) x) same ∙ also-new (kept .test) x))
           out-more i m e (no other) = go (task .first i m (sym (also-old (kept .test) x i other) ∙ e))
             where
-              go : NoLater (typicalShareAt shares) x i →
+              go : NotAfter (typicalShareAt shares) x i →
                   (typicalShareAt shares x < typicalShareAt shares i) ⊎ ((typicalShareAt shares i ≡ typicalShareAt shares x) × (x < i))
               go (inl less) = inl less
               go (inr (same, before)) = inr (sym same, apart before)

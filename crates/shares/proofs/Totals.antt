@@ -1,6 +1,6 @@
 -- Sums of the first shares of a list, with one more and with more of them.
 use Prim.Native.Nat.{ℕ, zero, suc, _+_, _≤_, _<_}
-use mathlib.Core.Path.{_≡_}
+use mathlib.Core.Path.{_≡_, refl, ap₂}
 use mathlib.Core.Bool.{Bool, true, false}
 use mathlib.Core.List.{List, [], _∷_, _++_}
 use native.Mathlib.Numerals.{add-one}
@@ -43,3 +43,14 @@ pub total-next : (mode : Bool) (shares : List Share) (i : ℕ) → i < length sh
 unfolding shareAt
 total-next mode shares i inside =
     rw (add-one i, take-suc shares i noProcessors) (total-snoc mode (take i shares) (getD shares i noProcessors))
+
+-- Shares that are alike in a mode have the same sums in it.
+pub total-same : (mode : Bool) (a b : List Share) → length a ≡ length b →
+    ((i : ℕ) → shareIn mode (shareAt a i) ≡ shareIn mode (shareAt b i)) →
+    (i : ℕ) → shareTotal mode (take i a) ≡ shareTotal mode (take i b)
+unfolding shareAt
+total-same mode a b long same zero = refl
+total-same mode [] [] long same (suc i) = refl
+total-same mode [] (t ∷ b) long same (suc i) = absurd (omega arith)
+total-same mode (s ∷ a) [] long same (suc i) = absurd (omega arith)
+total-same mode (s ∷ a) (t ∷ b) long same (suc i) = ap₂ _+_ (same 0) (total-same mode a b (omega arith) (λ j. same (suc j)) i)

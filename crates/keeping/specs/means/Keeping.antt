@@ -22,16 +22,16 @@ without n shares = keep (λ i. eqb (criticalShareAt shares i) 0) (range 0 n)
 unfoldable pub keptLine : ℕ → ℕ → List Share → List Share
 keptLine M n shares = withKept (firstHeld (typicalShareAt shares) (leftOver M (take n shares)) (without n shares)) shares
 
--- Task i comes no later than task j: its share is smaller, or as large and its number no larger.
-abbrev pub NoLater : (ℕ → ℕ) → ℕ → ℕ → Type 0
-NoLater share i j = (share i < share j) ⊎ ((share i ≡ share j) × (i ≤ j))
+-- Task i does not come after task j: its share is smaller, or as large and its number no larger.
+abbrev pub NotAfter : (ℕ → ℕ) → ℕ → ℕ → Type 0
+NotAfter share i j = (share i < share j) ⊎ ((share i ≡ share j) × (i ≤ j))
 
 -- The next task to keep of the first n that have no critical share, where so many processors are left: the first of all, if they
 -- can hold it; else n stands for none.
 pub data Next (n left : ℕ) (shares : List Share) : ℕ → Type 0 where
   none : ((j : ℕ) → j < n → criticalShareAt shares j ≡ 0 → left < typicalShareAt shares j) → Next n left shares n
   found : {i : ℕ} → i < n → criticalShareAt shares i ≡ 0 → typicalShareAt shares i ≤ left →
-      ((j : ℕ) → j < n → criticalShareAt shares j ≡ 0 → NoLater (typicalShareAt shares) i j) → Next n left shares i
+      ((j : ℕ) → j < n → criticalShareAt shares j ≡ 0 → NotAfter (typicalShareAt shares) i j) → Next n left shares i
 
 -- What the code needs of the shares of n tasks: each has a typical share, and the critical ones total at most M.
 pub record Keepable (M n : ℕ) (shares : List Share) : Type 0 where
