@@ -1,16 +1,17 @@
 -- The order by numbers: no two lists come no later than each other, and the least of a list is the one member that comes no later than
--- any.
+-- any; and what the least of some numbers up to a cap is.
 use Prim.Native.Nat.{ℕ, _≤_, _<_}
 use mathlib.Core.Path.{_≡_, refl, sym, _∙_, subst}
 use mathlib.Core.Logic.{_⊎_, inl, inr}
 use mathlib.Core.Bool.{Bool, true, false, _&&_, _||_, false≢true}
-use mathlib.Core.List.{List, [], _∷_, List·Memᴰ, List·Memᴰ·head, List·Memᴰ·tail, List·Memᴰ·cases-cons, List·Memᴰ·eq-of-singleton}
+use mathlib.Core.List.{List, [], _∷_, List·Memᴰ, List·Memᴰ·head, List·Memᴰ·tail, List·Memᴰ·cases-cons, List·Memᴰ·eq-of-singleton, List·Memᴰ·not-nil}
 use mathlib.Core.Option.{Option, none, some}
 use native.Mathlib.Omega.{arith}
 use native.Mathlib.Decide.{decLe}
+use native.Mathlib.Nat.{min-eq-left, min-eq-right}
 use lib.Dec.{ltb, eqb}
 use borrow.Author.Tests.{ltb-true, ltb-false, eqb-true, eq-eqb}
-use Rattle.basics.specs.Order.{noLater, leastBy}
+use Rattle.basics.specs.Order.{noLater, leastBy, least, cappedAt}
 use Rattle.basics.proofs.Members.{all-member, all-members, find-some, find-none}
 
 -- Of two first numbers the smaller decides, and equal ones leave it to the rest.
@@ -143,3 +144,35 @@ module _ {A : Type 0} (numbers : A → List ℕ) where
   least-none (c ∷ cs) e =
       let found = least-among c cs in
       absurd (least-there numbers (c ∷ cs) (found .0) (found .1 .0) (found .1 .1) e)
+
+-- The least of some numbers up to a cap: a number within the cap that exceeds none of them, and that is one of them if below the cap.
+module _ (cap : ℕ) (numbers : List ℕ) (x : ℕ) (to : x ≤ cap) (below : (y : ℕ) → List·Memᴰ y numbers → x ≤ y)
+    (one : x < cap → List·Memᴰ x numbers) where
+  whole : List·Memᴰ x numbers ⊎ (x ≡ cap)
+  whole = go (decLe cap x)
+    where
+      go : Dec (cap ≤ x) → List·Memᴰ x numbers ⊎ (x ≡ cap)
+      go (yes h) = inr (omega arith)
+      go (no h) = inl (one (omega arith))
+
+  pub capped-is : x ≡ cappedAt cap (least numbers)
+  unfolding least
+  capped-is = go (leastBy (λ y. y ∷ []) numbers) refl whole
+    where
+      smallest : (y : ℕ) → leastBy (λ z. z ∷ []) numbers ≡ some y → List·Memᴰ x numbers → y ≤ x
+      smallest y e m = first (no-later-then y x [] [] (least-first (λ z. z ∷ []) numbers y x e m))
+        where
+          first : (y < x) ⊎ ((y ≡ x) × (noLater [] [] ≡ true)) → y ≤ x
+          first (inl h) = omega arith
+          first (inr (h, _)) = omega arith
+
+      go : (o : Option ℕ) → leastBy (λ y. y ∷ []) numbers ≡ o → List·Memᴰ x numbers ⊎ (x ≡ cap) → x ≡ cappedAt cap o
+      go none e (inl m) = absurd (List·Memᴰ·not-nil (subst (List·Memᴰ x) (least-none (λ y. y ∷ []) numbers e) m))
+      go none e (inr same) = same
+      go (some y) e (inl m) =
+          let equal : x ≡ y = omega (arith, smallest y e m, below y (least-member (λ z. z ∷ []) numbers y e)) in
+          let fits : y ≤ cap = omega arith in
+          equal ∙ sym (min-eq-left fits)
+      go (some y) e (inr same) =
+          let past : cap ≤ y = omega (arith, below y (least-member (λ z. z ∷ []) numbers y e)) in
+          same ∙ sym (min-eq-right past)
