@@ -2,6 +2,7 @@
 use Prim.Native.Nat.{ℕ, _+_, _-_, _≤_, _<_}
 use mathlib.Core.Path.{_≡_, refl, sym, ap, _∙_, fun-ext}
 use mathlib.Core.Bool.{Bool, true, false, cond, _&&_, and-false}
+use native.Mathlib.Decide.{decLe}
 use native.Mathlib.Omega.{arith}
 use lib.Dec.{ltb, eqb}
 use lib.ListN.{length, getD, replicate, set, length-set, length-replicate, getD-replicate}
@@ -15,7 +16,7 @@ use Rattle.sheet.specs.Level.{isLow}
 use Rattle.shares.specs.Low.{lowShare, hasLowShare, lowAnswer}
 use Rattle.shares.specs.Search.{leastCritical}
 use Rattle.shares.specs.Offer.{lowCritical, criticalAt, tabulate, offerOf}
-use Rattle.shares.proofs.Least.{least-from}
+use Rattle.shares.proofs.Least.{least-bound, least-from}
 use Rattle.shares.proofs.Offers.{tabulated}
 
 module _ (M : ℕ) (f : Figures) where
@@ -40,6 +41,15 @@ module _ (M : ℕ) (f : Figures) where
   pub low-critical-none : (a : ℕ) → hasLowShare M f ≡ false → lowCritical M f a ≡ M + 1
   unfolding lowCritical
   low-critical-none a none = rw none
+
+  -- It is never above M + 1.
+  low-critical-bound : (a : ℕ) → lowCritical M f a ≤ M + 1
+  unfolding lowCritical
+  low-critical-bound a = go (hasLowShare M f && eqb a (lowShare f))
+    where
+      go : (own : Bool) → cond own 0 (M + 1) ≤ M + 1
+      go true = omega arith
+      go false = omega arith
 
   -- Where it is within M, the task has a share, and it is this one.
   pub low-critical-within : (a : ℕ) → lowCritical M f a ≤ M → (hasLowShare M f ≡ true) × (a ≡ lowShare f)
@@ -107,6 +117,15 @@ module _ (M : ℕ) (t : Task) where
   unfolding criticalAt
   critical-high high a = rw high
 
+  -- No number of an offer is above M + 1.
+  pub critical-bound : (a : ℕ) → criticalAt M t a ≤ M + 1
+  unfolding criticalAt
+  critical-bound a = go (isLow (t .level))
+    where
+      go : (l : Bool) → cond l (lowCritical M (t .figures) a) (leastCritical M (t .figures) a) ≤ M + 1
+      go true = low-critical-bound M (t .figures) a
+      go false = least-bound M (t .figures) a
+
   -- Only typical shares within M have a critical share.
   pub critical-within : (a : ℕ) → criticalAt M t a ≤ M → a ≤ M
   unfolding criticalAt
@@ -117,6 +136,14 @@ module _ (M : ℕ) (t : Task) where
           let own = low-critical-within M (t .figures) a within in
           omega (arith, own .1, has-within M (t .figures) (own .0))
       go false within = omega (arith, least-from M (t .figures) a within)
+
+  -- At the typical shares above M there is none.
+  pub critical-past : (a : ℕ) → M < a → criticalAt M t a ≡ M + 1
+  critical-past a past = go (decLe (criticalAt M t a) M)
+    where
+      go : Dec (criticalAt M t a ≤ M) → criticalAt M t a ≡ M + 1
+      go (yes within) = absurd (omega (arith, critical-within a within))
+      go (no above) = omega (arith, critical-bound a)
 
   pub offer-low : isLow (t .level) ≡ true → offerOf M t ≡ tabulate (lowCritical M (t .figures)) 1 64
   unfolding offerOf

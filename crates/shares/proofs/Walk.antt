@@ -13,6 +13,10 @@ use Rattle.shares.specs.means.Terms.{termsOf, meets}
 use Rattle.shares.specs.Search.{first, leastCritical, foundOf, numberFound}
 
 module _ (test : ℕ → Bool) (M b : ℕ) where
+  -- The search from the same number.
+  pub search-same : (a : ℕ) → a ≡ b → first test (M + 1) a (M + 1 - a) ≡ first test (M + 1) b (M + 1 - b)
+  search-same a e = ap (λ z. first test (M + 1) z (M + 1 - z)) e
+
   pub search-past : M < b → first test (M + 1) b (M + 1 - b) ≡ M + 1
   unfolding first
   search-past past = let e : M + 1 - b ≡ 0 = omega arith in rw e

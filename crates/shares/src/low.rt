@@ -23,9 +23,9 @@ pub fn low_share(f: Figures, m: u8) -> Found
     if deadline <= span {
         return Found::Nothing;
     }
-    let share = ceil_div(less(f.nominal.work, span), deadline - span);
-    if share <= m as u64 {
-        Found::At(share as u8)
+    let quotient = ceil_div(less(f.nominal.work, span), deadline - span);
+    if quotient <= m as u64 {
+        Found::At(quotient as u8)
     } else {
         Found::Nothing
     }

@@ -32,9 +32,8 @@ fn high_offer(f: Figures, m: u8) -> [u8; 64]
     ensures { λ r. ⌜ r ≡ tabulate (leastCritical m f) 1 64 ⌝ }
 {
     let mut offer = [m + 1; 64];
-    let end = m as usize;
-    for i in 0..end {
-        offer[i] = number_found(least_critical(f, m, i as u8 + 1), m);
+    for a in 1..=m {
+        offer[a as usize - 1] = number_found(least_critical(f, m, a), m);
     }
     offer
 }

@@ -4,7 +4,7 @@ use crate::number::smaller;
 use crate::number::times;
 use sheet::task::Figures;
 ghost use mathlib.Core.Path.{_≡_};
-ghost use Prim.Native.Nat.{_≤_, _<_};
+ghost use Prim.Native.Nat.{_≤_};
 ghost use Rattle.shares.specs.Test.{excess};
 ghost use Rattle.shares.specs.means.Terms.{termsOf, meets, Small};
 
@@ -41,10 +41,10 @@ pub fn terms_of(f: Figures, a: u8) -> Terms
     }
 }
 
-// Whether critical share b passes. Shares of 32 bits spare the search a cast at each of them.
-pub fn meets(t: Terms, a: u32, b: u32) -> bool
+// Whether critical share b passes.
+pub fn meets(t: Terms, a: u8, b: u8) -> bool
     requires { ⌜ Small t ⌝ }
-    requires { ⌜ (a ≤ b) × (b < 256) ⌝ }
+    requires { ⌜ a ≤ b ⌝ }
     ensures { λ r. ⌜ r ≡ meets t a b ⌝ }
 {
     let share = b as u64;
