@@ -1,6 +1,6 @@
 -- S5.6 on the line of sixteen shares of a choice: its low tasks are those without a critical share, so that what is kept there is what
 -- is to be kept beside the choice.
-use Prim.Native.Nat.{ℕ, _≤_, _<_}
+use Prim.Native.Nat.{ℕ, _+_, _≤_, _<_}
 use mathlib.Core.Path.{_≡_, refl, sym, ap, _∙_, subst, fun-ext}
 use mathlib.Core.Bool.{Bool, true, false, cond}
 use mathlib.Core.List.{List}
@@ -21,13 +21,15 @@ use Rattle.sheet.specs.Format.{missingTask}
 use Rattle.sheet.specs.Level.{isLow}
 use Rattle.shares.specs.declared.share.Share.{Share}
 use Rattle.shares.specs.Totals.{noProcessors, shareAt}
+use Rattle.shares.proofs.Totals.{total-next, total-part}
 use Rattle.allocation.specs.declared.choice.Chosen.{Chosen}
 use Rattle.allocation.specs.Blocks.{lengthIn}
 use Rattle.keeping.specs.Kept.{lowNumbers, typicalShareAt, keptTasks, isIn, keptShare, withKept}
 use Rattle.allocation.specs.Lawful.{LawfulSet, LawfulShares}
 use Rattle.allocation.specs.Allocation.{tasksOf, chosenFor, shareAnswer, choiceAnswer, sharesChosen, sharesWith, sharesOf, sixteen, choiceOf}
-use Rattle.keeping.specs.means.Keeping.{criticalShareAt, without, keptLine, Keepable}
-use Rattle.allocation.proofs.Laws.{chosen-length, chosen-critical, chosen-positive, chosen-high}
+use Rattle.keeping.specs.Running.{criticalShareAt, without}
+use Rattle.keeping.specs.means.Keeping.{keptLine, Keepable}
+use Rattle.allocation.proofs.Laws.{chosen-length, chosen-typical, chosen-critical, chosen-positive, chosen-high}
 use Rattle.allocation.proofs.Accepted.{accepted-choice}
 use Rattle.allocation.proofs.Sets.{chosenLine, none-shares, refused-none}
 use Rattle.allocation.proofs.Sixteen.{sixteen-length, share-same, sixteen-take}
@@ -92,6 +94,16 @@ module _ (set : TaskSet) (lawful : LawfulSet set) (choice : List Share) (chosen-
   unfolding keptLine sharesWith keptTasks
   line-kept = rw (typical-same, whole, lows-same) (line-with (keptTasks (set .processors) (tasksOf set) choice) choice few)
 
+  -- One share is no more than all of them.
+  share-within : (i : ℕ) → i < set .count → shareAt choice i .typical ≤ set .processors
+  share-within i inside =
+      omega (
+        arith,
+        total-next false choice i (omega (arith, all-shares)),
+        total-part false choice (i + 1),
+        chosen-typical set lawful choice chosen-it,
+      )
+
   pub line-able : Keepable (set .processors) (set .count) (sixteen choice)
   unfolding typicalShareAt lengthIn shareAt
   line-able =
@@ -99,6 +111,7 @@ module _ (set : TaskSet) (lawful : LawfulSet set) (choice : List Share) (chosen-
         few = lawful .few-tasks;
         small = lawful .few-processors;
         some-share = λ i inside. subst (λ (s : Share). 1 ≤ s .typical) (sym (share-same choice few i)) (chosen-positive set lawful choice chosen-it i inside);
+        within = λ i inside. subst (λ (s : Share). s .typical ≤ set .processors) (sym (share-same choice few i)) (share-within i inside);
         fits = rw whole (chosen-critical set lawful choice chosen-it);
       }
 

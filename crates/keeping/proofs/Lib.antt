@@ -3,5 +3,6 @@ pub mod Worked
 pub mod Parts
 pub mod Greedy
 pub mod Laws
+pub mod Running
 pub mod Scan
 pub mod Steps

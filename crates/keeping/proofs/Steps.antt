@@ -10,18 +10,20 @@ use native.Mathlib.Decide.{decLt, ℕ-discrete}
 use lib.Dec.{eqb}
 use lib.ListN.{length, getD, set, take, length-set}
 use lib.Seq.{ext-getD, getD-set-same, getD-set-other}
-use borrow.Author.Tests.{eqb-true, eq-eqb, ne-eqb}
+use borrow.Author.Tests.{eq-eqb, ne-eqb}
 use Rattle.basics.specs.Lists.{range, keptIf, keep}
 use Rattle.basics.proofs.Logic.{bool-ext}
 use Rattle.basics.proofs.Lists.{keep-agree, keep-none}
-use Rattle.basics.proofs.Members.{range-has, range-within, keep-has, keep-from}
+use Rattle.basics.proofs.Members.{keep-has, keep-from}
 use Rattle.shares.specs.declared.share.Share.{Share}
-use Rattle.shares.specs.Totals.{noProcessors, shareAt}
+use Rattle.shares.specs.Totals.{noProcessors, shareAt, criticalTotal}
 use Rattle.keeping.specs.Kept.{processorsFor, typicalShareAt, leftOver, isIn, keptShare, withKept}
-use Rattle.keeping.specs.means.Keeping.{criticalShareAt, without, keptLine, NotAfter, Next, none, found, Keepable}
+use Rattle.keeping.specs.Running.{criticalShareAt, without, totalWithTask}
+use Rattle.keeping.specs.means.Keeping.{keptLine, NotAfter, Next, none, found, Keepable}
 use Rattle.keeping.proofs.Parts.{part-rising, keep-part, Rising, range-rising, is-in, in-is}
 use Rattle.keeping.proofs.Greedy.{Split, first-held}
 use Rattle.keeping.proofs.Laws.{with-length, with-share, with-typical}
+use Rattle.keeping.proofs.Running.{low-from, low-has, one-more-kept}
 
 -- One task more that a test keeps.
 abbrev also : (ℕ → Bool) → ℕ → ℕ → Bool
@@ -94,12 +96,13 @@ line-set line x s inside i = go (ℕ-discrete i x)
     go (yes e) = inl (e, ap (λ (j : ℕ). getD (set line x s) j noProcessors) e ∙ getD-set-same line x s noProcessors inside)
     go (no other) = inr (other, getD-set-other line x i s noProcessors other)
 
--- What is kept so far of the shares of n tasks on M processors: a line with the shares of the tasks that a test takes, and the
--- processors that are left.
-pub record KeptSoFar (M n : ℕ) (shares line : List Share) (left : ℕ) : Type 0 where
+-- What is kept so far of the shares of n tasks on M processors: a line with the shares of the tasks that a test takes, whose critical
+-- total is within M.
+pub record KeptSoFar (M n : ℕ) (shares line : List Share) : Type 0 where
   pub test : ℕ → Bool
   pub line-is : line ≡ withKept (keep test (without n shares)) shares
-  pub sum : processorsFor (typicalShareAt shares) (keep test (without n shares)) + left ≡ leftOver M (take n shares)
+  pub sum : criticalTotal (take n line) ≡ criticalTotal (take n shares) + processorsFor (typicalShareAt shares) (keep test (without n shares))
+  pub fits : criticalTotal (take n line) ≤ M
   pub split : Split (typicalShareAt shares) test (without n shares)
 
 module _ (M n : ℕ) (shares : List Share) (able : Keepable M n shares) where
@@ -107,37 +110,27 @@ module _ (M n : ℕ) (shares : List Share) (able : Keepable M n shares) where
   unfolding without
   rising = part-rising (keep-part _ (range 0 n)) (range-rising 0 n)
 
-  low-from : (i : ℕ) → List·Memᴰ i (without n shares) → (i < n) × (criticalShareAt shares i ≡ 0)
-  unfolding without
-  low-from i m =
-      let here = keep-from _ (range 0 n) i m in
-      (omega (arith, range-within 0 n i (here .0) .1), eqb-true (criticalShareAt shares i) 0 (here .1))
-
-  low-has : (i : ℕ) → i < n → criticalShareAt shares i ≡ 0 → List·Memᴰ i (without n shares)
-  unfolding without
-  low-has i inside zero-share =
-      keep-has _ (range 0 n) i (range-has 0 n i (omega arith) (omega arith)) (eq-eqb (criticalShareAt shares i) 0 zero-share)
-
   -- At first nothing is.
-  pub kept-none : (left : ℕ) → left ≡ leftOver M (take n shares) → KeptSoFar M n shares shares left
-  kept-none left whole =
+  pub kept-none : KeptSoFar M n shares shares
+  kept-none =
       record {
         test = λ i. false;
         line-is = lines-same shares _ (sym (with-length _ shares)) (λ i. sym (with-share _ shares i ∙ ap (λ (t : Bool). cond t (keptShare (shareAt shares i)) (shareAt shares i)) (ap (isIn i) empty)));
-        sum = rw empty (omega (arith, whole));
+        sum = rw empty (omega arith);
+        fits = able .fits;
         split =
             record {
               width = 0;
               last = 0;
               inside = λ i m e. absurd (false≢true e);
-              outside = λ i m e. inl (let one = able .some-share i (low-from i m .0) in omega arith);
+              outside = λ i m e. inl (let one = able .some-share i (low-from n shares i m .0) in omega arith);
             };
       }
     where
       empty : keep (λ i. false) (without n shares) ≡ []
       empty = keep-none (λ i. false) (without n shares) (λ i m. refl)
 
-  module _ {line : List Share} {left : ℕ} (kept : KeptSoFar M n shares line left) where
+  module _ {line : List Share} (kept : KeptSoFar M n shares line) where
     line-share : (i : ℕ) → shareAt line i ≡ cond (isIn i (keep (kept .test) (without n shares))) (keptShare (shareAt shares i)) (shareAt shares i)
     line-share i = ap (λ (l : List Share). shareAt l i) (kept .line-is) ∙ with-share (keep (kept .test) (without n shares)) shares i
 
@@ -160,54 +153,61 @@ module _ (M n : ℕ) (shares : List Share) (able : Keepable M n shares) where
             cond t (keptShare (shareAt shares i)) (shareAt shares i) .critical ≡ 0 →
             List·Memᴰ i (without n shares) × (kept .test i ≡ false)
         go true e h = absurd (let one = able .some-share i inside in omega arith)
-        go false e h = let m = low-has i inside h in (m, out m e (kept .test i) refl)
+        go false e h = let m = low-has n shares i inside h in (m, out m e (kept .test i) refl)
 
     free-has : (i : ℕ) → List·Memᴰ i (without n shares) → kept .test i ≡ false → criticalShareAt line i ≡ 0
     unfolding criticalShareAt
     free-has i m out =
         ap (λ (s : Share). s .critical) (line-share i)
         ∙ ap {B = ℕ} (λ (t : Bool). cond t (keptShare (shareAt shares i)) (shareAt shares i) .critical) (not-in (isIn i (keep (kept .test) (without n shares))) refl)
-        ∙ low-from i m .1
+        ∙ low-from n shares i m .1
       where
         not-in : (t : Bool) → isIn i (keep (kept .test) (without n shares)) ≡ t → t ≡ false
         not-in false e = refl
         not-in true e = absurd (false≢true (sym out ∙ keep-from (kept .test) (without n shares) i (is-in i _ e) .1))
 
     -- No more can be kept.
-    pub kept-all : (x : ℕ) → (x < n → ⊥) → Next n left line x → line ≡ keptLine M n shares
-    unfolding keptLine
-    kept-all x past next =
+    pub kept-all : (x total : ℕ) → M < total → Next M n line x total → line ≡ keptLine M n shares
+    unfolding keptLine leftOver
+    kept-all x total past next =
         kept .line-is
         ∙ ap (λ (set : List ℕ). withKept set shares)
-        (sym (first-held (typicalShareAt shares) (kept .test) (without n shares) rising (kept .split) (leftOver M (take n shares)) left (kept .sum) (full x past next)))
+        (sym
+        (first-held (typicalShareAt shares) (kept .test) (without n shares) rising (kept .split) (leftOver M (take n shares)) (M - criticalTotal (take n line))
+        (let fits = kept .fits in omega (arith, kept .sum))
+        (full x total past next)))
       where
-        full : (y : ℕ) → (y < n → ⊥) → Next n left line y →
-            (i : ℕ) → List·Memᴰ i (without n shares) → kept .test i ≡ false → left < typicalShareAt shares i
-        full y none-left (none h) i m out = rw (line-typical i) at (h i (low-from i m .0) (free-has i m out))
-        full y none-left (found inside zero-share fits first) i m out = absurd (none-left inside)
+        full : (y reached : ℕ) → M < reached → Next M n line y reached →
+            (i : ℕ) → List·Memᴰ i (without n shares) → kept .test i ≡ false → M - criticalTotal (take n line) < typicalShareAt shares i
+        full y reached over (none h) i m out =
+            omega (arith, h i (low-from n shares i m .0) (free-has i m out), line-typical i, kept .fits)
+        full y reached over (found inside zero-share fits first) i m out = absurd (omega arith)
 
     -- What is found of the next task to keep.
     pub record Least (x : ℕ) : Type 0 where
       pub low : List·Memᴰ x (without n shares)
       pub out : kept .test x ≡ false
-      pub fits : typicalShareAt shares x ≤ left
+      pub fits : criticalTotal (take n line) + typicalShareAt shares x ≤ M
       pub first : (j : ℕ) → List·Memᴰ j (without n shares) → kept .test j ≡ false → NotAfter (typicalShareAt shares) x j
 
-    least : (x : ℕ) → x < n → Next n left line x → Least x
-    least x inside (none h) = absurd (omega arith)
-    least x inside (found h zero-share fits first) =
+    least : (x total : ℕ) → total ≤ M → Next M n line x total → Least x
+    least x total to (none h) = absurd (omega arith)
+    least x total to (found inside zero-share fits first) =
         let free = free-from x inside zero-share in
         record {
           low = free .0;
           out = free .1;
-          fits = rw (line-typical x) at fits;
+          fits = omega (arith, fits, line-typical x);
           first = λ j m out.
-              let later = first j (low-from j m .0) (free-has j m out) in
+              let later = first j (low-from n shares j m .0) (free-has j m out) in
               rw (line-typical x, line-typical j) at later;
         }
 
     -- One more is kept.
-    module _ (x : ℕ) (inside : x < n) (there : n ≤ length line) (task : Least x) where
+    module _ (x : ℕ) (there : n ≤ length line) (task : Least x) where
+      inside : x < n
+      inside = low-from n shares x (task .low) .0
+
       split-more : Split (typicalShareAt shares) (also (kept .test) x) (without n shares)
       split-more =
           record {
@@ -276,7 +276,7 @@ module _ (M n : ℕ) (shares : List Share) (able : Keepable M n shares) where
       line-more =
           lines-same _ _
           (length-set line x _ ∙ ap length (kept .line-is) ∙ with-length _ shares ∙ sym (with-length _ shares))
-          (λ i. go i (line-set line x (record { typical = shareAt line x .typical; critical = shareAt line x .typical }) (omega arith) i))
+          (λ i. go i (line-set line x (record { typical = shareAt line x .typical; critical = shareAt line x .typical }) (omega (arith, inside)) i))
         where
           go : (i : ℕ) →
               ((i ≡ x) × (shareAt (set line x (record { typical = shareAt line x .typical; critical = shareAt line x .typical })) i
@@ -296,7 +296,12 @@ module _ (M n : ℕ) (shares : List Share) (able : Keepable M n shares) where
               ∙ ap (λ (t : Bool). cond t (keptShare (shareAt shares i)) (shareAt shares i)) (sym (others-as-before i other))
               ∙ sym (with-share _ shares i)
 
-      pub kept-with : KeptSoFar M n shares (set line x (record { typical = typicalShareAt line x; critical = typicalShareAt line x })) (left - typicalShareAt line x)
+      grown : criticalTotal (take n (set line x (record { typical = typicalShareAt line x; critical = typicalShareAt line x })))
+          ≡ criticalTotal (take n line) + typicalShareAt line x
+      unfolding totalWithTask keptShare typicalShareAt
+      grown = one-more-kept n line there x inside (free-has x (task .low) (task .out))
+
+      kept-with : KeptSoFar M n shares (set line x (record { typical = typicalShareAt line x; critical = typicalShareAt line x }))
       kept-with =
           record {
             test = also (kept .test) x;
@@ -304,24 +309,30 @@ module _ (M n : ℕ) (shares : List Share) (able : Keepable M n shares) where
             sum =
                 omega (
                   arith,
+                  grown,
                   keep-also (typicalShareAt shares) (kept .test) x (without n shares) rising (task .low) (task .out),
                   line-typical x,
-                  task .fits,
                   kept .sum,
                 );
+            fits = omega (arith, grown, line-typical x, task .fits);
             split = split-more;
           }
 
-    pub kept-more : (x : ℕ) → x < n → n ≤ length line → Next n left line x → (typical critical : ℕ) →
+    pub kept-more : n ≤ length line → (x total : ℕ) → total ≤ M → Next M n line x total → (typical critical : ℕ) →
         typical ≡ typicalShareAt line x → critical ≡ typicalShareAt line x →
-        KeptSoFar M n shares (set line x (record { typical = typical; critical = critical })) (left - typicalShareAt line x)
-    kept-more x inside there next typical critical same same′ = rw (same, same′) (kept-with x inside there (least x inside next))
+        KeptSoFar M n shares (set line x (record { typical = typical; critical = critical }))
+    kept-more there x total to next typical critical same same′ = rw (same, same′) (kept-with x there (least x total to next))
 
-    -- It takes at least one processor, and there are as many.
-    pub next-fits : (x : ℕ) → x < n → Next n left line x → (1 ≤ typicalShareAt line x) × (typicalShareAt line x ≤ left)
-    next-fits x inside next =
-        let task = least x inside next in
-        (rw (line-typical x) (able .some-share x inside), rw (line-typical x) (task .fits))
+    -- From the line the next task can be sought.
+    pub line-able : Keepable M n line
+    line-able =
+        record {
+          few = able .few;
+          small = able .small;
+          some-share = λ i inside. rw (line-typical i) (able .some-share i inside);
+          within = λ i inside. rw (line-typical i) (able .within i inside);
+          fits = kept .fits;
+        }
 
     pub line-length : length line ≡ length shares
     line-length = ap length (kept .line-is) ∙ with-length _ shares

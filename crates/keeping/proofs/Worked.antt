@@ -1,10 +1,14 @@
--- Worked facts by computation: which of three tasks are kept.
+-- Worked facts by computation: which of three tasks are kept, and the totals with one task more kept.
 use Prim.Native.Nat.{ℕ}
 use mathlib.Core.Path.{_≡_, refl}
-use mathlib.Core.List.{[], _∷_}
+use mathlib.Core.List.{List, [], _∷_}
 use lib.ListN.{getD}
-use Rattle.basics.specs.Order.{leastBy}
-use Rattle.keeping.specs.Kept.{holdable, firstHeld}
+use Rattle.basics.specs.Lists.{range}
+use Rattle.basics.specs.Order.{leastBy, least, cappedAt}
+use Rattle.shares.specs.declared.share.Share.{Share}
+use Rattle.shares.specs.Totals.{shareAt}
+use Rattle.keeping.specs.Kept.{holdable, firstHeld, typicalShareAt, keptShare}
+use Rattle.keeping.specs.Running.{criticalShareAt, without, totalWithTask, totalsWithOne}
 
 -- Tasks 0, 1 and 2 with these shares.
 abbrev pub three : ℕ → ℕ → ℕ → ℕ → ℕ
@@ -22,6 +26,35 @@ pub record Worked : Type 0 where
   -- With nothing left over no task is kept; with enough, all are.
   pub nothing : firstHeld (three 1 1 1) 0 (0 ∷ 1 ∷ 2 ∷ []) ≡ []
   pub all : firstHeld (three 3 1 2) 6 (0 ∷ 1 ∷ 2 ∷ []) ≡ 0 ∷ 1 ∷ 2 ∷ []
+
+-- A high task and three low ones, and the same once the last is kept.
+abbrev pub four : ℕ → List Share
+four last =
+    record { typical = 1; critical = 2 }
+    ∷ record { typical = 3; critical = 0 }
+    ∷ record { typical = 2; critical = 0 }
+    ∷ record { typical = 1; critical = last }
+    ∷ []
+
+pub record WorkedTotals : Type 0 where
+  -- S5.7: with one of the low tasks more kept the critical total 2 comes to 5, 4 or 3; on 8 processors 3 is held.
+  pub first-of-all : totalsWithOne 4 (four 0) ≡ 5 ∷ 4 ∷ 3 ∷ []
+  pub held : cappedAt 9 (least (totalsWithOne 4 (four 0))) ≡ 3
+  -- Then 3 comes to 6 or 5; on 5 processors 5 is held, and on 3 it is 4.
+  pub second : totalsWithOne 4 (four 1) ≡ 6 ∷ 5 ∷ []
+  pub held-second : cappedAt 6 (least (totalsWithOne 4 (four 1))) ≡ 5
+  pub above : cappedAt 4 (least (totalsWithOne 4 (four 1))) ≡ 4
+
+pub worked-totals : WorkedTotals
+unfolding leastBy least range shareAt typicalShareAt keptShare criticalShareAt without totalWithTask totalsWithOne
+worked-totals =
+    record {
+      first-of-all = refl;
+      held = refl;
+      second = refl;
+      held-second = refl;
+      above = refl;
+    }
 
 pub worked : Worked
 unfolding leastBy holdable firstHeld

@@ -1,22 +1,13 @@
 -- S5.6 as the code goes about it: the low tasks are those without a critical share, and the least shares are kept first.
-use Prim.Native.Nat.{ℕ, _≤_, _<_}
+use Prim.Native.Nat.{ℕ, _+_, _≤_, _<_}
 use mathlib.Core.Path.{_≡_}
 use mathlib.Core.Logic.{_⊎_}
 use mathlib.Core.List.{List}
-use lib.Dec.{eqb}
 use lib.ListN.{take}
 use Rattle.shares.specs.declared.share.Share.{Share}
-use Rattle.shares.specs.Totals.{shareAt, criticalTotal}
-use Rattle.basics.specs.Lists.{range, keep}
+use Rattle.shares.specs.Totals.{criticalTotal}
 use Rattle.keeping.specs.Kept.{firstHeld, typicalShareAt, leftOver, withKept}
-
--- The critical share of task i.
-unfoldable pub criticalShareAt : List Share → ℕ → ℕ
-criticalShareAt shares i = shareAt shares i .critical
-
--- The first n tasks that have no critical share.
-unfoldable pub without : ℕ → List Share → List ℕ
-without n shares = keep (λ i. eqb (criticalShareAt shares i) 0) (range 0 n)
+use Rattle.keeping.specs.Running.{criticalShareAt, without}
 
 -- The shares of n tasks on M processors, with those of the kept tasks.
 unfoldable pub keptLine : ℕ → ℕ → List Share → List Share
@@ -26,16 +17,19 @@ keptLine M n shares = withKept (firstHeld (typicalShareAt shares) (leftOver M (t
 abbrev pub NotAfter : (ℕ → ℕ) → ℕ → ℕ → Type 0
 NotAfter share i j = (share i < share j) ⊎ ((share i ≡ share j) × (i ≤ j))
 
--- The next task to keep of the first n that have no critical share, where so many processors are left: the first of all, if they
--- can hold it; else n stands for none.
-pub data Next (n left : ℕ) (shares : List Share) : ℕ → Type 0 where
-  none : ((j : ℕ) → j < n → criticalShareAt shares j ≡ 0 → left < typicalShareAt shares j) → Next n left shares n
-  found : {i : ℕ} → i < n → criticalShareAt shares i ≡ 0 → typicalShareAt shares i ≤ left →
-      ((j : ℕ) → j < n → criticalShareAt shares j ≡ 0 → NotAfter (typicalShareAt shares) i j) → Next n left shares i
+-- The next task to keep of the first n that have no critical share, and the critical total with it: the first of all, if M processors
+-- hold that total; else n and M + 1 stand for none.
+pub data Next (M n : ℕ) (shares : List Share) : ℕ → ℕ → Type 0 where
+  none : ((j : ℕ) → j < n → criticalShareAt shares j ≡ 0 → M < criticalTotal (take n shares) + typicalShareAt shares j) →
+      Next M n shares n (M + 1)
+  found : {i : ℕ} → i < n → criticalShareAt shares i ≡ 0 → criticalTotal (take n shares) + typicalShareAt shares i ≤ M →
+      ((j : ℕ) → j < n → criticalShareAt shares j ≡ 0 → NotAfter (typicalShareAt shares) i j) →
+      Next M n shares i (criticalTotal (take n shares) + typicalShareAt shares i)
 
--- What the code needs of the shares of n tasks: each has a typical share, and the critical ones total at most M.
+-- What the code needs of the shares of n tasks: each has a typical share, none above M, and the critical ones total at most M.
 pub record Keepable (M n : ℕ) (shares : List Share) : Type 0 where
   pub few : n ≤ 16
   pub small : M ≤ 64
   pub some-share : (i : ℕ) → i < n → 1 ≤ typicalShareAt shares i
+  pub within : (i : ℕ) → i < n → typicalShareAt shares i ≤ M
   pub fits : criticalTotal (take n shares) ≤ M

@@ -1,0 +1,26 @@
+-- S5.7: the running totals by which the tasks to keep are found: the critical total of the shares as they stand, and what it comes to
+-- with one task more kept. The code holds each in a byte, where M + 1 stands for any total above M.
+use Prim.Native.Nat.{ℕ}
+use mathlib.Core.List.{List, map}
+use lib.Dec.{eqb}
+use lib.ListN.{set, take}
+use Rattle.basics.specs.Lists.{range, keep}
+use Rattle.shares.specs.declared.share.Share.{Share}
+use Rattle.shares.specs.Totals.{shareAt, criticalTotal}
+use Rattle.keeping.specs.Kept.{keptShare}
+
+-- The critical share of task i.
+unfoldable pub criticalShareAt : List Share → ℕ → ℕ
+criticalShareAt shares i = shareAt shares i .critical
+
+-- The first n tasks that have no critical share.
+unfoldable pub without : ℕ → List Share → List ℕ
+without n shares = keep (λ i. eqb (criticalShareAt shares i) 0) (range 0 n)
+
+-- The critical total of the shares of n tasks once task i is kept.
+unfoldable pub totalWithTask : ℕ → List Share → ℕ → ℕ
+totalWithTask n shares i = criticalTotal (take n (set shares i (keptShare (shareAt shares i))))
+
+-- S5.7: these totals with one task more kept, one for each that has no critical share. Nothing is cut off.
+unfoldable pub totalsWithOne : ℕ → List Share → List ℕ
+totalsWithOne n shares = map (totalWithTask n shares) (without n shares)
