@@ -7,6 +7,7 @@ pub mod Lawfulness
 pub mod Options
 pub mod Cells
 pub mod Lines
+pub mod Lowering
 pub mod Sixteen
 pub mod Walk
 pub mod Sets

@@ -5,7 +5,7 @@ use mathlib.Core.List.{List, [], _∷_, map}
 use native.Mathlib.Numerals.{add-one}
 use native.Mathlib.Omega.{arith}
 use native.Mathlib.Decide.{decLe}
-use lib.ListN.{length, getD, take, drop, set, replicate, length-map, List·getD-map, drop-of-length-le}
+use lib.ListN.{length, getD, take, drop, set, replicate, length-map, List·getD-map, List·getD-eq-default, drop-of-length-le}
 use lib.Seq.{drop-cons, getD-take, getD-drop, drop-drop, length-take-le}
 use borrow.Author.Tests.{lt-ltb, le-ltb}
 use Rattle.basics.specs.Lists.{cells, cellsFrom}
@@ -16,9 +16,9 @@ use Rattle.shares.proofs.Offers.{tabulate-at, tabulate-length, tabulated}
 use Rattle.allocation.specs.declared.selection.Totals.{Totals}
 use Rattle.shares.specs.Totals.{noProcessors}
 use Rattle.allocation.specs.Allocation.{sixteen}
-use Rattle.allocation.specs.means.Selection.{cellAt, leastFrom, sumAt, bestShare, totalWith, leastTotal, totalsOf, offered, sharesAt, bestTotal, missingOffer, offersUpTo, lastTotals, totalAt}
+use Rattle.allocation.specs.means.Selection.{cellAt, leastFrom, sumAt, bestShare, totalWith, leastTotal, totalsOf, offered, sharesAt, bestTotal, missingOffer, missingTotals, offersUpTo, lastTotals, totalAt, Small, OfferWithin}
 use Rattle.allocation.proofs.Firsts.{least-same, least-to}
-use Rattle.allocation.proofs.Optimal.{best-from, best-to, with-positive, with-best, with-none, with-past, with-some}
+use Rattle.allocation.proofs.Optimal.{best-from, best-to, with-positive, with-best, with-none, with-some, total-bound}
 
 -- A filled cell holds what it is to hold.
 cells-at-from : {A : Type 0} (f : ℕ → A) (none : A) (size first count j : ℕ) (d : A) → j < size → first + j < count →
@@ -49,7 +49,7 @@ pub cells-past : {A : Type 0} (f : ℕ → A) (none : A) (size count j : ℕ) �
 cells-past f none size count j past = cells-past-from f none size 0 count j (omega arith)
 
 -- Numbers that agree are tabulated alike.
-tabulate-same : (g h : ℕ → ℕ) (n : ℕ) → ((x : ℕ) → x < n → g x ≡ h x) → tabulate g 0 n ≡ tabulate h 0 n
+pub tabulate-same : (g h : ℕ → ℕ) (n : ℕ) → ((x : ℕ) → x < n → g x ≡ h x) → tabulate g 0 n ≡ tabulate h 0 n
 tabulate-same g h n same =
     tabulated h (tabulate g 0 n) 0 n (tabulate-length g 0 n)
     (λ i inside.
@@ -63,6 +63,33 @@ entry-totals M offers t within =
     let e : 0 + t ≡ t = omega arith in
     tabulate-at (leastTotal M offers) 0 65 t (omega arith) ∙ ap (leastTotal M offers) e
 
+-- Numbers within a bound are so in a table.
+pub table-within : (g : ℕ → ℕ) (k n bound : ℕ) → ((x : ℕ) → g x ≤ bound) → (j : ℕ) → getD (tabulate g k n) j 0 ≤ bound
+table-within g k n bound within j = go (decLe n j)
+  where
+    go : Dec (n ≤ j) → getD (tabulate g k n) j 0 ≤ bound
+    go (yes past) =
+        let beyond : length (tabulate g k n) ≤ j = omega (arith, tabulate-length g k n) in
+        rw (List·getD-eq-default (tabulate g k n) 0 beyond) (omega arith)
+    go (no inside) = rw (tabulate-at g k n j (omega arith)) (within (k + j))
+
+-- Offers and totals are small enough for the sum of two.
+pub totals-small : (M : ℕ) (offers : List (ℕ → ℕ)) → M ≤ 64 → Small (totalsOf M offers)
+unfolding totalsOf
+totals-small M offers few j = omega (arith, table-within (leastTotal M offers) 0 65 (M + 1) (total-bound M offers) j)
+
+pub offer-small : (M : ℕ) (offer : List ℕ) → M ≤ 64 → OfferWithin M offer → Small offer
+offer-small M offer few range j = omega (arith, range .small j)
+
+-- So their sum fits a byte.
+pub sum-fits : (xs ys : List ℕ) → Small xs → Small ys → (i j : ℕ) → getD xs i 0 + getD ys j 0 < 256
+sum-fits xs ys small small′ i j = omega (arith, small i, small′ j)
+
+-- The totals of no task.
+pub totals-none : (M x : ℕ) → x ≡ M + 1 → set (replicate 65 x) 0 0 ≡ totalsOf M []
+unfolding totalsOf leastTotal tabulate
+totals-none M x cap = rw cap
+
 -- Totals that agree below t give one best share, and one total.
 module _ (M : ℕ) (offer rest rest′ : ℕ → ℕ) (t : ℕ) (same : (x : ℕ) → x < t → rest x ≡ rest′ x) where
   sum-same : (a : ℕ) → 1 ≤ a → a ≤ t → sumAt offer rest t a ≡ sumAt offer rest′ t a
@@ -73,18 +100,17 @@ module _ (M : ℕ) (offer rest rest′ : ℕ → ℕ) (t : ℕ) (same : (x : ℕ
   unfolding bestShare
   best-same one = least-same (sumAt offer rest t) (sumAt offer rest′ t) 1 (t - 1) (λ a from to. sum-same a from (omega arith))
 
-  with-same : totalWith M offer rest t ≡ totalWith M offer rest′ t
-  with-same = go (decLe 1 t) (decLe t M)
+  pub with-same : totalWith M offer rest t ≡ totalWith M offer rest′ t
+  with-same = go (decLe 1 t)
     where
-      go : Dec (1 ≤ t) → Dec (t ≤ M) → totalWith M offer rest t ≡ totalWith M offer rest′ t
-      go (yes one) (yes to) =
-          with-some M offer rest t one to
+      go : Dec (1 ≤ t) → totalWith M offer rest t ≡ totalWith M offer rest′ t
+      go (yes one) =
+          with-some M offer rest t one
           ∙ ap (λ (x : ℕ). min x (M + 1))
           (sum-same (bestShare offer rest t) (best-from M offer rest t) (best-to M offer rest t one)
           ∙ ap (sumAt offer rest′ t) (best-same one))
-          ∙ sym (with-some M offer rest′ t one to)
-      go (yes one) (no past) = with-past M offer rest t (omega arith) ∙ sym (with-past M offer rest′ t (omega arith))
-      go (no zero-left) _ = with-none M offer rest t (omega arith) ∙ sym (with-none M offer rest′ t (omega arith))
+          ∙ sym (with-some M offer rest′ t one)
+      go (no zero-left) = with-none M offer rest t (omega arith) ∙ sym (with-none M offer rest′ t (omega arith))
 
 -- The totals of one task more.
 pub totals-more : (M : ℕ) (offer : ℕ → ℕ) (offers : List (ℕ → ℕ)) →
@@ -121,9 +147,6 @@ no-line M = record { cells = totalsOf M [] }
 -- The lines of up to k tasks are filled.
 unfoldable pub lines : ℕ → List (ℕ → ℕ) → ℕ → ℕ → List Totals
 lines M offers n k = cells 17 (line M offers n) (no-line M) (k + 1)
-
-abbrev pub missingTotals : Totals
-missingTotals = record { cells = [] }
 
 module _ (M n : ℕ) (offers : List (ℕ → ℕ)) (all-there : length offers ≡ n) where
   last-line : drop (n - 0) offers ≡ []

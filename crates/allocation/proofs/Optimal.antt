@@ -7,10 +7,10 @@ use mathlib.Core.Bool.{Bool, true, false, cond}
 use mathlib.Core.List.{List, [], _∷_, List·Memᴰ, List·Memᴰ·head, List·Memᴰ·eq-of-singleton}
 use mathlib.Core.Option.{none, some}
 use native.Mathlib.Omega.{arith}
-use native.Mathlib.Nat.{min-le-left, min-eq-left, min-eq-right}
+use native.Mathlib.Nat.{min-le-left, min-le-right, min-eq-left, min-eq-right}
 use native.Mathlib.Decide.{decLe}
 use lib.Dec.{leb, eqb}
-use borrow.Author.Tests.{leb-true, leb-false, le-leb, lt-leb, eqb-true}
+use borrow.Author.Tests.{leb-true, leb-false, le-leb, eqb-true, ne-eqb}
 use Rattle.basics.proofs.Logic.{left-true, right-true}
 use Rattle.shares.specs.declared.share.Share.{Share}
 use Rattle.shares.specs.Totals.{typicalTotal, criticalTotal}
@@ -23,6 +23,12 @@ use Rattle.basics.proofs.Order.{least-is, least-of-none}
 use Rattle.allocation.proofs.Ranks.{pairs-no-later, ranks-no-later, rank-same}
 use Rattle.allocation.proofs.Firsts.{least-from, least-to, least-at-most, least-first-at}
 
+-- An offer that says no more than a task's options: each has a typical share of 1 or more and, up to a top, a critical share of at least
+-- what the offer says.
+pub record Below (top : ℕ) (options : List Share) (offer : ℕ → ℕ) : Type 0 where
+  pub positive : (s : Share) → List·Memᴰ s options → 1 ≤ s .typical
+  pub least : (s : Share) → List·Memᴰ s options → s .typical ≤ top → offer (s .typical) ≤ s .critical
+
 -- What is asked of a task's offer: each option has a typical share of 1 to M and a critical share within M of at least
 -- what the offer says, and what the offer offers within M is an option.
 pub record OfferOf (M : ℕ) (options : List Share) (offer : ℕ → ℕ) : Type 0 where
@@ -30,13 +36,20 @@ pub record OfferOf (M : ℕ) (options : List Share) (offer : ℕ → ℕ) : Type
   pub within : (s : Share) → List·Memᴰ s options → s .typical ≤ M
   pub small : (s : Share) → List·Memᴰ s options → s .critical ≤ M
   pub least : (s : Share) → List·Memᴰ s options → offer (s .typical) ≤ s .critical
-  pub offers : (a : ℕ) → 1 ≤ a → a ≤ M → offer a ≤ M → List·Memᴰ (offered offer a) options
+  pub offers : (a : ℕ) → 1 ≤ a → a ≤ 64 → offer a ≤ M → List·Memᴰ (offered offer a) options
 
 -- An offer for each task.
-pub data Offers (M : ℕ) : List (List Share) → List (ℕ → ℕ) → Type 0 where
-  no-offer : Offers M [] []
+pub data EachOffer (P : List Share → (ℕ → ℕ) → Type 0) : List (List Share) → List (ℕ → ℕ) → Type 0 where
+  no-offer : EachOffer P [] []
   offer-and : {options : List Share} {offer : ℕ → ℕ} {rest : List (List Share)} {offers : List (ℕ → ℕ)} →
-      OfferOf M options offer → Offers M rest offers → Offers M (options ∷ rest) (offer ∷ offers)
+      P options offer → EachOffer P rest offers → EachOffer P (options ∷ rest) (offer ∷ offers)
+
+abbrev pub Offers : ℕ → List (List Share) → List (ℕ → ℕ) → Type 0
+Offers M = EachOffer (OfferOf M)
+
+all-below : {M : ℕ} {tasks : List (List Share)} {offers : List (ℕ → ℕ)} (top : ℕ) → Offers M tasks offers → EachOffer (Below top) tasks offers
+all-below top no-offer = no-offer
+all-below top (offer-and r rs) = offer-and (record { positive = r .positive; least = λ s m to. r .least s m }) (all-below top rs)
 
 -- One option of each task.
 abbrev pub Takes : List (List Share) → List Share → Type 0
@@ -68,13 +81,9 @@ module _ (M : ℕ) (offer rest : ℕ → ℕ) (t : ℕ) where
   unfolding totalWith
   with-none e = rw e
 
-  pub with-past : M < t → totalWith M offer rest t ≡ M + 1
+  pub with-some : 1 ≤ t → totalWith M offer rest t ≡ min (sumAt offer rest t (bestShare offer rest t)) (M + 1)
   unfolding totalWith
-  with-past past = rw (le-leb 1 t (omega arith), lt-leb t M past)
-
-  pub with-some : 1 ≤ t → t ≤ M → totalWith M offer rest t ≡ min (sumAt offer rest t (bestShare offer rest t)) (M + 1)
-  unfolding totalWith
-  with-some one to = rw (le-leb 1 t one, le-leb t M to)
+  with-some one = rw (ne-eqb t 0 (λ e. omega arith))
 
   pub best-from : 1 ≤ bestShare offer rest t
   unfolding bestShare
@@ -92,10 +101,10 @@ module _ (M : ℕ) (offer rest : ℕ → ℕ) (t : ℕ) where
   unfolding bestShare
   best-first a from to = least-first-at (sumAt offer rest t) 1 (t - 1) a from (omega arith)
 
-  pub with-at-most : t ≤ M → (a : ℕ) → 1 ≤ a → a ≤ t → totalWith M offer rest t ≤ offer a + rest (t - a)
+  pub with-at-most : (a : ℕ) → 1 ≤ a → a ≤ t → totalWith M offer rest t ≤ offer a + rest (t - a)
   unfolding sumAt
-  with-at-most inside a from to =
-      rw (with-some (omega arith) inside)
+  with-at-most a from to =
+      rw (with-some (omega arith))
       (omega (arith, min-le-left (sumAt offer rest t (bestShare offer rest t)) (M + 1), best-least a from to))
 
   pub with-positive : totalWith M offer rest t ≤ M → 1 ≤ t
@@ -105,16 +114,16 @@ module _ (M : ℕ) (offer rest : ℕ → ℕ) (t : ℕ) where
       go (yes one) = one
       go (no zero-left) = absurd (omega (arith, with-none (omega arith)))
 
-  with-to : totalWith M offer rest t ≤ M → t ≤ M
-  with-to within = go (decLe t M)
+  pub with-bound : totalWith M offer rest t ≤ M + 1
+  with-bound = go (decLe 1 t)
     where
-      go : Dec (t ≤ M) → t ≤ M
-      go (yes to) = to
-      go (no past) = absurd (omega (arith, with-past (omega arith)))
+      go : Dec (1 ≤ t) → totalWith M offer rest t ≤ M + 1
+      go (yes one) = rw (with-some one) (min-le-right (sumAt offer rest t (bestShare offer rest t)) (M + 1))
+      go (no zero-left) = omega (arith, with-none (omega arith))
 
   pub with-best : totalWith M offer rest t ≤ M → totalWith M offer rest t ≡ offer (bestShare offer rest t) + rest (t - bestShare offer rest t)
   unfolding sumAt
-  with-best within = go (sumAt offer rest t (bestShare offer rest t)) (with-some (with-positive within) (with-to within)) (decLe (sumAt offer rest t (bestShare offer rest t)) (M + 1))
+  with-best within = go (sumAt offer rest t (bestShare offer rest t)) (with-some (with-positive within)) (decLe (sumAt offer rest t (bestShare offer rest t)) (M + 1))
     where
       go : (x : ℕ) → totalWith M offer rest t ≡ min x (M + 1) → Dec (x ≤ M + 1) → totalWith M offer rest t ≡ x
       go x e (yes h) = e ∙ min-eq-left h
@@ -128,19 +137,29 @@ module _ (M : ℕ) (offer rest : ℕ → ℕ) (t : ℕ) where
   unfolding sumAt
   with-first within a from to less = best-first a from to (rw (with-best within) at less)
 
--- Every choice with a typical total within M has at least the least critical total there.
-pub total-least : {M : ℕ} {tasks : List (List Share)} {offers : List (ℕ → ℕ)} → Offers M tasks offers → (choice : List Share) →
-    Takes tasks choice → typicalTotal choice ≤ M → leastTotal M offers (typicalTotal choice) ≤ criticalTotal choice
+-- Every choice with a typical total up to the top has at least the least critical total there.
+pub total-least : (M : ℕ) {top : ℕ} {tasks : List (List Share)} {offers : List (ℕ → ℕ)} → EachOffer (Below top) tasks offers →
+    (choice : List Share) → Takes tasks choice → typicalTotal choice ≤ top → leastTotal M offers (typicalTotal choice) ≤ criticalTotal choice
 unfolding leastTotal
-total-least no-offer [] t to = omega arith
-total-least no-offer (s ∷ choice) t to = absurd t
-total-least (offer-and r rs) [] t to = absurd t
-total-least {M} (offer-and {offer = offer} {offers = offers} r rs) (s ∷ choice) (m, t) to =
+total-least M no-offer [] t to = omega arith
+total-least M no-offer (s ∷ choice) t to = absurd t
+total-least M (offer-and r rs) [] t to = absurd t
+total-least M (offer-and {offer = offer} {offers = offers} r rs) (s ∷ choice) (m, t) to =
     let left : s .typical + typicalTotal choice - s .typical ≡ typicalTotal choice = omega arith in
-    let here = with-at-most M offer (leastTotal M offers) (s .typical + typicalTotal choice) to (s .typical) (r .positive s m) (omega arith) in
+    let here = with-at-most M offer (leastTotal M offers) (s .typical + typicalTotal choice) (s .typical) (r .positive s m) (omega arith) in
     let here′ : totalWith M offer (leastTotal M offers) (s .typical + typicalTotal choice) ≤ offer (s .typical) + leastTotal M offers (typicalTotal choice) =
     rw left at here in
-    omega (arith, r .least s m, total-least rs choice t (omega arith))
+    omega (arith, r .least s m (omega arith), total-least M rs choice t (omega arith))
+
+-- No least critical total exceeds M + 1.
+pub total-bound : (M : ℕ) (offers : List (ℕ → ℕ)) (t : ℕ) → leastTotal M offers t ≤ M + 1
+unfolding leastTotal
+total-bound M [] t = go (eqb t 0)
+  where
+    go : (e : Bool) → cond e 0 (M + 1) ≤ M + 1
+    go true = omega arith
+    go false = omega arith
+total-bound M (offer ∷ offers) t = with-bound M offer (leastTotal M offers) t
 
 -- What the selected shares are where the least critical total is within M.
 pub record Sound (M : ℕ) (tasks : List (List Share)) (offers : List (ℕ → ℕ)) (t : ℕ) : Type 0 where
@@ -148,7 +167,7 @@ pub record Sound (M : ℕ) (tasks : List (List Share)) (offers : List (ℕ → �
   pub typical : typicalTotal (sharesAt M offers t) ≡ t
   pub critical : criticalTotal (sharesAt M offers t) ≡ leastTotal M offers t
 
-pub select-sound : {M : ℕ} {tasks : List (List Share)} {offers : List (ℕ → ℕ)} → Offers M tasks offers → (t : ℕ) → t ≤ M →
+pub select-sound : {M : ℕ} {tasks : List (List Share)} {offers : List (ℕ → ℕ)} → Offers M tasks offers → (t : ℕ) → t ≤ 64 →
     leastTotal M offers t ≤ M → Sound M tasks offers t
 unfolding leastTotal sharesAt
 select-sound {M} no-offer t to within = go (eqb t 0) refl within
@@ -170,7 +189,7 @@ select-sound {M} (offer-and {offer = offer} {rest = tasks} {offers = offers} r r
     }
 
 -- A rival with the same totals comes no earlier, task by task.
-pub select-first : {M : ℕ} {tasks : List (List Share)} {offers : List (ℕ → ℕ)} → Offers M tasks offers → (t : ℕ) → t ≤ M →
+pub select-first : {M : ℕ} {tasks : List (List Share)} {offers : List (ℕ → ℕ)} → Offers M tasks offers → (t : ℕ) → t ≤ 64 →
     leastTotal M offers t ≤ M → (rival : List Share) → Takes tasks rival → typicalTotal rival ≡ t →
     criticalTotal rival ≡ leastTotal M offers t → noLater (pairNumbers (sharesAt M offers t)) (pairNumbers rival) ≡ true
 unfolding leastTotal sharesAt
@@ -183,9 +202,9 @@ select-first {M} (offer-and {offer = offer} {rest = tasks} {offers = offers} r r
     let one : 1 ≤ s .typical = r .positive s m in
     let left : t - s .typical ≡ typicalTotal rival = omega arith in
     let least : offer (s .typical) ≤ s .critical = r .least s m in
-    let rest-least : leastTotal M offers (t - s .typical) ≤ criticalTotal rival = rw left (total-least rs rival takes (omega arith)) in
+    let rest-least : leastTotal M offers (t - s .typical) ≤ criticalTotal rival = rw left (total-least M (all-below t rs) rival takes (omega arith)) in
     let most : total ≤ offer (s .typical) + leastTotal M offers (t - s .typical) =
-    with-at-most M offer (leastTotal M offers) t to (s .typical) one (omega arith) in
+    with-at-most M offer (leastTotal M offers) t (s .typical) one (omega arith) in
     let no-later : a ≤ s .typical = with-first M offer (leastTotal M offers) t within (s .typical) one (omega arith) (omega arith) in
     let own : s .critical ≡ offer (s .typical) = omega arith in
     let rest-own : criticalTotal rival ≡ leastTotal M offers (t - s .typical) = omega arith in
@@ -196,7 +215,7 @@ select-first {M} (offer-and {offer = offer} {rest = tasks} {offers = offers} r r
     let rest-same : criticalTotal rival ≡ leastTotal M offers (t - a) = rest-own ∙ ap (leastTotal M offers) gone in
     select-first rs (t - a) (omega arith) (omega arith) rival takes (omega arith) rest-same)
 
-module _ {M : ℕ} {tasks : List (List Share)} {offers : List (ℕ → ℕ)} (r : Offers M tasks offers) where
+module _ {M : ℕ} {tasks : List (List Share)} {offers : List (ℕ → ℕ)} (r : Offers M tasks offers) (few : M ≤ 64) where
   best-total-to : bestTotal M offers ≤ M
   unfolding bestTotal
   best-total-to = omega (arith, least-to (leastTotal M offers) 0 M)
@@ -224,7 +243,7 @@ module _ {M : ℕ} {tasks : List (List Share)} {offers : List (ℕ → ℕ)} (r 
       leastTotal M offers (bestTotal M offers) ≤ criticalTotal choice
   fitting-least choice m =
       let (takes, typical, critical) = fitting-total choice m in
-      omega (arith, best-total-least (typicalTotal choice) typical, total-least r choice takes typical)
+      omega (arith, best-total-least (typicalTotal choice) typical, total-least M (all-below M r) choice takes typical)
 
   -- Nothing fits where the least critical total exceeds M.
   select-none : M < leastTotal M offers (bestTotal M offers) → keep (fits M) (choices tasks) ≡ []
@@ -236,7 +255,7 @@ module _ {M : ℕ} {tasks : List (List Share)} {offers : List (ℕ → ℕ)} (r 
     select-fits : List·Memᴰ (sharesAt M offers (bestTotal M offers)) (keep (fits M) (choices tasks))
     unfolding fits
     select-fits =
-        let sound = select-sound r (bestTotal M offers) best-total-to within in
+        let sound = select-sound r (bestTotal M offers) (omega (arith, best-total-to)) within in
         let typical : typicalTotal (sharesAt M offers (bestTotal M offers)) ≤ M = rw (sound .typical) best-total-to in
         let critical : criticalTotal (sharesAt M offers (bestTotal M offers)) ≤ M = rw (sound .critical) within in
         keep-has (fits M) (choices tasks) (sharesAt M offers (bestTotal M offers)) (takes-choice tasks _ (sound .takes))
@@ -246,15 +265,15 @@ module _ {M : ℕ} {tasks : List (List Share)} {offers : List (ℕ → ℕ)} (r 
         noLater (rank (sharesAt M offers (bestTotal M offers))) (rank rival) ≡ true
     select-no-later rival m =
         let (takes, typical, critical) = fitting-total rival m in
-        let sound = select-sound r (bestTotal M offers) best-total-to within in
-        let least = total-least r rival takes typical in
+        let sound = select-sound r (bestTotal M offers) (omega (arith, best-total-to)) within in
+        let least = total-least M (all-below M r) rival takes typical in
         ranks-no-later (sharesAt M offers (bestTotal M offers)) rival
         (omega (arith, sound .critical, fitting-least rival m))
         (λ same.
         let first = best-total-first (typicalTotal rival) typical (omega (arith, sound .critical)) in
         omega (arith, sound .typical))
         (λ same-critical same-typical.
-        select-first r (bestTotal M offers) best-total-to within rival takes
+        select-first r (bestTotal M offers) (omega (arith, best-total-to)) within rival takes
         (sym same-typical ∙ sound .typical) (sym same-critical ∙ sound .critical))
 
     select-chosen : leastBy rank (keep (fits M) (choices tasks)) ≡ some (sharesAt M offers (bestTotal M offers))

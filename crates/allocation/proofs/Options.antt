@@ -157,14 +157,14 @@ module _ (M : ℕ) (t : Task) where
       go false e = rw (options-high e) (offer-high-of e)
 
 -- An offer that agrees with an offer of these options from 1 to M is one.
-pub offer-agrees : (M : ℕ) (options : List Share) (offer offer′ : ℕ → ℕ) → ((a : ℕ) → 1 ≤ a → a ≤ M → offer′ a ≡ offer a) →
+pub offer-agrees : (M : ℕ) (options : List Share) (offer offer′ : ℕ → ℕ) → M ≤ 64 → ((a : ℕ) → 1 ≤ a → a ≤ 64 → offer′ a ≡ offer a) →
     OfferOf M options offer → OfferOf M options offer′
-offer-agrees M options offer offer′ same r =
+offer-agrees M options offer offer′ few same r =
     record {
       positive = r .positive;
       within = r .within;
       small = r .small;
-      least = λ s m. rw (same (s .typical) (r .positive s m) (r .within s m)) (r .least s m);
+      least = λ s m. rw (same (s .typical) (r .positive s m) (omega (arith, r .within s m))) (r .least s m);
       offers = λ a from to few.
           let e = same a from to in
           subst (λ (b : ℕ). List·Memᴰ (record { typical = a; critical = b }) options) (sym e) (r .offers a from to (rw e at few));

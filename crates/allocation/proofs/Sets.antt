@@ -1,6 +1,6 @@
 -- A lawful task set: its offers are offers of its tasks' options, so that what they select is what is chosen, and an offer that offers
 -- nothing is a task without an option.
-use Prim.Native.Nat.{ℕ, zero, suc, _+_, _≤_, _<_}
+use Prim.Native.Nat.{ℕ, zero, suc, _+_, _-_, _≤_, _<_}
 use mathlib.Core.Path.{_≡_, refl, sym, ap, _∙_, subst}
 use mathlib.Core.Bool.{Bool, true, false, false≢true}
 use mathlib.Core.List.{List, [], _∷_, map, List·Memᴰ, List·Memᴰ·head, List·Memᴰ·not-nil}
@@ -9,7 +9,7 @@ use native.Mathlib.Numerals.{add-one}
 use native.Mathlib.Omega.{arith}
 use native.Mathlib.Decide.{decLe, decLt}
 use lib.Dec.{ltb}
-use lib.ListN.{length, getD, take, drop, replicate, drop-of-length-le}
+use lib.ListN.{length, getD, drop, replicate, drop-of-length-le}
 use lib.Seq.{drop-cons, length-take-le, getD-take}
 use borrow.Author.Tests.{ltb-true, lt-ltb}
 use Rattle.sheet.specs.declared.answer.Answer.{Answer}
@@ -22,7 +22,7 @@ use Rattle.sheet.specs.Format.{taskIn, missingTask}
 use Rattle.basics.proofs.Cells.{cells-length}
 use Rattle.shares.specs.declared.share.Share.{Share}
 use Rattle.shares.specs.Offer.{tabulate, criticalAt, offerOf}
-use Rattle.shares.proofs.Levels.{critical-within}
+use Rattle.shares.proofs.Levels.{critical-within, critical-bound, critical-past}
 use Rattle.shares.proofs.Offers.{offer-at}
 use Rattle.allocation.specs.declared.choice.Chosen.{Chosen}
 use Rattle.basics.specs.Order.{leastBy}
@@ -31,13 +31,13 @@ use Rattle.shares.specs.Totals.{noProcessors}
 use Rattle.keeping.specs.Kept.{withKept}
 use Rattle.allocation.specs.Allocation.{noShare, tasksOf, chosenFor, shareAnswer, choiceAnswer, sharesChosen, sharesWith, sharesOf, sixteen, choiceOf}
 use Rattle.allocation.specs.Lawful.{LawfulTask, LawfulSet}
-use Rattle.allocation.specs.means.Selection.{cellAt, offered, selected, zeroOffer, missingOffer, offersOf, offersNone, offerAnswer, offersUpTo, selectionOf}
+use Rattle.allocation.specs.means.Selection.{cellAt, offered, selected, zeroOffer, missingOffer, offersOf, offersNone, offerAnswer, offersUpTo, selectionOf, OfferWithin, OffersWithin}
 use Rattle.basics.proofs.Members.{keep-from, all-member, all-members, none-empty, empty-none}
 use Rattle.basics.proofs.Order.{least-of-none}
-use Rattle.allocation.proofs.Optimal.{OfferOf, Offers, no-offer, offer-and, Takes, choice-takes, select-least}
+use Rattle.allocation.proofs.Optimal.{OfferOf, EachOffer, Offers, no-offer, offer-and, Takes, choice-takes, select-least}
 use Rattle.allocation.proofs.Options.{offer-of, offer-agrees}
 use Rattle.allocation.proofs.Cells.{tabulate-from, tabulate-has}
-use Rattle.allocation.proofs.Lines.{cells-at, offers-open, offers-length, sixteen-none}
+use Rattle.allocation.proofs.Lines.{cells-at, table-within, offers-open, offers-length, sixteen-none}
 
 -- The answer on a task set beside the choice, before low tasks are kept.
 abbrev pub chosenLine : TaskSet → Chosen
@@ -50,12 +50,20 @@ none-shares set e = rw e
 
 -- The offer of a lawful task, as 64 numbers.
 module _ (M : ℕ) (t : Task) (small : M ≤ 64) (lawful : LawfulTask t) where
-  cell-is : (a : ℕ) → 1 ≤ a → a ≤ M → cellAt (offerOf M t) a ≡ criticalAt M t a
+  pub cell-is : (a : ℕ) → 1 ≤ a → a ≤ 64 → cellAt (offerOf M t) a ≡ criticalAt M t a
   unfolding cellAt
-  cell-is a from to = offer-at M t a from (omega arith)
+  cell-is a from to = offer-at M t a from to
 
   pub offer-offers : OfferOf M (optionsOf M t) (cellAt (offerOf M t))
-  offer-offers = offer-agrees M (optionsOf M t) (criticalAt M t) (cellAt (offerOf M t)) cell-is (offer-of M t lawful)
+  offer-offers = offer-agrees M (optionsOf M t) (criticalAt M t) (cellAt (offerOf M t)) small cell-is (offer-of M t lawful)
+
+  offer-within : OfferWithin M (offerOf M t)
+  unfolding offerOf
+  offer-within =
+      record {
+        small = table-within (criticalAt M t) 1 64 (M + 1) (critical-bound M t);
+        past = λ a beyond to. cell-is a (omega arith) to ∙ critical-past M t a beyond;
+      }
 
   offers-nothing : optionsOf M t ≡ [] → offersNone M (offerOf M t) ≡ true
   unfolding offersNone offerOf
@@ -70,7 +78,7 @@ module _ (M : ℕ) (t : Task) (small : M ≤ 64) (lawful : LawfulTask t) where
       past a from b same (yes within) =
           let few : criticalAt M t a ≤ M = rw (← same) within in
           absurd (List·Memᴰ·not-nil (subst (λ (o : List Share). List·Memᴰ (offered (criticalAt M t) a) o) e
-          (offer-of M t lawful .offers a from (critical-within M t a few) few)))
+          (offer-of M t lawful .offers a from (omega (arith, critical-within M t a few)) few)))
 
   offers-something : (s : Share) → List·Memᴰ s (optionsOf M t) → offersNone M (offerOf M t) ≡ true → ⊥
   unfolding offersNone offerOf
@@ -166,32 +174,51 @@ module _ (set : TaskSet) (lawful : LawfulSet set) where
       let few = lawful .few-tasks in
       cells-at (λ j. offerOf (set .processors) (taskIn set j)) zeroOffer 16 (set .count) i missingOffer (omega arith) inside
 
+  -- Each offer is as the selection needs it.
+  pub offers-within : OffersWithin (set .processors) (set .count) (offersOf set)
+  offers-within i inside =
+      rw (offers-at i inside) (offer-within (set .processors) (taskIn set i) (lawful .few-processors) (lawful .lawful i inside))
+
   offer-at-task : (i : ℕ) → i < set .count →
       OfferOf (set .processors) (optionsOf (set .processors) (taskIn set i)) (cellAt (getD (offersOf set) i missingOffer))
   offer-at-task i inside =
       rw (offers-at i inside) (offer-offers (set .processors) (taskIn set i) (lawful .few-processors) (lawful .lawful i inside))
 
-  -- The offers of the last tasks, one task after the other.
-  offers-from : (count i : ℕ) → i + count ≡ set .count →
-      Offers (set .processors) (map (optionsOf (set .processors)) (take count (drop i (set .tasks)))) (drop i (offersUpTo (set .count) (offersOf set)))
-  unfolding taskIn
-  offers-from zero i e =
-      let past : length (offersUpTo (set .count) (offersOf set)) ≤ i = omega (arith, offers-length (set .count) (offersOf set) offers-there) in
-      rw (drop-of-length-le (offersUpTo (set .count) (offersOf set)) past) no-offer
-  offers-from (suc count) i e =
-      let inside : i < length (set .tasks) = omega (arith, there) in
-      let later = offers-from count (i + 1) (omega arith) in
-      rw (drop-cons (set .tasks) i missingTask inside, offers-open (set .count) (offersOf set) offers-there i (omega arith))
-      (offer-and (offer-at-task i (omega arith))
-      (subst (λ (j : ℕ). Offers (set .processors) (map (optionsOf (set .processors)) (take count (drop j (set .tasks)))) (drop (i + 1) (offersUpTo (set .count) (offersOf set)))) (add-one i) later))
+  all-tasks : length (tasksOf set) ≡ set .count
+  all-tasks = length-take-le (set .count) (set .tasks) there
 
-  set-offers : Offers (set .processors) (map (optionsOf (set .processors)) (tasksOf set)) (offersUpTo (set .count) (offersOf set))
-  set-offers = offers-from (set .count) 0 (omega arith)
+  -- The offers of the last tasks, one task after the other: what holds for each task's options and offer.
+  module _ (P : List Share → (ℕ → ℕ) → Type 0) (options : Task → List Share)
+      (holds-at : (i : ℕ) → i < set .count → P (options (taskIn set i)) (cellAt (getD (offersOf set) i missingOffer))) where
+    each-left : (count i : ℕ) → i + count ≡ set .count →
+        EachOffer P (map options (drop i (tasksOf set))) (drop i (offersUpTo (set .count) (offersOf set)))
+    unfolding taskIn
+    each-left zero i e =
+        let past : length (offersUpTo (set .count) (offersOf set)) ≤ i = omega (arith, offers-length (set .count) (offersOf set) offers-there) in
+        let last : length (tasksOf set) ≤ i = omega (arith, all-tasks) in
+        rw (drop-of-length-le (offersUpTo (set .count) (offersOf set)) past, drop-of-length-le (tasksOf set) last) no-offer
+    each-left (suc count) i e =
+        let inside : i < length (tasksOf set) = omega (arith, all-tasks) in
+        let later = each-left count (i + 1) (omega arith) in
+        rw (
+          drop-cons (tasksOf set) i missingTask inside,
+          getD-take (set .count) (set .tasks) i missingTask (omega arith),
+          offers-open (set .count) (offersOf set) offers-there i (omega arith),
+        )
+        (offer-and (holds-at i (omega arith))
+        (subst (λ (j : ℕ). EachOffer P (map options (drop j (tasksOf set))) (drop (i + 1) (offersUpTo (set .count) (offersOf set)))) (add-one i) later))
+
+    pub each-from : (i : ℕ) → i ≤ set .count → EachOffer P (map options (drop i (tasksOf set))) (drop i (offersUpTo (set .count) (offersOf set)))
+    each-from i inside = each-left (set .count - i) i (omega arith)
+
+  pub set-offers : (i : ℕ) → i ≤ set .count →
+      Offers (set .processors) (map (optionsOf (set .processors)) (drop i (tasksOf set))) (drop i (offersUpTo (set .count) (offersOf set)))
+  set-offers = each-from (OfferOf (set .processors)) (optionsOf (set .processors)) offer-at-task
 
   -- What the offers select is what is chosen.
   pub selected-chosen : chosenFor set ≡ selected (set .processors) (offersUpTo (set .count) (offersOf set))
   unfolding chosenFor chosen fitting
-  selected-chosen = select-least set-offers
+  selected-chosen = select-least (set-offers 0 (omega arith)) (lawful .few-processors)
 
   -- Refusal 7 by the offers and by the options.
   answer-same : (i : ℕ) → i < set .count → offerAnswer (set .processors) (offersOf set) i ≡ shareAnswer set i

@@ -14,8 +14,8 @@ use Rattle.shares.specs.declared.share.Share.{Share}
 use Rattle.allocation.specs.declared.selection.Totals.{Totals}
 use Rattle.shares.specs.Totals.{noProcessors}
 use Rattle.allocation.specs.Allocation.{noFit, sixteen}
-use Rattle.allocation.specs.means.Selection.{cellAt, leastFrom, bestShare, leastTotal, totalsOf, offered, sharesAt, bestTotal, selected, missingOffer, offersUpTo, lastTotals, selectionOf, totalAt}
-use Rattle.allocation.proofs.Lines.{missingTotals, offers-length, offers-open, whole-line, rest-line, entry-totals, best-total-is, step-some, step-from, step-to, step-within, step-shares, shares-length, open-at, open-rest, sixteen-is, sixteen-none}
+use Rattle.allocation.specs.means.Selection.{cellAt, leastFrom, bestShare, leastTotal, totalsOf, offered, sharesAt, bestTotal, selected, missingOffer, offersUpTo, lastTotals, selectionOf, totalAt, missingTotals, Small}
+use Rattle.allocation.proofs.Lines.{totals-small, offers-length, offers-open, whole-line, rest-line, entry-totals, best-total-is, step-some, step-from, step-to, step-within, step-shares, shares-length, open-at, open-rest, sixteen-is, sixteen-none}
 
 -- The answers that the walk ends in.
 module _ (M : ℕ) (offers : List (ℕ → ℕ)) where
@@ -49,6 +49,13 @@ module _ (M n : ℕ) (offers : List (List ℕ)) (there : n ≤ length offers) (f
   pub total-is : (t : ℕ) → t ≤ M → getD (getD all n missingTotals .cells) t 0 ≡ leastTotal M (offersUpTo n offers) t
   unfolding totalAt
   total-is t to = rw whole-is (entry-totals M (offersUpTo n offers) t (omega arith))
+
+-- The totals of the tasks after task i are small.
+pub rest-small : (M n : ℕ) (offers : List (List ℕ)) → n ≤ length offers → n ≤ 16 → M ≤ 64 → (i : ℕ) → i < n → (all : List Totals) →
+    all ≡ lastTotals M (offersUpTo n offers) n → Small (getD all (n - 1 - i) missingTotals .cells)
+rest-small M n offers there few small i inside all lines =
+    rw (lines, rest-line M n (offersUpTo n offers) (offers-length n offers there) few i inside)
+    (totals-small M (drop (i + 1) (offersUpTo n offers)) small)
 
 -- What the walk has at task i, where the tasks from i on have `left` typical processors and task i takes a of them.
 pub record Step (M n : ℕ) (offers : List (List ℕ)) (i left a : ℕ) (shares : List Share) : Type 0 where

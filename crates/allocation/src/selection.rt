@@ -1,10 +1,11 @@
-// S5.3: the selection. Totals over the tasks, from the last task on, and then a walk forward over the best shares.
+// S5.3 and S5.7: the selection. Totals over the tasks, from the last task on, and then a walk forward over the best shares. Shares, totals
+// and their sums are bytes: two numbers of at most m + 1 come to at most 130.
 ghost use mathlib.Core.Path.{_≡_};
 ghost use mathlib.Core.List.{[]};
 ghost use Prim.Native.Nat.{_+_, _≤_, min};
 ghost use lib.ListN.{length};
 ghost use Rattle.shares.specs.Offer.{tabulate};
-ghost use Rattle.allocation.specs.means.Selection.{cellAt, leastFrom, bestShare, sumAt, totalWith, totalsOf, offersUpTo, lastTotals, selectionOf, totalAt};
+ghost use Rattle.allocation.specs.means.Selection.{cellAt, leastFrom, bestShare, totalWith, totalsOf, offersUpTo, lastTotals, selectionOf, totalAt, padded, lowered, Small, OfferWithin, OffersWithin};
 use crate::choice::Chosen;
 use shares::share::Share;
 use sheet::answer::Answer;
@@ -12,70 +13,61 @@ use sheet::answer::NO_TASK;
 
 const NO_FIT: u8 = 8;
 
-// The least critical total at each typical total 0 to m, m + 1 for any above m; m + 1 at each typical total above m, to 64.
+// The least critical total at each typical total 0 to 64. m + 1 stands for none, and for any total above m.
 pub struct Totals {
     pub cells: [u8; 65],
 }
 
-// A typical share, and the critical total that goes with it.
-struct Best {
-    share: u8,
-    sum: u16,
-}
-
-fn sum(x: u8, y: u8) -> u16
-    ensures { λ r. ⌜ r ≡ x + y ⌝ }
+fn smaller(x: u8, y: u8) -> u8
+    ensures { λ r. ⌜ r ≡ min x y ⌝ }
 {
-    x as u16 + y as u16
+    if x < y { x } else { y }
 }
 
-// The first share of a task from 1 to t at which its critical share and the rest's total come to the least.
-fn best_share(offer: &[u8; 64], rest: &[u8; 65], t: u8) -> Best
-    requires { ⌜ (1 ≤ t) × (t ≤ 64) ⌝ }
-    ensures share { λ r. ⌜ r .share ≡ bestShare (cellAt (now (offer .entry))) (totalAt (now (rest .entry))) t ⌝ }
-    ensures total { λ r. ⌜ r .sum ≡ sumAt (cellAt (now (offer .entry))) (totalAt (now (rest .entry))) t (r .share) ⌝ }
-{
-    let end = t as usize;
-    let mut best: usize = 1;
-    let mut least = sum(offer[0], rest[end - 1]);
-    let mut a: usize = 1;
-    while a < end {
-        a += 1;
-        let next = sum(offer[a - 1], rest[end - a]);
-        if next < least {
-            best = a;
-            least = next;
-        }
-    }
-    Best {
-        share: best as u8,
-        sum: least,
-    }
-}
-
-// A total within m, or m + 1.
-fn capped(x: u16, m: u8) -> u8
+// The totals from cell 63 on, and m + 1 in the cells before them, so that a share larger than the typical total leaves none.
+fn padded(totals: &[u8; 65], m: u8) -> [u8; 128]
     requires { ⌜ m ≤ 64 ⌝ }
-    ensures { λ r. ⌜ r ≡ min x (m + 1) ⌝ }
+    ensures { λ r. ⌜ r ≡ padded m (now (totals .entry)) ⌝ }
 {
-    if x <= m as u16 { x as u8 } else { m + 1 }
+    let mut cells = [m + 1; 128];
+    let mut t: usize = 0;
+    while t < 65 {
+        cells[63 + t] = totals[t];
+        t += 1;
+    }
+    cells
+}
+
+// Lowers the totals at typical totals 1 to 64 to what they come to where a task takes `a` typical processors, with this critical share, and
+// the tasks after it, which have these padded totals, the rest. The 64 sums are four vectors of 16 bytes.
+fn lower(totals: &mut [u8; 65], a: u8, critical: u8, rest: &[u8; 128])
+    requires { ⌜ (1 ≤ a) × (a ≤ 64) × (critical ≤ 65) × Small (now rest) × (length (now totals) ≡ 65) ⌝ }
+    ensures { λ _. ⌜ now (totals .exit) ≡ lowered a critical (totalAt (now (rest .entry))) (now (totals .entry)) ⌝ }
+{
+    let share = a as usize;
+    let mut t: usize = 1;
+    while t < 65 {
+        totals[t] = smaller(totals[t], critical + rest[63 + t - share]);
+        t += 1;
+    }
 }
 
 // The totals of a task and of the tasks after it, which have the totals rest.
 fn totals_with(offer: [u8; 64], rest: [u8; 65], m: u8) -> [u8; 65]
-    requires { ⌜ m ≤ 64 ⌝ }
+    requires { ⌜ (m ≤ 64) × OfferWithin m offer × Small rest ⌝ }
     ensures { λ r. ⌜ r ≡ tabulate (totalWith m (cellAt offer) (totalAt rest)) 0 65 ⌝ }
 {
-    let mut totals = [m + 1; 65];
-    let mut t: u8 = 1;
-    while t <= m {
-        let best = best_share(&offer, &rest, t);
-        totals[t as usize] = capped(best.sum, m);
-        t += 1;
+    let after = padded(&rest, m);
+    let mut least = [m + 1; 65];
+    let mut a: u8 = 1;
+    while a <= m {
+        lower(&mut least, a, offer[a as usize - 1], &after);
+        a += 1;
     }
-    totals
+    least
 }
 
+// The totals of no task.
 fn no_totals(m: u8) -> [u8; 65]
     requires { ⌜ m ≤ 64 ⌝ }
     ensures { λ r. ⌜ r ≡ totalsOf m [] ⌝ }
@@ -87,7 +79,7 @@ fn no_totals(m: u8) -> [u8; 65]
 
 // The totals of the last k of n tasks, for each k.
 fn last_totals(offers: &[[u8; 64]; 16], n: u8, m: u8) -> [Totals; 17]
-    requires { ⌜ (n ≤ 16) × (m ≤ 64) × (n ≤ length (now offers)) ⌝ }
+    requires { ⌜ (n ≤ 16) × (m ≤ 64) × (n ≤ length (now offers)) × OffersWithin m n (now offers) ⌝ }
     ensures { λ r. ⌜ r ≡ lastTotals m (offersUpTo n (now (offers .entry))) n ⌝ }
 {
     let count = n as usize;
@@ -105,6 +97,25 @@ fn last_totals(offers: &[[u8; 64]; 16], n: u8, m: u8) -> [Totals; 17]
         k += 1;
     }
     all
+}
+
+// The first share of a task from 1 to t at which its critical share and the rest's total come to the least.
+fn best_share(offer: &[u8; 64], rest: &[u8; 65], t: u8) -> u8
+    requires { ⌜ (1 ≤ t) × (t ≤ 64) × Small (now offer) × Small (now rest) ⌝ }
+    ensures { λ r. ⌜ r ≡ bestShare (cellAt (now (offer .entry))) (totalAt (now (rest .entry))) t ⌝ }
+{
+    let mut best: u8 = 1;
+    let mut least = offer[0] + rest[t as usize - 1];
+    let mut a: u8 = 1;
+    while a < t {
+        a += 1;
+        let next = offer[a as usize - 1] + rest[(t - a) as usize];
+        if next < least {
+            best = a;
+            least = next;
+        }
+    }
+    best
 }
 
 // The first typical total within m at which the critical total is least.
@@ -125,7 +136,7 @@ fn first_least(totals: [u8; 65], m: u8) -> u8
 
 // Refusal 8 and the shares of n tasks with these offers.
 pub fn select(offers: &[[u8; 64]; 16], n: u8, m: u8) -> Chosen
-    requires { ⌜ (n ≤ 16) × (m ≤ 64) × (n ≤ length (now offers)) ⌝ }
+    requires { ⌜ (n ≤ 16) × (m ≤ 64) × (n ≤ length (now offers)) × OffersWithin m n (now offers) ⌝ }
     ensures { λ r. ⌜ r ≡ selectionOf m (offersUpTo n (now (offers .entry))) ⌝ }
 {
     let count = n as usize;
@@ -148,8 +159,7 @@ pub fn select(offers: &[[u8; 64]; 16], n: u8, m: u8) -> Chosen
         let offer = offers[i];
         let rest = all[count - 1 - i];
         let rest_cells = rest.cells;
-        let best = best_share(&offer, &rest_cells, left);
-        let a = best.share;
+        let a = best_share(&offer, &rest_cells, left);
         shares[i] = Share {
             typical: a,
             critical: offer[a as usize - 1],

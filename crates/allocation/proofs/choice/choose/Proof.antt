@@ -11,7 +11,7 @@ use Rattle.sheet.proofs.Said.{with-said}
 use Rattle.allocation.specs.declared.choice.Chosen.{Chosen}
 use Rattle.allocation.specs.Allocation.{noShare}
 use Rattle.allocation.specs.means.Selection.{offerAnswer}
-use Rattle.allocation.proofs.Sets.{chosenLine, offers-there, choice-refused, choice-selected}
+use Rattle.allocation.proofs.Sets.{chosenLine, offers-there, offers-within, choice-refused, choice-selected}
 use Rattle.allocation.proofs.KeptLine.{choice-passed, choice-able, choice-kept}
 use Rattle.allocation.proofs.choice.choose.Statement.{statement}
 use Rattle.allocation.proofs.choice.choose.Tie as tie
@@ -77,6 +77,7 @@ select-requires c κs =
       lawful .few-tasks,
       lawful .few-processors,
       rw (c .before .before .before .put-offers .ensures) (offers-there (start .args .set) lawful),
+      rw (c .before .before .before .put-offers .ensures) (offers-within (start .args .set) lawful),
     )
 
 -- What was selected is the choice.

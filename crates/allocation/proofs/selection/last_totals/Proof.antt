@@ -3,8 +3,8 @@
 use lib.ListN.{getD, set, replicate}
 use Rattle.shares.specs.Offer.{tabulate}
 use Rattle.allocation.specs.declared.selection.Totals.{Totals}
-use Rattle.allocation.specs.means.Selection.{cellAt, totalWith, missingOffer, offersUpTo, totalAt}
-use Rattle.allocation.proofs.Lines.{line, missingTotals, lines, offers-length, lines-start, lines-at, lines-store, lines-last, line-more}
+use Rattle.allocation.specs.means.Selection.{cellAt, totalWith, missingOffer, offersUpTo, totalAt, missingTotals}
+use Rattle.allocation.proofs.Lines.{line, totals-small, lines, offers-length, lines-start, lines-at, lines-store, lines-last, line-more}
 use borrow.Author.Needs.{needs}
 use Prim.Native.Nat.{ℕ, _+_, _-_, _≤_}
 use mathlib.Core.Path.{_≡_, ap, _∙_}
@@ -50,7 +50,17 @@ array-copy-out-rest : tie.Need-array-copy-out-rest Inv-loop μ-loop
 array-copy-out-rest c = omega arith
 
 totals-with-requires : tie.Need-totals-with-requires Inv-loop μ-loop
-totals-with-requires c κs = search needs
+totals-with-requires c κs =
+    let at = c .before .before .before .before in
+    let start = at .before .before in
+    let args = start .args in
+    let offers = offersUpTo (args .n) (now (args .offers)) in
+    let long = offers-length (args .n) (now (args .offers)) (omega arith) in (
+      omega arith,
+      start .pre .3 (args .n - 1 - at .loop .k) (omega arith),
+      rw (at .loop .inv .1, lines-at (args .m) (args .n) offers long (at .loop .k) (at .loop .k) (omega arith) (omega arith))
+          (totals-small (args .m) _ (omega arith)),
+    )
 
 add-all : tie.Need-add-all Inv-loop μ-loop
 add-all c = omega arith

@@ -1,8 +1,8 @@
 -- `selection::select` meets its contract. The loop's invariant: the shares of the tasks passed stand in their cells, and those
 -- of the tasks left are the best of what is left. The measure is the tasks left.
 use Rattle.basics.specs.Lists.{cellsFrom, cells}
-use Rattle.allocation.proofs.Lines.{missingTotals, best-total-within}
-use Rattle.allocation.proofs.Walk.{selection-none, selection-some, first-is, total-is, Step, walk-some, walk-step, walk-done}
+use Rattle.allocation.proofs.Lines.{offer-small, best-total-within}
+use Rattle.allocation.proofs.Walk.{selection-none, selection-some, first-is, total-is, Step, rest-small, walk-some, walk-step, walk-done}
 use borrow.Author.Needs.{needs}
 use Prim.Native.Nat.{ℕ, _-_, _≤_, _<_}
 use mathlib.Core.Path.{_≡_, refl, sym, ap, _∙_}
@@ -12,7 +12,7 @@ use denote.Ref.{now}
 use lib.ListN.{getD, drop}
 use Rattle.shares.specs.declared.share.Share.{Share}
 use Rattle.shares.specs.Totals.{noProcessors}
-use Rattle.allocation.specs.means.Selection.{offersUpTo, leastTotal, sharesAt, bestTotal}
+use Rattle.allocation.specs.means.Selection.{offersUpTo, leastTotal, sharesAt, bestTotal, missingTotals}
 use Rattle.allocation.proofs.selection.select.Statement.{statement}
 use Rattle.allocation.proofs.selection.select.Tie as tie
 
@@ -111,33 +111,45 @@ mul-rest c = omega arith
 array-copy-out-rest : tie.Need-array-copy-out-rest Inv-loop μ-loop
 array-copy-out-rest c = omega arith
 
+-- Where the function starts, and where a turn of the walk does.
+abbrev start : tie.At-loop Inv-loop μ-loop → tie.Start Inv-loop μ-loop
+start at = at .before .before .before .before .before .before
+
+abbrev turn : tie.After-best-share Inv-loop μ-loop → tie.At-loop Inv-loop μ-loop
+turn c = c .before .before .before .before .before .before .before
+
 best-share-requires : tie.Need-best-share-requires Inv-loop μ-loop
 best-share-requires c κs =
-    let args = c .before .before .before .before .before .before .before .before .before .before .before .before .args in
-    let loop = c .before .before .before .before .before .before .loop in (
+    let at = c .before .before .before .before .before .before in
+    let loop = at .loop in
+    let args = start at .args in
+    let lines = at .before .before .before .before .before .last-totals .ensures in (
       walk-some (args .m) (args .n) (now (args .offers)) (omega arith) (omega arith) (omega arith) (loop .i) (loop .left) (omega arith)
           (omega arith) (loop .inv .2),
       omega arith,
+      offer-small (args .m) _ (omega arith) (start at .pre .3 (loop .i) (omega arith)),
+      rest-small (args .m) (args .n) (now (args .offers)) (omega arith) (omega arith) (omega arith) (loop .i) (omega arith) _ lines,
     )
 
 -- The step that the walk takes there.
 step : (c : tie.After-best-share Inv-loop μ-loop) →
-    Step (c .before .before .before .before .before .before .before .before .before .before .before .before .before .args .m) (c .before .before .before .before .before .before .before .before .before .before .before .before .before .args .n) (c .before .before .before .before .before .before .before .before .before .before .before .before .before .args .offers .now) (c .before .before .before .before .before .before .before .loop .i) (c .before .before .before .before .before .before .before .loop .left)
-    (c .best-share .result .share) (whole (c .before .before .before .before .before .before .before .before .before .before .before .before .before .args .m) (c .before .before .before .before .before .before .before .before .before .before .before .before .before .args .n) (c .before .before .before .before .before .before .before .before .before .before .before .before .before .args .offers .now))
+    Step (start (turn c) .args .m) (start (turn c) .args .n) (start (turn c) .args .offers .now) (turn c .loop .i) (turn c .loop .left) (c .best-share .result)
+    (whole (start (turn c) .args .m) (start (turn c) .args .n) (start (turn c) .args .offers .now))
 step c =
-    let args = c .before .before .before .before .before .before .before .before .before .before .before .before .before .args in
-    let loop = c .before .before .before .before .before .before .before .loop in
+    let loop = turn c .loop in
+    let args = start (turn c) .args in
+    let lines = turn c .before .before .before .before .before .last-totals .ensures in
     walk-step (args .m) (args .n) (now (args .offers)) (omega arith) (omega arith) (omega arith) (loop .i) (loop .left) (omega arith)
-    (omega arith) (loop .inv .2) _ (c .before .before .before .before .before .before .before .before .before .before .before .before .last-totals .ensures) _ (c .best-share .ensures .0) _ (loop .inv .3)
+    (omega arith) (loop .inv .2) _ lines _ (c .best-share .ensures) _ (loop .inv .3)
 
-cast-t30 : tie.Need-cast-t30 Inv-loop μ-loop
-cast-t30 c = omega (arith, step c .to)
+cast-t29 : tie.Need-cast-t29 Inv-loop μ-loop
+cast-t29 c = omega (arith, step c .to)
 
-sub-t34 : tie.Need-sub-t34 Inv-loop μ-loop
-sub-t34 c = step c .from
+sub-t33 : tie.Need-sub-t33 Inv-loop μ-loop
+sub-t33 c = step c .from
 
-array-read-t43 : tie.Need-array-read-t43 Inv-loop μ-loop
-array-read-t43 c = omega (arith, step c .to)
+array-read-t42 : tie.Need-array-read-t42 Inv-loop μ-loop
+array-read-t42 c = omega (arith, step c .to)
 
 mul-shares : tie.Need-mul-shares Inv-loop μ-loop
 mul-shares c = omega arith
@@ -156,13 +168,13 @@ loop-less c = omega arith
 
 loop-again : tie.Need-loop-again Inv-loop μ-loop
 loop-again c =
-    let loop = c .before .before .before .before .before .before .before .loop in
+    let loop = turn c .loop in
     let next = step c in
     (omega arith, omega arith, next .within, next .rest, rw (loop .inv .4) (next .store))
 
 returns-2 : tie.Need-returns-2 Inv-loop μ-loop
 returns-2 c =
-    let args = c .before .before .before .before .before .before .before .args in
+    let args = start (c .before) .args in
     let loop = c .before .loop in
     let first = c .before .before .before in
     selection-some (args .m) (offersUpTo (args .n) (now (args .offers)))
@@ -190,9 +202,9 @@ select-spec =
     mul-rest
     array-copy-out-rest
     best-share-requires
-    cast-t30
-    sub-t34
-    array-read-t43
+    cast-t29
+    sub-t33
+    array-read-t42
     mul-shares
     array-set-from-shares
     sub-left

@@ -1,84 +1,91 @@
--- `selection::totals_with` meets its contract. The loop's invariant: the totals are done below t and say m + 1 from there on,
--- which is right above m. The measure is what is left of m + 1.
-use Prim.Native.Nat.{ℕ, min, _+_, _-_, _≤_}
-use Rattle.allocation.specs.means.Selection.{sumAt, cellAt, totalWith, totalAt}
-use borrow.Author.Needs.{needs}
-use mathlib.Core.List.{List, _∷_}
-use mathlib.Core.Path.{_≡_, refl, sym, ap, ap₂, _∙_}
+-- `selection::totals_with` meets its contract. The loop's invariant: the totals are lowered by the shares below a. The measure is what is
+-- left of m + 1.
+use Prim.Native.Nat.{ℕ, _+_, _-_, _≤_, _<_}
+use mathlib.Core.Path.{_≡_, ap, _∙_}
+use mathlib.Core.List.{List}
 use native.Mathlib.Omega.{arith}
-use Rattle.basics.specs.Lists.{cells, cellsFrom}
-use Rattle.basics.proofs.Cells.{cells-none, cells-store}
-use Rattle.shares.proofs.Offers.{cells-tabulated}
-use Rattle.allocation.proofs.Optimal.{with-none, with-past, with-some}
+use lib.ListN.{length}
+use Rattle.shares.specs.Offer.{tabulate}
+use Rattle.shares.proofs.Offers.{tabulate-length}
+use Rattle.allocation.specs.means.Selection.{cellAt, totalAt}
+use Rattle.allocation.proofs.Lowering.{padded-at, padded-before, padded-small, upTo, up-to-none, up-to-more, up-to-end}
 use Rattle.allocation.proofs.selection.totals_with.Statement.{statement}
 use Rattle.allocation.proofs.selection.totals_with.Tie as tie
 
 abbrev Inv-loop : tie.InvT-loop
-Inv-loop m offer rest totals₀ t₀ totals t =
-    (1 ≤ t) × (t ≤ m + 1) × (totals ≡ cells 65 (totalWith m (cellAt offer) (totalAt rest)) (m + 1) t)
+Inv-loop m offer after least₀ a₀ least a =
+    (1 ≤ a) × (a ≤ m + 1) × (least ≡ tabulate (upTo m (cellAt offer) (λ t. totalAt after (63 + t)) (a - 1)) 0 65)
 
 abbrev μ-loop : tie.MeasureT-loop
-μ-loop m offer rest totals₀ t₀ totals t = m + 1 - t
+μ-loop m offer after least₀ a₀ least a = m + 1 - a
 
-add-totals : tie.Need-add-totals Inv-loop μ-loop
-add-totals c = omega arith
+padded-requires : tie.Need-padded-requires Inv-loop μ-loop
+padded-requires c κs = omega arith
+
+add-least : tie.Need-add-least Inv-loop μ-loop
+add-least c = omega arith
 
 loop-holds : tie.Need-loop-holds Inv-loop μ-loop
-unfolding cellsFrom
 loop-holds c =
-    let args = c .args in
-    let f = totalWith (args .m) (cellAt (args .t1)) (totalAt (args .t2)) in (
+    let args = c .before .before .args in
+    let after = c .padded .result in
+    (omega arith, omega arith, up-to-none (args .m) (cellAt (args .t1)) (λ t. totalAt after (63 + t)) _ (omega arith))
+
+cast-lower : tie.Need-cast-lower Inv-loop μ-loop
+cast-lower c = omega arith
+
+sub-lower : tie.Need-sub-lower Inv-loop μ-loop
+sub-lower c = omega arith
+
+array-read-lower : tie.Need-array-read-lower Inv-loop μ-loop
+array-read-lower c = omega arith
+
+lower-requires : tie.Need-lower-requires Inv-loop μ-loop
+lower-requires c κs =
+    let at = c .before .before .before in
+    let made = at .before in
+    let start = made .before .before in
+    let args = start .args in (
       omega arith,
       omega arith,
-      ap₂ (λ (x : ℕ) (xs : List ℕ). x ∷ xs) (sym (with-none (args .m) (cellAt (args .t1)) (totalAt (args .t2)) 0 refl))
-          (sym (cells-none f (args .m + 1) 1 64 1 (omega arith))),
+      omega (arith, start .pre .1 .small (at .loop .a - 1)),
+      rw (made .padded .ensures) (padded-small (args .m) (args .t2) (omega arith) (start .pre .2)),
+      ap length (at .loop .inv .2) ∙ tabulate-length (upTo (args .m) (cellAt (args .t1)) (λ t. totalAt (made .padded .result) (63 + t)) (at .loop .a - 1)) 0 65,
     )
 
-best-share-requires : tie.Need-best-share-requires Inv-loop μ-loop
-best-share-requires c κs = (omega arith, omega arith)
-
-capped-requires : tie.Need-capped-requires Inv-loop μ-loop
-capped-requires c κs = search needs
-
-cast-totals : tie.Need-cast-totals Inv-loop μ-loop
-cast-totals c = omega arith
-
-array-write-totals : tie.Need-array-write-totals Inv-loop μ-loop
-array-write-totals c = omega arith
-
-add-t : tie.Need-add-t Inv-loop μ-loop
-add-t c = omega arith
+add-a : tie.Need-add-a Inv-loop μ-loop
+add-a c = omega arith
 
 loop-less : tie.Need-loop-less Inv-loop μ-loop
 loop-less c = omega arith
 
--- The cell that the loop stores.
-cell : (c : tie.After-capped Inv-loop μ-loop) →
-    c .capped .result
-    ≡ totalWith (c .before .before .before .before .before .before .args .m) (cellAt (c .before .before .before .before .before .before .args .t1))
-    (totalAt (c .before .before .before .before .before .before .args .t2)) (c .before .before .before .before .before .loop .t)
-cell c =
-    let args = c .before .before .before .before .before .before .args in
-    let t = c .before .before .before .before .before .loop .t in
-    let best = c .before .best-share in
-    c .capped .ensures
-    ∙ ap (λ x. min x (args .m + 1)) (best .ensures .1 ∙ ap (sumAt (cellAt (args .t1)) (totalAt (args .t2)) t) (best .ensures .0))
-    ∙ sym (with-some (args .m) (cellAt (args .t1)) (totalAt (args .t2)) t (omega arith) (omega arith))
-
 loop-again : tie.Need-loop-again Inv-loop μ-loop
+unfolding cellAt
 loop-again c =
-    let args = c .before .before .before .before .before .before .args in
-    let loop = c .before .before .before .before .before .loop in
-    let f = totalWith (args .m) (cellAt (args .t1)) (totalAt (args .t2)) in
-    (omega arith, omega arith, rw (cell c, loop .inv .2) (cells-store f (args .m + 1) 65 (loop .t) (omega arith)))
+    let at = c .before .before .before .before in
+    let made = at .before in
+    let args = made .before .before .args in
+    let offer = cellAt (args .t1) in
+    let after = totalAt (made .padded .result) in
+    let before : (j : ℕ) → j < 63 → after j ≡ args .m + 1 =
+    λ j inside. ap (λ (l : List ℕ). totalAt l j) (made .padded .ensures) ∙ padded-before (args .m) (args .t2) j inside in (
+      omega arith,
+      omega arith,
+      up-to-more (args .m) offer after before (at .loop .a) (at .loop .least) _ (omega arith) (omega arith) (at .loop .inv .2) (c .lower .ensures),
+    )
 
 returns : tie.Need-returns Inv-loop μ-loop
 returns c =
-    let args = c .before .before .args in
     let loop = c .before .loop in
+    let made = c .before .before in
+    let start = made .before .before in
+    let args = start .args in
+    let after = totalAt (made .padded .result) in
+    let all : loop .a - 1 ≡ args .m = omega arith in
     loop .inv .2
-    ∙ cells-tabulated (totalWith (args .m) (cellAt (args .t1)) (totalAt (args .t2))) (args .m + 1) 0 65 (loop .t)
-    (λ t past. with-past (args .m) (cellAt (args .t1)) (totalAt (args .t2)) t (omega arith))
+    ∙ ap (λ (k : ℕ). tabulate (upTo (args .m) (cellAt (args .t1)) (λ t. after (63 + t)) k) 0 65) all
+    ∙ up-to-end (args .m) (cellAt (args .t1)) (totalAt (args .t2)) after (start .pre .1 .past)
+    (λ t inside. ap (λ (l : List ℕ). totalAt l (63 + t)) (made .padded .ensures) ∙ padded-at (args .m) (args .t2) t inside)
 
 pub totals-with-spec : {M : Type 1} → statement M
 totals-with-spec =
@@ -86,13 +93,14 @@ totals-with-spec =
     (tie.spec
     Inv-loop
     μ-loop
-    add-totals
+    padded-requires
+    add-least
     loop-holds
-    best-share-requires
-    capped-requires
-    cast-totals
-    array-write-totals
-    add-t
+    cast-lower
+    sub-lower
+    array-read-lower
+    lower-requires
+    add-a
     loop-less
     loop-again
     returns)
