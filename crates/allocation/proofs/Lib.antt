@@ -11,6 +11,7 @@ pub mod Lowering
 pub mod Sixteen
 pub mod Walk
 pub mod Sets
+pub mod Held
 pub mod Accepted
 pub mod Allocations
 pub mod Laws

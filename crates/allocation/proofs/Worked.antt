@@ -18,13 +18,17 @@ use Rattle.shares.specs.Cases.{figures, taskA, taskB, lowTask}
 use Rattle.sheet.specs.Level.{isLow, isHigh}
 use Rattle.shares.specs.Low.{ceilDiv, lowShare, hasLowShare}
 use Rattle.shares.specs.Test.{excess, demand, passes}
+use Rattle.shares.specs.Search.{first, leastCritical}
+use Rattle.shares.specs.Offer.{tabulate, criticalAt, offerOf}
 use Rattle.shares.specs.Totals.{noProcessors, shareAt}
-use Rattle.basics.specs.Lists.{range}
-use Rattle.basics.specs.Order.{leastBy}
+use Rattle.basics.specs.Lists.{range, cellsFrom}
+use Rattle.basics.specs.Order.{leastBy, least}
 use Rattle.allocation.specs.Choice.{lowOptions, pairsWithin, highOptions, optionsOf, fits, rank, fitting, chosen}
 use Rattle.allocation.specs.Way.{MayTake, FittingWay}
 use Rattle.keeping.specs.Kept.{lowNumbers, holdable, firstHeld, typicalShareAt, leftOver, keptTasks, keptShare, withKept}
 use Rattle.keeping.specs.KeptSet.{HeldSet}
+use Rattle.allocation.specs.Held.{optionsUpTo, criticalShares, criticalTotals, uncappedShare, uncappedTotal, shareHeld, totalHeld}
+use Rattle.allocation.specs.means.Selection.{cellAt, leastFrom, sumAt, bestShare, totalWith, leastTotal, totalsOf, offersOf, offersUpTo, lastTotals, totalsFor}
 use Rattle.allocation.specs.Allocation.{chosenFor, shareAnswer, choiceAnswer, sharesWith, sharesOf}
 
 -- A typical and a critical share.
@@ -96,6 +100,35 @@ worked-kept =
       both = refl;
       one = refl;
       full = refl;
+    }
+
+pub record WorkedHeld : Type 0 where
+  -- S5.7: at typical share 1 B needs 27 processors in the critical mode; on 5 processors 6 is held for it.
+  pub true-share : uncappedShare 5 27 (high taskB) 1 ≡ some 27
+  pub held-share : shareHeld (offersOf (on 5 ab)) 1 1 ≡ 6
+  -- A twice with typical total 2 needs 4; on 2 processors 3 is held for it.
+  pub true-total : uncappedTotal 2 2 (high taskA ∷ high taskA ∷ []) 2 ≡ some 4
+  pub held-total : totalHeld (totalsFor (on 2 (high taskA ∷ high taskA ∷ []))) 2 2 ≡ 3
+
+worked-true : (uncappedShare 5 27 (high taskB) 1 ≡ some 27) × (uncappedTotal 2 2 (high taskA ∷ high taskA ∷ []) 2 ≡ some 4)
+unfolding isLow isHigh excess demand passes range pairsWithin highOptions leastBy least optionsUpTo criticalShares criticalTotals uncappedShare uncappedTotal
+worked-true = (refl, refl)
+
+worked-offers : shareHeld (offersOf (on 5 ab)) 1 1 ≡ 6
+unfolding taskIn isLow isHigh excess demand passes shareHeld cellsFrom tabulate first leastCritical criticalAt offerOf offersOf
+worked-offers = refl
+
+worked-totals : totalHeld (totalsFor (on 2 (high taskA ∷ high taskA ∷ []))) 2 2 ≡ 3
+unfolding taskIn isLow isHigh excess demand passes totalHeld cellsFrom cellAt tabulate first leastCritical criticalAt offerOf offersOf offersUpTo totalsFor lastTotals totalsOf leastTotal totalWith bestShare sumAt leastFrom
+worked-totals = refl
+
+pub worked-held : WorkedHeld
+worked-held =
+    record {
+      true-share = worked-true .0;
+      held-share = worked-offers;
+      true-total = worked-true .1;
+      held-total = worked-totals;
     }
 
 pub worked : Worked
