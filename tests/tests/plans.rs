@@ -85,6 +85,48 @@ fn choices_with_equal_totals() {
     counts.close(["several with the chosen totals", " 0", " 8", " 9"], 100);
 }
 
+/// Where a true least critical total lies: what a byte that wraps would make of it, and where it is held as M + 1.
+fn place_of(total: Option<usize>, most: usize) -> &'static str {
+    match total {
+        None => "no choice with a typical total within M",
+        Some(total) if total < most => "below M",
+        Some(total) if total == most => "M",
+        Some(total) if total == most + 1 => "M + 1",
+        Some(total) if total < 256 => "M + 2 to 255",
+        Some(total) if total % 256 <= most => "from 256, and within M in a byte that wraps",
+        Some(_) => "from 256, and above M in a byte that wraps",
+    }
+}
+
+#[test]
+fn totals_beyond_a_byte() {
+    /// More than any M, so that no true total within M + 1 is missed.
+    const WIDEST: usize = 96;
+    let mut random = Random::of_test("totals beyond a byte");
+    let mut counts = Counts::new("totals beyond a byte");
+    for _ in 0..1_500 {
+        let sheet = tight::wide(&mut random);
+        let most = usize::from(sheet.processors);
+        let reply = check(&Draft::of(&sheet).bytes(), 6 * sheet.tasks.len(), &mut random, &mut counts);
+        if reply.number() == 7 {
+            continue;
+        }
+        let total = planner::least_total(&sheet, WIDEST);
+        assert_eq!(reply.number() == 8, total.is_none_or(|total| most < total), "{sheet:?}");
+        counts.add(place_of(total, most));
+    }
+    let names = [
+        "no choice with a typical total within M",
+        "below M",
+        "M",
+        "M + 1",
+        "M + 2 to 255",
+        "from 256, and within M in a byte that wraps",
+        "from 256, and above M in a byte that wraps",
+    ];
+    counts.close(names, 5);
+}
+
 /// Counts what the plan of a sheet keeps of its low tasks.
 fn count_kept(sheet: &Sheet, counts: &mut Counts) {
     let Ok(plan) = planner::plan(sheet) else { return };

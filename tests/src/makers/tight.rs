@@ -15,6 +15,21 @@ pub fn sheet(random: &mut Random, count: usize) -> Sheet {
     Sheet { processors: PROCESSORS as u8, tasks: tasks.collect() }
 }
 
+/// A random sheet of high tasks with small typical and large critical shares, which often total far more than M.
+pub fn wide(random: &mut Random) -> Sheet {
+    let count = random.within(1..=TASKS);
+    let widest = random.within(8..=PROCESSORS);
+    let processors = *random.pick(&[widest, PROCESSORS]);
+    let mut tasks = Vec::new();
+    while tasks.len() < count {
+        let typical = random.within(1..=(processors / count).clamp(1, widest));
+        let least = *random.pick(&[typical, typical.max(3 * widest / 4)]);
+        let critical = random.within(least..=widest);
+        tasks.extend(high_at(random, Pair { typical, critical }));
+    }
+    Sheet { processors: processors as u8, tasks }
+}
+
 /// A random sheet in which high tasks that are alike compete for typical shares: low tasks leave them fewer than would
 /// give each its least critical share, so that several choices may have the same totals.
 pub fn tied(random: &mut Random) -> Sheet {
@@ -85,7 +100,12 @@ pub fn task(random: &mut Random, widest: usize) -> Task {
 
 fn high(random: &mut Random, widest: usize) -> Option<Task> {
     let critical = random.within(2..=widest);
-    let pair = Pair { typical: random.within(1..=critical), critical };
+    let typical = random.within(1..=critical);
+    high_at(random, Pair { typical, critical })
+}
+
+/// A high task whose D is near the least with which this pair passes.
+fn high_at(random: &mut Random, pair: Pair) -> Option<Task> {
     let scale = *random.pick(&[3, 10, 30, 100, 1_000, 3_000]);
     let ln = random.within(1..=scale);
     let cn = ln + random.within(0..=scale * pair.typical);

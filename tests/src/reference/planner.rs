@@ -1,6 +1,7 @@
 //! A planner by S4, S5, S6 and refusals 7 to 9 of the specification.
 //! It holds whole choices, one for each pair of totals that the tasks so far can reach, and looks at every set of low
-//! tasks to find the one that is kept. It shares nothing with the proved planner: neither code nor method.
+//! tasks to find the one that is kept. It shares nothing with the proved planner: neither code nor method. `least_total`
+//! alone goes by totals, with no cap.
 use crate::reference::answers::{Cause, Refusal, Reply};
 use crate::reference::reader::{self, Figures, Level, Sheet, Task};
 use std::cmp::Reverse;
@@ -218,6 +219,27 @@ fn virtual_deadline(task: &Task, typical: usize) -> u16 {
     }
 }
 
+/// The least critical total of all choices whose typical total is at most M, however large it is; none where no choice has
+/// such a typical total. A critical share may be any up to `widest`, however many processors there are.
+pub fn least_total(sheet: &Sheet, widest: usize) -> Option<usize> {
+    let most = usize::from(sheet.processors);
+    // The least critical total of the tasks so far at each typical total.
+    let mut totals = vec![None; most + 1];
+    totals[0] = Some(0);
+    for task in &sheet.tasks {
+        let mut longer: Vec<Option<usize>> = vec![None; most + 1];
+        for Pair { typical, critical } in options(task, widest) {
+            for (t, total) in totals.iter().enumerate().filter(|(t, _)| t + typical <= most) {
+                let Some(total) = total else { continue };
+                let least = &mut longer[t + typical];
+                *least = Some(least.map_or(total + critical, |least| least.min(total + critical)));
+            }
+        }
+        totals = longer;
+    }
+    totals.into_iter().flatten().min()
+}
+
 /// A choice for the first tasks: of all with these totals, the one whose list of pairs comes first.
 struct Choice {
     typical: usize,
@@ -367,6 +389,27 @@ mod tests {
         }
         assert_eq!(planned(49, &[with(18, 17)]), Ok(vec![0, 49, 0, 49, 0, 0]));
         assert_eq!(planned(48, &[with(18, 17)]), Err(Refusal::of(Cause::NoShare, 0)));
+    }
+
+    #[test]
+    fn the_least_total_is_the_least_of_all() {
+        let mut random = Random::of_test("the least total");
+        for _ in 0..200 {
+            let count = random.within(1..=3);
+            let processors = random.within(1..=6);
+            let sheet = Sheet { processors: processors as u8, ..tight::sheet(&mut random, count) };
+            let widest = processors + random.within(0..=4);
+            let mut totals = vec![(0, 0)];
+            for task in &sheet.tasks {
+                let pairs = options(task, widest);
+                totals = totals
+                    .iter()
+                    .flat_map(|(t, c)| pairs.iter().map(move |pair| (t + pair.typical, c + pair.critical)))
+                    .collect();
+            }
+            let within = totals.iter().filter(|(typical, _)| *typical <= processors);
+            assert_eq!(least_total(&sheet, widest), within.map(|(_, critical)| *critical).min(), "{sheet:?}, {widest}");
+        }
     }
 
     #[test]
