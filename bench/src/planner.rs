@@ -47,23 +47,28 @@ fn least_critical(f: &Figures, a: u8, m: u8) -> Option<u8> {
     })
 }
 
-/// The least sum of a task's critical share and the rest's total, over the typical shares 1 to t.
-fn least_sum(offer: &Offer, rest: &Totals, t: usize) -> u8 {
-    offer[..t].iter().zip(rest[..t].iter().rev()).map(|(x, y)| x + y).min().unwrap_or(u8::MAX)
+/// The totals of a task and of the tasks after it, which have the totals rest: lowered by one typical share after the other.
+/// Before the rest's totals stand 63 numbers above M, so that every share lowers all 64 totals.
+fn totals_with(offer: &Offer, rest: &Totals, m: u8) -> Totals {
+    let mut after = [m + 1; 128];
+    after[63..].copy_from_slice(rest);
+    let mut totals = [m + 1; 65];
+    for a in 1..=usize::from(m) {
+        for (total, left) in totals[1..].iter_mut().zip(&after[64 - a..][..64]) {
+            *total = (*total).min(offer[a - 1] + left);
+        }
+    }
+    totals
 }
 
-/// Refusal 8, and the shares of the tasks with these offers. Iterators in place of the index t take more instructions.
-#[allow(clippy::needless_range_loop)]
+/// Refusal 8, and the shares of the tasks with these offers.
 fn select(offers: &[Offer], m: u8) -> Result<[Share; TASKS], Refusal> {
     let n = offers.len();
     let end = usize::from(m);
     let mut totals = [[m + 1; 65]; TASKS + 1];
     totals[n][0] = 0;
     for i in (0..n).rev() {
-        let rest = totals[i + 1];
-        for t in 1..=end {
-            totals[i][t] = least_sum(&offers[i], &rest, t).min(m + 1);
-        }
+        totals[i] = totals_with(&offers[i], &totals[i + 1], m);
     }
     let least = totals[0][..=end].iter().copied().min().unwrap_or(m + 1);
     if least > m {
