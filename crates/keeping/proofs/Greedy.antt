@@ -96,12 +96,12 @@ module _ (share : ℕ → ℕ) (test : ℕ → Bool) where
         }
 
     -- As many tasks take no fewer processors.
-    fewest : (set : List ℕ) → Part numbers set → length set ≡ length (keep test numbers) →
+    pub fewest : (set : List ℕ) → Part numbers set → length set ≡ length (keep test numbers) →
         processorsFor share (keep test numbers) ≤ processorsFor share set
     fewest set p same = omega (arith, exchange (split .width) p split-between, even-same (split .width) set (keep test numbers) same)
 
     -- Where each task that is out takes more than what is left, a larger set takes more than all.
-    too-many : (rest : ℕ) → ((i : ℕ) → List·Memᴰ i numbers → test i ≡ false → rest < share i) →
+    pub too-many : (rest : ℕ) → ((i : ℕ) → List·Memᴰ i numbers → test i ≡ false → rest < share i) →
         (set : List ℕ) → Part numbers set → length (keep test numbers) < length set →
         processorsFor share (keep test numbers) + rest < processorsFor share set
     too-many rest none set p more = go (decLe (split .width) rest)

@@ -6,3 +6,4 @@ pub mod Laws
 pub mod Running
 pub mod Scan
 pub mod Steps
+pub mod Counted

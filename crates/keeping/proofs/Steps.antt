@@ -26,7 +26,7 @@ use Rattle.keeping.proofs.Laws.{with-length, with-share, with-typical}
 use Rattle.keeping.proofs.Running.{low-from, low-has, one-more-kept}
 
 -- One task more that a test keeps.
-abbrev also : (ℕ → Bool) → ℕ → ℕ → Bool
+abbrev pub also : (ℕ → Bool) → ℕ → ℕ → Bool
 also test x i = test i || eqb i x
 
 also-old : (test : ℕ → Bool) (x i : ℕ) → (i ≡ x → ⊥) → also test x i ≡ test i
@@ -44,7 +44,7 @@ also-new test x = ap (λ (t : Bool). test x || t) (eq-eqb x x refl) ∙ go (test
     go false = refl
 
 -- What it takes is added.
-keep-also : (share : ℕ → ℕ) (test : ℕ → Bool) (x : ℕ) (numbers : List ℕ) → Rising numbers → List·Memᴰ x numbers → test x ≡ false →
+pub keep-also : (share : ℕ → ℕ) (test : ℕ → Bool) (x : ℕ) (numbers : List ℕ) → Rising numbers → List·Memᴰ x numbers → test x ≡ false →
     processorsFor share (keep (also test x) numbers) ≡ share x + processorsFor share (keep test numbers)
 keep-also share test x [] rising m out = absurd (List·Memᴰ·not-nil m)
 keep-also share test x (i ∷ numbers) rising m out = go (keep-also share test x numbers (rising .1)) (List·Memᴰ·cases-cons m)
@@ -80,6 +80,16 @@ keep-also share test x (i ∷ numbers) rising m out = go (keep-also share test x
           rest later out,
         )
 
+-- So there is one more.
+ones : (l : List ℕ) → processorsFor (λ i. 1) l ≡ length l
+ones [] = refl
+ones (i ∷ l) = omega (arith, ones l)
+
+pub also-length : (test : ℕ → Bool) (x : ℕ) (numbers : List ℕ) → Rising numbers → List·Memᴰ x numbers → test x ≡ false →
+    length (keep (also test x) numbers) ≡ length (keep test numbers) + 1
+also-length test x numbers rising m out =
+    omega (arith, keep-also (λ i. 1) test x numbers rising m out, ones (keep (also test x) numbers), ones (keep test numbers))
+
 -- Two lines of shares that agree are one.
 lines-same : (a b : List Share) → length a ≡ length b → ((i : ℕ) → shareAt a i ≡ shareAt b i) → a ≡ b
 unfolding shareAt
@@ -96,25 +106,27 @@ line-set line x s inside i = go (ℕ-discrete i x)
     go (yes e) = inl (e, ap (λ (j : ℕ). getD (set line x s) j noProcessors) e ∙ getD-set-same line x s noProcessors inside)
     go (no other) = inr (other, getD-set-other line x i s noProcessors other)
 
--- What is kept so far of the shares of n tasks on M processors: a line with the shares of the tasks that a test takes, whose critical
+-- What is kept so far of the shares of n tasks on M processors: a line with the shares of the k tasks that a test takes, whose critical
 -- total is within M.
-pub record KeptSoFar (M n : ℕ) (shares line : List Share) : Type 0 where
+pub record KeptSoFar (M n : ℕ) (shares : List Share) (k : ℕ) (line : List Share) : Type 0 where
   pub test : ℕ → Bool
+  pub many : length (keep test (without n shares)) ≡ k
   pub line-is : line ≡ withKept (keep test (without n shares)) shares
   pub sum : criticalTotal (take n line) ≡ criticalTotal (take n shares) + processorsFor (typicalShareAt shares) (keep test (without n shares))
   pub fits : criticalTotal (take n line) ≤ M
   pub split : Split (typicalShareAt shares) test (without n shares)
 
 module _ (M n : ℕ) (shares : List Share) (able : Keepable M n shares) where
-  rising : Rising (without n shares)
+  pub rising : Rising (without n shares)
   unfolding without
   rising = part-rising (keep-part _ (range 0 n)) (range-rising 0 n)
 
   -- At first nothing is.
-  pub kept-none : KeptSoFar M n shares shares
+  pub kept-none : KeptSoFar M n shares 0 shares
   kept-none =
       record {
         test = λ i. false;
+        many = ap length empty;
         line-is = lines-same shares _ (sym (with-length _ shares)) (λ i. sym (with-share _ shares i ∙ ap (λ (t : Bool). cond t (keptShare (shareAt shares i)) (shareAt shares i)) (ap (isIn i) empty)));
         sum = rw empty (omega arith);
         fits = able .fits;
@@ -130,11 +142,11 @@ module _ (M n : ℕ) (shares : List Share) (able : Keepable M n shares) where
       empty : keep (λ i. false) (without n shares) ≡ []
       empty = keep-none (λ i. false) (without n shares) (λ i m. refl)
 
-  module _ {line : List Share} (kept : KeptSoFar M n shares line) where
+  module _ {k : ℕ} {line : List Share} (kept : KeptSoFar M n shares k line) where
     line-share : (i : ℕ) → shareAt line i ≡ cond (isIn i (keep (kept .test) (without n shares))) (keptShare (shareAt shares i)) (shareAt shares i)
     line-share i = ap (λ (l : List Share). shareAt l i) (kept .line-is) ∙ with-share (keep (kept .test) (without n shares)) shares i
 
-    line-typical : (i : ℕ) → typicalShareAt line i ≡ typicalShareAt shares i
+    pub line-typical : (i : ℕ) → typicalShareAt line i ≡ typicalShareAt shares i
     unfolding typicalShareAt
     line-typical i =
         ap (λ (l : List Share). shareAt l i .typical) (kept .line-is) ∙ with-typical (keep (kept .test) (without n shares)) shares i
@@ -155,7 +167,7 @@ module _ (M n : ℕ) (shares : List Share) (able : Keepable M n shares) where
         go true e h = absurd (let one = able .some-share i inside in omega arith)
         go false e h = let m = low-has n shares i inside h in (m, out m e (kept .test i) refl)
 
-    free-has : (i : ℕ) → List·Memᴰ i (without n shares) → kept .test i ≡ false → criticalShareAt line i ≡ 0
+    pub free-has : (i : ℕ) → List·Memᴰ i (without n shares) → kept .test i ≡ false → criticalShareAt line i ≡ 0
     unfolding criticalShareAt
     free-has i m out =
         ap (λ (s : Share). s .critical) (line-share i)
@@ -190,7 +202,7 @@ module _ (M n : ℕ) (shares : List Share) (able : Keepable M n shares) where
       pub fits : criticalTotal (take n line) + typicalShareAt shares x ≤ M
       pub first : (j : ℕ) → List·Memᴰ j (without n shares) → kept .test j ≡ false → NotAfter (typicalShareAt shares) x j
 
-    least : (x total : ℕ) → total ≤ M → Next M n line x total → Least x
+    pub least : (x total : ℕ) → total ≤ M → Next M n line x total → Least x
     least x total to (none h) = absurd (omega arith)
     least x total to (found inside zero-share fits first) =
         let free = free-from x inside zero-share in
@@ -208,7 +220,7 @@ module _ (M n : ℕ) (shares : List Share) (able : Keepable M n shares) where
       inside : x < n
       inside = low-from n shares x (task .low) .0
 
-      split-more : Split (typicalShareAt shares) (also (kept .test) x) (without n shares)
+      pub split-more : Split (typicalShareAt shares) (also (kept .test) x) (without n shares)
       split-more =
           record {
             width = typicalShareAt shares x;
@@ -301,10 +313,11 @@ module _ (M n : ℕ) (shares : List Share) (able : Keepable M n shares) where
       unfolding totalWithTask keptShare typicalShareAt
       grown = one-more-kept n line there x inside (free-has x (task .low) (task .out))
 
-      kept-with : KeptSoFar M n shares (set line x (record { typical = typicalShareAt line x; critical = typicalShareAt line x }))
+      kept-with : KeptSoFar M n shares (k + 1) (set line x (record { typical = typicalShareAt line x; critical = typicalShareAt line x }))
       kept-with =
           record {
             test = also (kept .test) x;
+            many = also-length (kept .test) x (without n shares) rising (task .low) (task .out) ∙ ap (λ (j : ℕ). j + 1) (kept .many);
             line-is = line-more;
             sum =
                 omega (
@@ -320,7 +333,7 @@ module _ (M n : ℕ) (shares : List Share) (able : Keepable M n shares) where
 
     pub kept-more : n ≤ length line → (x total : ℕ) → total ≤ M → Next M n line x total → (typical critical : ℕ) →
         typical ≡ typicalShareAt line x → critical ≡ typicalShareAt line x →
-        KeptSoFar M n shares (set line x (record { typical = typical; critical = critical }))
+        KeptSoFar M n shares (k + 1) (set line x (record { typical = typical; critical = critical }))
     kept-more there x total to next typical critical same same′ = rw (same, same′) (kept-with x there (least x total to next))
 
     -- From the line the next task can be sought.

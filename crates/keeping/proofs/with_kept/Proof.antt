@@ -15,7 +15,7 @@ use Rattle.keeping.proofs.with_kept.Statement.{statement}
 use Rattle.keeping.proofs.with_kept.Tie as tie
 
 abbrev Inv-loop : tie.InvT-loop
-Inv-loop n m count all₀ next₀ all next = KeptSoFar m n all₀ all × Next m n all (next .task) (next .total)
+Inv-loop n m count all₀ next₀ all next = ((k : ℕ) × KeptSoFar m n all₀ k all) × Next m n all (next .task) (next .total)
 
 abbrev μ-loop : tie.MeasureT-loop
 μ-loop n m count all₀ next₀ all next = m + 1 - next .total
@@ -33,7 +33,7 @@ next-kept-requires c κs = (c .before .pre, c .critical-total .ensures)
 loop-holds : tie.Need-loop-holds Inv-loop μ-loop
 loop-holds c =
     let start = c .before .before in
-    (kept-none (start .args .m) (start .args .n) (start .args .shares) (start .pre), c .next-kept .ensures .0)
+    ((0, kept-none (start .args .m) (start .args .n) (start .args .shares) (start .pre)), c .next-kept .ensures .0)
 
 -- The next task is one of the sixteen, and it has a typical share.
 inside : (c : tie.Then1 Inv-loop μ-loop) → c .before .before .loop .next .task < 16
@@ -46,7 +46,7 @@ some-share : (c : tie.Then1 Inv-loop μ-loop) → 1 ≤ typicalShareAt (c .befor
 some-share c =
     let at = c .before .before in
     let start = at .before .before .before in
-    line-able (start .args .m) (start .args .n) (start .args .shares) (start .pre) (at .loop .inv .0) .some-share (at .loop .next .task)
+    line-able (start .args .m) (start .args .n) (start .args .shares) (start .pre) (at .loop .inv .0 .1) .some-share (at .loop .next .task)
     (next-inside (at .loop .inv .1) (omega arith))
 
 mul-share : tie.Need-mul-share Inv-loop μ-loop
@@ -76,11 +76,11 @@ module _ (c : tie.Then1 Inv-loop μ-loop) (typical critical : ℕ) (same : typic
   long : start .args .n ≤ length (at .loop .all)
   long =
       let few = start .pre .few in
-      omega (arith, line-length (start .args .m) (start .args .n) (start .args .shares) (start .pre) (at .loop .inv .0))
+      omega (arith, line-length (start .args .m) (start .args .n) (start .args .shares) (start .pre) (at .loop .inv .0 .1))
 
-  kept : KeptSoFar (start .args .m) (start .args .n) (start .args .shares) stored
+  kept : KeptSoFar (start .args .m) (start .args .n) (start .args .shares) (at .loop .inv .0 .0 + 1) stored
   kept =
-      kept-more (start .args .m) (start .args .n) (start .args .shares) (start .pre) (at .loop .inv .0) long (at .loop .next .task) (at .loop .next .total) (omega arith)
+      kept-more (start .args .m) (start .args .n) (start .args .shares) (start .pre) (at .loop .inv .0 .1) long (at .loop .next .task) (at .loop .next .total) (omega arith)
       (at .loop .inv .1) typical critical same same′
 
   asked : (total : ℕ) → total ≡ at .loop .next .total →
@@ -101,14 +101,14 @@ loop-less c =
 
 loop-again : tie.Need-loop-again Inv-loop μ-loop
 unfolding typicalShareAt shareAt
-loop-again c = (kept (c .before .before) _ _ (omega arith) (omega (arith, some-share (c .before .before))), c .next-kept2 .ensures .0)
+loop-again c = ((_, kept (c .before .before) _ _ (omega arith) (omega (arith, some-share (c .before .before)))), c .next-kept2 .ensures .0)
 
 returns : tie.Need-returns Inv-loop μ-loop
 returns c =
     let at = c .before .before in
     let start = at .before .before .before in
     let loop = at .loop in
-    kept-all (start .args .m) (start .args .n) (start .args .shares) (start .pre) (loop .inv .0) (loop .next .task) (loop .next .total) (omega arith) (loop .inv .1)
+    kept-all (start .args .m) (start .args .n) (start .args .shares) (start .pre) (loop .inv .0 .1) (loop .next .task) (loop .next .total) (omega arith) (loop .inv .1)
 
 pub with-kept-spec : {M : Type 1} → statement M
 with-kept-spec =

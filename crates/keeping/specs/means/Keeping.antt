@@ -3,10 +3,10 @@ use Prim.Native.Nat.{ℕ, _+_, _≤_, _<_}
 use mathlib.Core.Path.{_≡_}
 use mathlib.Core.Logic.{_⊎_}
 use mathlib.Core.List.{List}
-use lib.ListN.{take}
+use lib.ListN.{set, take}
 use Rattle.shares.specs.declared.share.Share.{Share}
-use Rattle.shares.specs.Totals.{criticalTotal}
-use Rattle.keeping.specs.Kept.{firstHeld, typicalShareAt, leftOver, withKept}
+use Rattle.shares.specs.Totals.{shareAt, criticalTotal}
+use Rattle.keeping.specs.Kept.{firstHeld, typicalShareAt, leftOver, keptShare, withKept}
 use Rattle.keeping.specs.Running.{criticalShareAt, without}
 
 -- The shares of n tasks on M processors, with those of the kept tasks.
@@ -25,6 +25,12 @@ pub data Next (M n : ℕ) (shares : List Share) : ℕ → ℕ → Type 0 where
   found : {i : ℕ} → i < n → criticalShareAt shares i ≡ 0 → criticalTotal (take n shares) + typicalShareAt shares i ≤ M →
       ((j : ℕ) → j < n → criticalShareAt shares j ≡ 0 → NotAfter (typicalShareAt shares) i j) →
       Next M n shares i (criticalTotal (take n shares) + typicalShareAt shares i)
+
+-- The shares of n tasks on M processors after k tasks were kept, each the next one at its time.
+pub data KeptAfter (M n : ℕ) (shares : List Share) : ℕ → List Share → Type 0 where
+  none-kept : KeptAfter M n shares 0 shares
+  one-more : {k i total : ℕ} {line : List Share} → KeptAfter M n shares k line → Next M n line i total → total ≤ M →
+      KeptAfter M n shares (k + 1) (set line i (keptShare (shareAt line i)))
 
 -- What the code needs of the shares of n tasks: each has a typical share, none above M, and the critical ones total at most M.
 pub record Keepable (M n : ℕ) (shares : List Share) : Type 0 where
