@@ -17,7 +17,7 @@ use Rattle.allocation.specs.declared.selection.Totals.{Totals}
 use Rattle.shares.specs.Totals.{noProcessors}
 use Rattle.allocation.specs.Allocation.{sixteen}
 use Rattle.allocation.specs.means.Selection.{cellAt, leastFrom, sumAt, bestShare, totalWith, leastTotal, totalsOf, offered, sharesAt, bestTotal, missingOffer, missingTotals, offersUpTo, lastTotals, totalAt, Small, OfferWithin}
-use Rattle.allocation.proofs.Firsts.{least-same, least-to}
+use Rattle.allocation.proofs.Firsts.{least-same, least-to, least-taken, least-kept}
 use Rattle.allocation.proofs.Optimal.{best-from, best-to, with-positive, with-best, with-none, with-some, total-bound}
 
 -- A filled cell holds what it is to hold.
@@ -84,6 +84,43 @@ offer-small M offer few range j = omega (arith, range .small j)
 -- So their sum fits a byte.
 pub sum-fits : (xs ys : List ℕ) → Small xs → Small ys → (i j : ℕ) → getD xs i 0 + getD ys j 0 < 256
 sum-fits xs ys small small′ i j = omega (arith, small i, small′ j)
+
+-- The sum of two cells is the total where the task takes a of t, if they are the cells of a and of what a leaves.
+module _ (offer rest : List ℕ) (t a : ℕ) where
+  pub sum-is : (i j : ℕ) → i ≡ a - 1 → j ≡ t - a → getD offer i 0 + getD rest j 0 ≡ sumAt (cellAt offer) (totalAt rest) t a
+  unfolding cellAt totalAt sumAt
+  sum-is i j own left = rw (own, left)
+
+-- The first best share of a task among the shares up to a, and its total.
+pub record BestUpTo (offer rest : List ℕ) (t a best least : ℕ) : Type 0 where
+  pub from : 1 ≤ a
+  pub to : a ≤ t
+  pub first : best ≡ leastFrom (sumAt (cellAt offer) (totalAt rest) t) 1 (a - 1)
+  pub sum : least ≡ sumAt (cellAt offer) (totalAt rest) t best
+
+module _ {offer rest : List ℕ} {t a best least : ℕ} (so-far : BestUpTo offer rest t a best least) (more : a < t) where
+  -- A smaller sum at the next share is the least.
+  pub best-taken : {a′ best′ next : ℕ} → a′ ≡ a + 1 → best′ ≡ a + 1 → next ≡ sumAt (cellAt offer) (totalAt rest) t (a + 1) → next < least →
+      BestUpTo offer rest t a′ best′ next
+  best-taken same own here less =
+      rw (same, own)
+      (record {
+        from = omega arith;
+        to = omega arith;
+        first = least-taken (sumAt (cellAt offer) (totalAt rest) t) 1 a best (so-far .from) (so-far .first) (omega (arith, so-far .sum, here));
+        sum = here;
+      })
+
+  -- Any other leaves the least as it was.
+  pub best-left : {a′ next : ℕ} → a′ ≡ a + 1 → least ≤ next → next ≡ sumAt (cellAt offer) (totalAt rest) t (a + 1) → BestUpTo offer rest t a′ best least
+  best-left same no-less here =
+      rw same
+      (record {
+        from = omega arith;
+        to = omega arith;
+        first = least-kept (sumAt (cellAt offer) (totalAt rest) t) 1 a best (so-far .from) (so-far .first) (omega (arith, so-far .sum, here));
+        sum = so-far .sum;
+      })
 
 -- The totals of no task.
 pub totals-none : (M x : ℕ) → x ≡ M + 1 → set (replicate 65 x) 0 0 ≡ totalsOf M []

@@ -1,21 +1,17 @@
 -- `selection::best_share` meets its contract. The loop's invariant: best is the first best share up to a, and least its total.
 -- The measure is what is left of t.
-use Prim.Native.Nat.{_-_, _≤_}
+use Prim.Native.Nat.{_+_, _-_}
 use mathlib.Core.Path.{_≡_}
 use native.Mathlib.Omega.{arith}
 use denote.Ref.{now}
-use Rattle.allocation.specs.means.Selection.{cellAt, sumAt, bestShare, leastFrom, totalAt}
-use Rattle.allocation.proofs.Firsts.{least-start, least-taken, least-kept}
-use Rattle.allocation.proofs.Lines.{sum-fits}
+use Rattle.allocation.specs.means.Selection.{cellAt, sumAt, bestShare, totalAt}
+use Rattle.allocation.proofs.Firsts.{least-start}
+use Rattle.allocation.proofs.Lines.{sum-fits, sum-is, BestUpTo, best-taken, best-left}
 use Rattle.allocation.proofs.selection.best_share.Statement.{statement}
 use Rattle.allocation.proofs.selection.best_share.Tie as tie
 
 abbrev Inv-loop : tie.InvT-loop
-Inv-loop offer rest t best₀ least₀ a₀ best least a =
-    (1 ≤ a)
-    × (a ≤ t)
-    × (best ≡ leastFrom (sumAt (cellAt offer) (totalAt rest) t) 1 (a - 1))
-    × (least ≡ sumAt (cellAt offer) (totalAt rest) t best)
+Inv-loop offer rest t best₀ least₀ a₀ best least a = BestUpTo offer rest t a best least
 
 abbrev μ-loop : tie.MeasureT-loop
 μ-loop offer rest t best₀ least₀ a₀ best least a = t - a
@@ -33,11 +29,14 @@ add-least : tie.Need-add-least Inv-loop μ-loop
 add-least c = let start = c .before .before in record { fits = sum-fits (now (start .args .offer)) (now (start .args .rest)) (start .pre .2) (start .pre .3) _ _ }
 
 loop-holds : tie.Need-loop-holds Inv-loop μ-loop
-unfolding cellAt totalAt sumAt
 loop-holds c =
     let args = c .before .before .args in
-    let f = sumAt (cellAt (now (args .offer))) (totalAt (now (args .rest))) (args .t) in
-    (omega arith, omega arith, least-start f 1, omega arith)
+    record {
+      from = omega arith;
+      to = omega arith;
+      first = least-start (sumAt (cellAt (now (args .offer))) (totalAt (now (args .rest))) (args .t)) 1;
+      sum = sum-is (now (args .offer)) (now (args .rest)) (args .t) 1 _ _ (omega arith) (omega arith);
+    }
 
 add-a : tie.Need-add-a Inv-loop μ-loop
 add-a c = omega arith
@@ -69,38 +68,28 @@ loop-less : tie.Need-loop-less Inv-loop μ-loop
 loop-less c = omega arith
 
 loop-again : tie.Need-loop-again Inv-loop μ-loop
-unfolding cellAt totalAt sumAt
 loop-again c =
     let loop = c .before .before .before .before .loop in
     let args = c .before .before .before .before .before .before .before .args in
-    let f = sumAt (cellAt (now (args .offer))) (totalAt (now (args .rest))) (args .t) in (
-      omega arith,
-      omega arith,
-      least-taken f 1 (loop .a) (loop .best) (omega arith) (loop .inv .2) (omega (arith, loop .inv .3)),
-      omega arith,
-    )
+    best-taken (loop .inv) (omega arith) (omega arith) (omega arith)
+    (sum-is (now (args .offer)) (now (args .rest)) (args .t) (loop .a + 1) _ _ (omega arith) (omega arith)) (omega arith)
 
 loop-less-2 : tie.Need-loop-less-2 Inv-loop μ-loop
 loop-less-2 c = omega arith
 
 loop-again-2 : tie.Need-loop-again-2 Inv-loop μ-loop
-unfolding cellAt totalAt sumAt
 loop-again-2 c =
     let loop = c .before .before .before .before .loop in
     let args = c .before .before .before .before .before .before .before .args in
-    let f = sumAt (cellAt (now (args .offer))) (totalAt (now (args .rest))) (args .t) in (
-      omega arith,
-      omega arith,
-      least-kept f 1 (loop .a) (loop .best) (omega arith) (loop .inv .2) (omega (arith, loop .inv .3)),
-      loop .inv .3,
-    )
+    best-left (loop .inv) (omega arith) (omega arith) (c .if1 .left)
+    (sum-is (now (args .offer)) (now (args .rest)) (args .t) (loop .a + 1) _ _ (omega arith) (omega arith))
 
 returns : tie.Need-returns Inv-loop μ-loop
 unfolding bestShare
 returns c =
     let loop = c .before .loop in
     let all : loop .a ≡ c .before .before .before .before .args .t = omega arith in
-    rw all at (loop .inv .2)
+    rw all at (loop .inv .first)
 
 pub best-share-spec : {M : Type 1} → statement M
 best-share-spec =
