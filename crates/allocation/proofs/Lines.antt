@@ -56,12 +56,17 @@ tabulate-same g h n same =
     let e : 0 + i ≡ i = omega arith in
     tabulate-at g 0 n i inside ∙ ap g e ∙ same i inside ∙ ap h (sym e))
 
+-- What numbers in a table say.
+pub table-at : (g : ℕ → ℕ) (n t : ℕ) → t < n → totalAt (tabulate g 0 n) t ≡ g t
+unfolding totalAt
+table-at g n t inside =
+    let e : 0 + t ≡ t = omega arith in
+    tabulate-at g 0 n t inside ∙ ap g e
+
 -- What totals say.
 pub entry-totals : (M : ℕ) (offers : List (ℕ → ℕ)) (t : ℕ) → t ≤ 64 → totalAt (totalsOf M offers) t ≡ leastTotal M offers t
 unfolding totalAt totalsOf
-entry-totals M offers t within =
-    let e : 0 + t ≡ t = omega arith in
-    tabulate-at (leastTotal M offers) 0 65 t (omega arith) ∙ ap (leastTotal M offers) e
+entry-totals M offers t within = table-at (leastTotal M offers) 65 t (omega arith)
 
 -- Numbers within a bound are so in a table.
 pub table-within : (g : ℕ → ℕ) (k n bound : ℕ) → ((x : ℕ) → g x ≤ bound) → (j : ℕ) → getD (tabulate g k n) j 0 ≤ bound
@@ -82,8 +87,8 @@ pub offer-small : (M : ℕ) (offer : List ℕ) → M ≤ 64 → OfferWithin M of
 offer-small M offer few range j = omega (arith, range .small j)
 
 -- So their sum fits a byte.
-pub sum-fits : (xs ys : List ℕ) → Small xs → Small ys → (i j : ℕ) → getD xs i 0 + getD ys j 0 < 256
-sum-fits xs ys small small′ i j = omega (arith, small i, small′ j)
+pub sum-fits : (ys : List ℕ) → Small ys → (x j : ℕ) → x ≤ 65 → x + getD ys j 0 < 256
+sum-fits ys small x j few = omega (arith, small j)
 
 -- The sum of two cells is the total where the task takes a of t, if they are the cells of a and of what a leaves.
 module _ (offer rest : List ℕ) (t a : ℕ) where

@@ -13,17 +13,11 @@ use borrow.Author.Tests.{le-leb, lt-leb, lt-ltb, le-ltb, eq-eqb, ne-eqb}
 use Rattle.shares.specs.Offer.{tabulate}
 use Rattle.shares.proofs.Offers.{tabulate-at, tabulate-length, tabulated}
 use Rattle.allocation.specs.means.Selection.{bestShare, totalWith, totalAt, padded, lowered, Small}
-use Rattle.allocation.proofs.Lines.{tabulate-same, table-within, with-same}
+use Rattle.allocation.proofs.Lines.{tabulate-same, table-at, table-within, with-same}
 use Rattle.allocation.proofs.Optimal.{best-from, best-to, with-bound, with-at-most, with-positive, with-best}
 
--- What numbers in a table say.
-pub table-at : (g : ℕ → ℕ) (n t : ℕ) → t < n → totalAt (tabulate g 0 n) t ≡ g t
-unfolding totalAt
-table-at g n t inside =
-    let e : 0 + t ≡ t = omega arith in
-    tabulate-at g 0 n t inside ∙ ap g e
-
-pub table-of : (n : ℕ) (totals : List ℕ) → length totals ≡ n → totals ≡ tabulate (totalAt totals) 0 n
+-- Numbers as a table.
+table-of : (n : ℕ) (totals : List ℕ) → length totals ≡ n → totals ≡ tabulate (totalAt totals) 0 n
 unfolding totalAt
 table-of n totals long = tabulated (λ t. getD totals t 0) totals 0 n long (λ i inside. let e : 0 + i ≡ i = omega arith in ap (λ (j : ℕ). getD totals j 0) (sym e))
 
@@ -166,10 +160,15 @@ module _ (a critical : ℕ) (rest : ℕ → ℕ) (totals : List ℕ) where
   stored below x from within e =
       store (once below) (once (below + 1)) 65 below x within (λ t. others below t from) (e ∙ sym (new (below + 1) below from (omega arith)))
 
-  pub lowered-more : (below x : ℕ) → 1 ≤ below → below < 65 → x ≡ min (getD (partway below) below 0) (critical + rest (63 + below - a)) →
-      set (partway below) below x ≡ partway (below + 1)
-  lowered-more below x from within e =
-      stored below x from within (e ∙ ap (λ (y : ℕ). min y (critical + rest (63 + below - a))) (as-it-was below within))
+  pub lowered-more : (below : ℕ) (line : List ℕ) {x j : ℕ} → 1 ≤ below → below < 65 → line ≡ partway below →
+      x ≡ min (getD line below 0) (critical + rest j) → j ≡ 63 + below - a → set line below x ≡ partway (below + 1)
+  lowered-more below line {x} {j} from within so-far e place =
+      rw so-far
+      (stored below x from within
+      (e
+      ∙ ap (λ (l : List ℕ). min (getD l below 0) (critical + rest j)) so-far
+      ∙ ap (λ (y : ℕ). min y (critical + rest j)) (as-it-was below within)
+      ∙ ap (λ (i : ℕ). min (totalAt totals below) (critical + rest i)) place))
 
   pub lowered-all : partway 65 ≡ lowered a critical rest totals
   unfolding partway lowered
@@ -261,7 +260,7 @@ module _ (M : ℕ) (offer rest : ℕ → ℕ) where
             let found = low .one within in
             omega (arith, with-at-most M offer rest t (found .0) (found .1 .0) (found .1 .1), found .1 .2)
 
-    pub up-to-all : upTo M t ≡ totalWith M offer rest t
+    up-to-all : upTo M t ≡ totalWith M offer rest t
     up-to-all = omega (arith, no-more, no-less)
 
 -- One share more, with padded totals of the tasks after the task.

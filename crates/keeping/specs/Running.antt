@@ -13,7 +13,7 @@ use Rattle.keeping.specs.Kept.{subsets, processorsFor, typicalShareAt, k
 unfoldable pub criticalShareAt : List Share → ℕ → ℕ
 criticalShareAt shares i = shareAt shares i .critical
 
--- The first n tasks that have no critical share.
+-- Those of the first n tasks that have no critical share.
 unfoldable pub without : ℕ → List Share → List ℕ
 without n shares = keep (λ i. eqb (criticalShareAt shares i) 0) (range 0 n)
 

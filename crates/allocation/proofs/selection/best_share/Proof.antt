@@ -26,7 +26,7 @@ element-copy-out-least-2 : tie.Need-element-copy-out-least-2 Inv-loop μ-loop
 element-copy-out-least-2 c = omega arith
 
 add-least : tie.Need-add-least Inv-loop μ-loop
-add-least c = let start = c .before .before in record { fits = sum-fits (now (start .args .offer)) (now (start .args .rest)) (start .pre .2) (start .pre .3) _ _ }
+add-least c = let start = c .before .before in record { fits = sum-fits (now (start .args .rest)) (start .pre .3) _ _ (start .pre .2 _) }
 
 loop-holds : tie.Need-loop-holds Inv-loop μ-loop
 loop-holds c =
@@ -62,7 +62,7 @@ element-copy-out-next-2 c = omega arith
 add-next : tie.Need-add-next Inv-loop μ-loop
 add-next c =
     let start = c .before .before .before .before .before .before in
-    record { fits = sum-fits (now (start .args .offer)) (now (start .args .rest)) (start .pre .2) (start .pre .3) _ _ }
+    record { fits = sum-fits (now (start .args .rest)) (start .pre .3) _ _ (start .pre .2 _) }
 
 loop-less : tie.Need-loop-less Inv-loop μ-loop
 loop-less c = omega arith

@@ -1,12 +1,12 @@
 -- `selection::lower` meets its contract. The loop's invariant: the totals from 1 on below t are lowered. The measure is what is left of 65.
-use Prim.Native.Nat.{ℕ, _+_, _-_, _≤_, min}
+use Prim.Native.Nat.{_-_, _≤_}
 use mathlib.Core.Path.{_≡_, ap, _∙_}
-use mathlib.Core.List.{List}
 use native.Mathlib.Omega.{arith}
 use borrow.Author.Needs.{needs}
 use denote.Ref.{now}
-use lib.ListN.{length, getD, length-set}
+use lib.ListN.{length, length-set}
 use Rattle.allocation.specs.means.Selection.{totalAt}
+use Rattle.allocation.proofs.Lines.{sum-fits}
 use Rattle.allocation.proofs.Lowering.{partway, lowered-none, lowered-more, lowered-all}
 use Rattle.allocation.proofs.selection.lower.Statement.{statement}
 use Rattle.allocation.proofs.selection.lower.Tie as tie
@@ -37,9 +37,8 @@ element-copy-out-smaller-2 c = omega arith
 
 add-smaller-2 : tie.Need-add-smaller-2 Inv-loop μ-loop
 add-smaller-2 c =
-    let at = c .before .before .before in
-    let start = at .before in
-    omega (arith, start .pre .3 (63 + at .loop .t - start .args .a))
+    let start = c .before .before .before .before in
+    record { fits = sum-fits (now (start .args .rest)) (start .pre .3) (start .args .critical) _ (start .pre .2) }
 
 smaller-requires : tie.Need-smaller-requires Inv-loop μ-loop
 smaller-requires c κs = search needs
@@ -58,12 +57,13 @@ unfolding totalAt
 loop-again c =
     let at = c .before .before .before .before in
     let args = at .before .args in
-    let t = at .loop .t in
-    let rest = totalAt (now (args .rest)) in
-    let next =
-    lowered-more (args .a) (args .critical) rest (now (args .totals)) t (c .smaller .result) (omega arith) (omega arith)
-    (c .smaller .ensures ∙ ap (λ (l : List ℕ). min (getD l t 0) (args .critical + rest (63 + t - args .a))) (at .loop .inv .3)) in
-    (omega arith, omega arith, length-set (at .loop .totals) t (c .smaller .result) ∙ at .loop .inv .2, rw (at .loop .inv .3) next)
+    let rest = totalAt (now (args .rest)) in (
+      omega arith,
+      omega arith,
+      length-set (at .loop .totals) (at .loop .t) (c .smaller .result) ∙ at .loop .inv .2,
+      lowered-more (args .a) (args .critical) rest (now (args .totals)) (at .loop .t) (at .loop .totals) (omega arith) (omega arith) (at .loop .inv .3)
+          (c .smaller .ensures) (omega arith),
+    )
 
 returns : tie.Need-returns Inv-loop μ-loop
 returns c =
