@@ -1,12 +1,12 @@
 -- Numbers in bytes: bytes in front move each place by their number, a number of two or four bytes is the sum of its bytes, and four
 -- stores write one.
-use Prim.Native.Nat.{ℕ, suc, _<_, _+_, _*_, _/_, _%_}
+use Prim.Native.Nat.{ℕ, suc, _≤_, _<_, _+_, _*_, _/_, _%_}
 use mathlib.Core.List.{List, [], _∷_, _++_}
-use mathlib.Core.Path.{_≡_, sym, ap, _∙_}
+use mathlib.Core.Path.{_≡_, refl, sym, ap, _∙_}
 use native.Mathlib.Omega.{arith}
 use native.Mathlib.Nat.{mod-add-div, mod-eq-of-lt, div-div-eq-div-mul}
 use lib.ListN.{length, set}
-use lib.Seq.{getD-append-add, sets}
+use lib.Seq.{getD-append-add, set-comm, sets}
 use Rattle.basics.specs.Numbers.{byteAt, u16At, u32At, u16Bytes, u32Bytes}
 
 -- Bytes in front move each place.
@@ -67,3 +67,17 @@ sets-append out at [] ys = let e : at + 0 ≡ at = omega arith in rw e
 sets-append out at (x ∷ xs) ys =
     let e : at + suc (length xs) ≡ suc at + length xs = omega arith in
     rw e (sets-append (set out at x) (suc at) xs ys)
+
+-- A run of stores, and one or more stores behind it, in either order.
+sets-store : {A : Type 0} (out : List A) (at : ℕ) (xs : List A) (place : ℕ) (y : A) → at + length xs ≤ place →
+    sets (set out place y) at xs ≡ set (sets out at xs) place y
+sets-store out at [] place y h = refl
+sets-store out at (x ∷ xs) place y h =
+    ap (λ l. sets l (suc at) xs) (set-comm out place at y x (λ e. absurd (omega arith)))
+    ∙ sets-store (set out at x) (suc at) xs place y (omega arith)
+
+pub sets-apart : {A : Type 0} (out : List A) (at : ℕ) (xs : List A) (place : ℕ) (ys : List A) → at + length xs ≤ place →
+    sets (sets out place ys) at xs ≡ sets (sets out at xs) place ys
+sets-apart out at xs place [] h = refl
+sets-apart out at xs place (y ∷ ys) h =
+    sets-apart (set out place y) at xs (suc place) ys (omega arith) ∙ ap (λ l. sets l (suc place) ys) (sets-store out at xs place y h)

@@ -22,12 +22,13 @@ module _ (f : ℕ → List ℕ) where
       let e : 0 + count ≡ count = omega arith in
       rw (add-one count) (each-snoc 0 count ∙ ap (λ (x : ℕ). each (range 0 count) f ++ f x) e)
 
-  each-length : ((i : ℕ) → length (f i) ≡ 2) → (first count : ℕ) → length (each (range first count) f) ≡ 2 * count
+  each-length : (width : ℕ) → ((i : ℕ) → length (f i) ≡ width) → (first count : ℕ) → length (each (range first count) f) ≡ width * count
   unfolding range
-  each-length two first zero = refl
-  each-length two first (suc count) =
+  each-length width same first zero = omega arith
+  each-length width same first (suc count) =
       length-append (f first) (each (range (suc first) count) f)
-      ∙ omega (arith, two first, each-length two (suc first) count)
+      ∙ omega (arith, same first, each-length width same (suc first) count)
 
-  pub pairs-length : ((i : ℕ) → length (f i) ≡ 2) → (count : ℕ) → length (each (range 0 count) f) ≡ 2 * count
-  pairs-length two = each-length two 0
+  -- With so many bytes for each task.
+  pub part-length : (width : ℕ) → ((i : ℕ) → length (f i) ≡ width) → (count : ℕ) → length (each (range 0 count) f) ≡ width * count
+  part-length width same = each-length width same 0

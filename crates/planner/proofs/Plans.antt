@@ -1,8 +1,8 @@
--- The plan of a sheet: the parts set one behind the other are the plan, and the answer goes refusal by refusal.
-use Prim.Native.Nat.{ℕ, _+_, _*_, _≤_, _<_}
-use mathlib.Core.Path.{_≡_, sym, ap, _∙_}
+-- The plan of a sheet: its parts grow task by task and then stand one behind the other, and the answer goes refusal by refusal.
+use Prim.Native.Nat.{ℕ, _+_, _*_, _/_, _%_, _≤_, _<_}
+use mathlib.Core.Path.{_≡_, refl, sym, ap, _∙_}
 use mathlib.Core.Bool.{true, false}
-use mathlib.Core.List.{List, _++_}
+use mathlib.Core.List.{List, [], _∷_, _++_}
 use native.Mathlib.Omega.{arith}
 use lib.ListN.{length, drop, length-append}
 use lib.Seq.{sets, sets-eq}
@@ -10,42 +10,79 @@ use borrow.Author.Tests.{lt-ltb, le-ltb}
 use Rattle.sheet.specs.declared.answer.Answer.the-variants.{Accepted, Refused}
 use Rattle.sheet.specs.Answers.{noTask}
 use Rattle.allocation.specs.declared.allocate.Allocation.{Allocation}
-use Rattle.allocation.specs.Allocation.{allocationAnswer, allocatedOf}
-use Rattle.basics.proofs.Bytes.{sets-append}
-use Rattle.planner.specs.Plan.{shortBuffer, blockBytes, virtualBytes, planBytes, planAnswer, planned}
-use Rattle.planner.proofs.Parts.{blocks-length, virtuals-length}
+use Rattle.allocation.specs.Allocation.{allocationAt, allocationAnswer, allocatedOf}
+use Rattle.basics.specs.Lists.{range}
+use Rattle.basics.proofs.Bytes.{u16-small, sets-append, sets-apart}
+use Rattle.planner.specs.Plan.{shortBuffer, blockOf, blockBytes, virtualBytes, planBytes, planAnswer, planned}
+use Rattle.planner.specs.means.Writing.{withTask}
+use Rattle.planner.proofs.Parts.{blocks-length, blocks-more, virtuals-length, virtuals-more}
+
+-- A task's bytes set one part after the other, where they belong.
+pub task-set : (n i : ℕ) (a : Allocation) (old first second third : List ℕ) {in-typical in-critical in-virtuals : ℕ} →
+    a .«virtual_deadline» < 65536 →
+    first ≡ sets old in-typical (blockOf false a) → in-typical ≡ 2 * i →
+    second ≡ sets first in-critical (blockOf true a) → in-critical ≡ 2 * n + 2 * i →
+    third ≡ sets second in-virtuals (a .«virtual_deadline» % 256 ∷ a .«virtual_deadline» / 256 ∷ []) → in-virtuals ≡ 4 * n + 2 * i →
+    third ≡ withTask n i a old
+unfolding withTask
+task-set n i a old first second third small e₁ at₁ e₂ at₂ e₃ at₃ = rw (e₃, e₂, e₁, at₁, at₂, at₃, u16-small _ small)
+
+-- Bytes set behind those that begin the buffer.
+behind : (old xs ys : List ℕ) (place : ℕ) → place ≡ length xs → sets (sets old 0 xs) place ys ≡ sets old 0 (xs ++ ys)
+behind old xs ys place here =
+    let e : 0 + length xs ≡ place = omega arith in
+    rw (← e) (sym (sets-append old 0 xs ys))
 
 module _ (n : ℕ) (allocations : List Allocation) (old : List ℕ) where
-  -- Three parts set one behind the other.
-  pub parts-set : (first second third : List ℕ) {from : ℕ} →
-      first ≡ sets old 0 (blockBytes false n allocations) →
-      second ≡ sets first from (blockBytes true n allocations) → from ≡ 2 * n →
-      third ≡ sets second (4 * n) (virtualBytes n allocations) →
-      third ≡ sets old 0 (planBytes n allocations)
-  unfolding planBytes
-  parts-set first second third {from} e₁ e₂ place e₃ =
-      let a = blockBytes false n allocations in
-      let b = blockBytes true n allocations in
-      let v = virtualBytes n allocations in
-      let la = blocks-length false n allocations in
-      let lb = blocks-length true n allocations in
-      let lab : length (a ++ b) ≡ 4 * n = length-append a b ∙ omega arith in
-      let two : from ≡ 0 + length a = omega arith in
-      let four : 4 * n ≡ 0 + length (a ++ b) = omega arith in
-      let joined : second ≡ sets old 0 (a ++ b) =
-      e₂ ∙ ap (λ (x : ℕ). sets first x b) two ∙ ap (λ (l : List ℕ). sets l (0 + length a) b) e₁ ∙ sym (sets-append old 0 a b) in
-      e₃
-      ∙ ap (λ (x : ℕ). sets second x v) four
-      ∙ ap (λ (l : List ℕ). sets l (0 + length (a ++ b)) v) joined
-      ∙ sym (sets-append old 0 (a ++ b) v)
+  -- The buffer with the bytes of the first i tasks in each part.
+  unfoldable pub partsUpTo : ℕ → List ℕ
+  partsUpTo i = sets (sets (sets old 0 (blockBytes false i allocations)) (2 * n) (blockBytes true i allocations)) (4 * n) (virtualBytes i allocations)
+
+  pub parts-none : old ≡ partsUpTo 0
+  unfolding partsUpTo blockBytes virtualBytes range
+  parts-none = refl
+
+  -- One task more: its bytes stand before the parts behind them, and end there.
+  pub parts-more : (i : ℕ) → i < n → withTask n i (allocationAt allocations i) (partsUpTo i) ≡ partsUpTo (i + 1)
+  unfolding partsUpTo withTask
+  parts-more i inside =
+      let a = allocationAt allocations i in
+      let typical = blockBytes false i allocations in
+      let critical = blockBytes true i allocations in
+      let virtuals = virtualBytes i allocations in
+      let typical′ = blockBytes false (i + 1) allocations in
+      let critical′ = blockBytes true (i + 1) allocations in
+      let first : sets (sets (sets (sets old 0 typical) (2 * n) critical) (4 * n) virtuals) (2 * i) (blockOf false a)
+      ≡ sets (sets (sets old 0 typical′) (2 * n) critical) (4 * n) virtuals =
+      sets-apart _ (2 * i) (blockOf false a) (4 * n) virtuals (omega arith)
+      ∙ ap (λ (l : List ℕ). sets l (4 * n) virtuals)
+      (sets-apart _ (2 * i) (blockOf false a) (2 * n) critical (omega arith)
+      ∙ ap (λ (l : List ℕ). sets l (2 * n) critical) (blocks-more allocations false old 0 i (2 * i) (omega arith))) in
+      let second : sets (sets (sets (sets old 0 typical′) (2 * n) critical) (4 * n) virtuals) (2 * n + 2 * i) (blockOf true a)
+      ≡ sets (sets (sets old 0 typical′) (2 * n) critical′) (4 * n) virtuals =
+      sets-apart _ (2 * n + 2 * i) (blockOf true a) (4 * n) virtuals (omega arith)
+      ∙ ap (λ (l : List ℕ). sets l (4 * n) virtuals) (blocks-more allocations true (sets old 0 typical′) (2 * n) i (2 * n + 2 * i) refl) in
+      rw (first, second) (virtuals-more allocations (sets (sets old 0 typical′) (2 * n) critical′) (4 * n) i (4 * n + 2 * i) refl)
+
+  blocks-end : length (blockBytes false n allocations ++ blockBytes true n allocations) ≡ 4 * n
+  blocks-end =
+      length-append (blockBytes false n allocations) (blockBytes true n allocations)
+      ∙ omega (arith, blocks-length allocations false n, blocks-length allocations true n)
 
   plan-length : length (planBytes n allocations) ≡ 6 * n
   unfolding planBytes
   plan-length =
-      let a = blockBytes false n allocations in
-      let b = blockBytes true n allocations in
-      length-append (a ++ b) (virtualBytes n allocations)
-      ∙ omega (arith, length-append a b, blocks-length false n allocations, blocks-length true n allocations, virtuals-length n allocations)
+      length-append (blockBytes false n allocations ++ blockBytes true n allocations) (virtualBytes n allocations)
+      ∙ omega (arith, blocks-end, virtuals-length allocations n)
+
+  -- All tasks: the parts stand one behind the other.
+  pub parts-all : partsUpTo n ≡ sets old 0 (planBytes n allocations)
+  unfolding partsUpTo planBytes
+  parts-all =
+      let typical = blockBytes false n allocations in
+      let critical = blockBytes true n allocations in
+      rw (behind old typical critical (2 * n) (sym (blocks-length allocations false n)))
+      (behind old (typical ++ critical) (virtualBytes n allocations) (4 * n) (sym blocks-end))
 
   -- The bytes at the front of the buffer.
   pub plan-set : 6 * n ≤ length old → sets old 0 (planBytes n allocations) ≡ planBytes n allocations ++ drop (length (planBytes n allocations)) old

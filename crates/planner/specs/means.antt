@@ -1,2 +1,2 @@
--- What only proofs and inner functions need: that the plan's parts fit a buffer.
-pub mod Room
+-- What only proofs and inner functions need: a task's bytes in a buffer.
+pub mod Writing

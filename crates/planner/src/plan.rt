@@ -5,36 +5,15 @@ ghost use Prim.Native.Nat.{_+_, _*_, _≤_};
 ghost use lib.ListN.{length};
 ghost use lib.Seq.{sets};
 ghost use Rattle.sheet.specs.Answers.{numberOf, taskOf, Says};
-ghost use Rattle.shares.specs.Totals.{shareIn};
-ghost use Rattle.allocation.specs.means.Bounds.{AllBounded};
-ghost use Rattle.planner.specs.Plan.{beginIn, blockBytes, virtualBytes, planBytes, planAnswer, planned};
-ghost use Rattle.planner.specs.means.Room.{PairsFit};
+ghost use Rattle.allocation.specs.means.Bounds.{Bounded, AllBounded};
+ghost use Rattle.planner.specs.Plan.{planBytes, planAnswer, planned};
+ghost use Rattle.planner.specs.means.Writing.{TaskFits, withTask};
 use allocation::allocate::Allocation;
-use allocation::allocate::Offset;
 use allocation::allocate::allocate;
-use shares::share::Share;
 use sheet::answer::Answer;
 use sheet::answer::NO_TASK;
 
 const SHORT_BUFFER: u8 = 9;
-
-// A task's share in a mode, typical or critical.
-fn share_in(critical: bool, s: Share) -> u8
-    ensures { λ r. ⌜ r ≡ shareIn critical s ⌝ }
-{
-    if critical { s.critical } else { s.typical }
-}
-
-// Where a task's block begins in a mode.
-fn begin_in(critical: bool, offset: Offset) -> u8
-    ensures { λ r. ⌜ r ≡ beginIn critical offset ⌝ }
-{
-    if critical {
-        offset.critical
-    } else {
-        offset.typical
-    }
-}
 
 fn put_pair(buffer: &mut [u8], at: usize, x: u8, y: u8)
     requires { ⌜ at + 2 ≤ length (now buffer) ⌝ }
@@ -44,45 +23,17 @@ fn put_pair(buffer: &mut [u8], at: usize, x: u8, y: u8)
     buffer[at + 1] = y;
 }
 
-// The blocks of n tasks in a mode: a pair of offset and length for each.
-fn write_blocks(
-    buffer: &mut [u8],
-    from: usize,
-    critical: bool,
-    allocations: [Allocation; 16],
-    n: u8,
-)
-    requires { ⌜ PairsFit n from (length (now buffer)) ⌝ }
-    ensures { λ _. ⌜ now (buffer .exit) ≡ sets (now (buffer .entry)) from (blockBytes critical n allocations) ⌝ }
+// Task i's bytes in the three parts of a plan of n tasks: the typical blocks, the critical blocks, and the virtual deadlines, low byte
+// first.
+fn write_task(buffer: &mut [u8], n: usize, i: usize, a: Allocation)
+    requires { ⌜ TaskFits n i (length (now buffer)) ⌝ }
+    requires { ⌜ Bounded a ⌝ }
+    ensures { λ _. ⌜ now (buffer .exit) ≡ withTask n i a (now (buffer .entry)) ⌝ }
 {
-    let count = n as usize;
-    let mut i: usize = 0;
-    while i < count {
-        let a = allocations[i];
-        put_pair(
-            buffer,
-            from + 2 * i,
-            begin_in(critical, a.offset),
-            share_in(critical, a.share),
-        );
-        i += 1;
-    }
-}
-
-// The virtual deadlines of n tasks, low byte first.
-fn write_virtuals(buffer: &mut [u8], from: usize, allocations: [Allocation; 16], n: u8)
-    requires { ⌜ PairsFit n from (length (now buffer)) ⌝ }
-    requires { ⌜ AllBounded allocations n ⌝ }
-    ensures { λ _. ⌜ now (buffer .exit) ≡ sets (now (buffer .entry)) from (virtualBytes n allocations) ⌝ }
-{
-    let count = n as usize;
-    let mut i: usize = 0;
-    while i < count {
-        let a = allocations[i];
-        let v = a.virtual_deadline;
-        put_pair(buffer, from + 2 * i, (v % 256) as u8, (v / 256) as u8);
-        i += 1;
-    }
+    let v = a.virtual_deadline;
+    put_pair(buffer, 2 * i, a.offset.typical, a.share.typical);
+    put_pair(buffer, 2 * n + 2 * i, a.offset.critical, a.share.critical);
+    put_pair(buffer, 4 * n + 2 * i, (v % 256) as u8, (v / 256) as u8);
 }
 
 // The plan's 6n bytes, at the front of the buffer.
@@ -92,9 +43,12 @@ fn write_plan(buffer: &mut [u8], allocations: [Allocation; 16], n: u8)
     ensures { λ _. ⌜ now (buffer .exit) ≡ sets (now (buffer .entry)) 0 (planBytes n allocations) ⌝ }
 {
     let count = n as usize;
-    write_blocks(buffer, 0, false, allocations, n);
-    write_blocks(buffer, 2 * count, true, allocations, n);
-    write_virtuals(buffer, 4 * count, allocations, n);
+    let mut i: usize = 0;
+    while i < count {
+        let a = allocations[i];
+        write_task(buffer, count, i, a);
+        i += 1;
+    }
 }
 
 // Plan: the allocation's refusals, then 9, and then the plan's 6n bytes; a refusal writes nothing.

@@ -1,43 +1,82 @@
--- `plan::write_plan` meets its contract: three parts, one behind the other.
+-- `plan::write_plan` meets its contract. The loop's invariant: the bytes of the tasks passed stand in each part. The measure is the
+-- tasks left.
+use Prim.Native.Nat.{ℕ, _-_, _≤_}
+use mathlib.Core.Path.{_≡_, refl, ap, _∙_}
+use mathlib.Core.List.{List}
 use native.Mathlib.Omega.{arith}
+use lib.ListN.{length}
 use denote.Ref.{now}
-use Rattle.planner.proofs.Plans.{parts-set}
-use borrow.Author.Needs.{needs}
+use Rattle.allocation.specs.Allocation.{allocationAt}
+use Rattle.planner.specs.means.Writing.{withTask}
+use Rattle.planner.proofs.Plans.{partsUpTo, parts-none, parts-more, parts-all}
 use Rattle.planner.proofs.plan.write_plan.Statement.{statement}
 use Rattle.planner.proofs.plan.write_plan.Tie as tie
 
-write-blocks-requires : tie.Need-write-blocks-requires
-write-blocks-requires c κs = search needs
+abbrev Inv-loop : tie.InvT-loop
+Inv-loop buffer₀ n allocations count i₀ buffer i =
+    (i ≤ n) × (length buffer ≡ length buffer₀) × (buffer ≡ partsUpTo n allocations buffer₀ i)
 
-mul-write-blocks : tie.Need-mul-write-blocks
-mul-write-blocks c = search needs
+abbrev μ-loop : tie.MeasureT-loop
+μ-loop buffer₀ n allocations count i₀ buffer i = n - i
 
-write-blocks-requires-2 : tie.Need-write-blocks-requires-2
-write-blocks-requires-2 c κs = search needs
+loop-holds : tie.Need-loop-holds Inv-loop μ-loop
+loop-holds c =
+    let args = c .before .args in
+    (omega arith, refl, parts-none (args .n) (args .t2) (now (args .buffer)))
 
-mul-write-virtuals : tie.Need-mul-write-virtuals
-mul-write-virtuals c = search needs
+mul-a : tie.Need-mul-a Inv-loop μ-loop
+mul-a c = omega arith
 
-write-virtuals-requires : tie.Need-write-virtuals-requires
-write-virtuals-requires c κs = search needs
+array-copy-out-a : tie.Need-array-copy-out-a Inv-loop μ-loop
+array-copy-out-a c = omega arith
 
-same-length : tie.Need-same-length
-same-length c = search needs
+write-task-requires : tie.Need-write-task-requires Inv-loop μ-loop
+unfolding allocationAt
+write-task-requires c κs =
+    let bounded = c .before .before .before .before .before .pre .1 in
+    (record { known = omega arith; few = bounded .few; inside = omega arith }, bounded .each (c .before .before .before .loop .i) (omega arith))
 
-returns : tie.Need-returns
+add-i : tie.Need-add-i Inv-loop μ-loop
+add-i c = omega arith
+
+loop-less : tie.Need-loop-less Inv-loop μ-loop
+loop-less c = omega arith
+
+loop-again : tie.Need-loop-again Inv-loop μ-loop
+unfolding allocationAt
+loop-again c =
+    let args = c .before .before .before .before .before .before .before .before .args in
+    let loop = c .before .before .before .before .before .before .loop in (
+      omega arith,
+      c .before .before .write-task .kept .0 ∙ loop .inv .1,
+      c .before .before .write-task .ensures
+          ∙ ap (withTask (args .n) (loop .i) (allocationAt (args .t2) (loop .i))) (loop .inv .2)
+          ∙ parts-more (args .n) (args .t2) (now (args .buffer)) (loop .i) (omega arith),
+    )
+
+same-length : tie.Need-same-length Inv-loop μ-loop
+same-length c = c .before .loop .inv .1
+
+returns : tie.Need-returns Inv-loop μ-loop
 returns c =
-    let args = c .before .before .before .before .before .before .before .before .before .before .before .before .before .args in
-    parts-set (args .n) (args .allocations) (now (args .buffer)) _ _ _
-    (c .before .before .before .before .before .before .before .before .before .before .write-blocks .ensures) (c .before .before .before .before .before .before .write-blocks2 .ensures) (omega arith) (c .before .before .write-virtuals .ensures)
+    let args = c .before .before .before .args in
+    let all : c .before .loop .i ≡ args .n = omega arith in
+    c .before .loop .inv .2
+    ∙ ap (partsUpTo (args .n) (args .t2) (now (args .buffer))) all
+    ∙ parts-all (args .n) (args .t2) (now (args .buffer))
 
 pub write-plan-spec : {M : Type 1} → statement M
 write-plan-spec =
     tie.close
     (tie.spec
-    write-blocks-requires
-    mul-write-blocks
-    write-blocks-requires-2
-    mul-write-virtuals
-    write-virtuals-requires
+    Inv-loop
+    μ-loop
+    loop-holds
+    mul-a
+    array-copy-out-a
+    write-task-requires
+    add-i
+    loop-less
+    loop-again
     same-length
     returns)

@@ -1,0 +1,86 @@
+-- `plan::write_task` meets its contract: the stores are those of the definition.
+use native.Mathlib.Omega.{arith}
+use denote.Ref.{now}
+use borrow.Author.Needs.{needs}
+use Rattle.planner.proofs.Plans.{task-set}
+use Rattle.planner.proofs.plan.write_task.Statement.{statement}
+use Rattle.planner.proofs.plan.write_task.Tie as tie
+
+mul-put-pair : tie.Need-mul-put-pair
+mul-put-pair c = search needs
+
+put-pair-requires : tie.Need-put-pair-requires
+put-pair-requires c κs = search needs
+
+mul-put-pair-2 : tie.Need-mul-put-pair-2
+mul-put-pair-2 c = search needs
+
+mul-put-pair-3 : tie.Need-mul-put-pair-3
+mul-put-pair-3 c = search needs
+
+add-put-pair : tie.Need-add-put-pair
+add-put-pair c = search needs
+
+put-pair-requires-2 : tie.Need-put-pair-requires-2
+put-pair-requires-2 c κs = search needs
+
+mul-put-pair-4 : tie.Need-mul-put-pair-4
+mul-put-pair-4 c = search needs
+
+mul-put-pair-5 : tie.Need-mul-put-pair-5
+mul-put-pair-5 c = search needs
+
+add-put-pair-2 : tie.Need-add-put-pair-2
+add-put-pair-2 c = search needs
+
+cast-put-pair : tie.Need-cast-put-pair
+cast-put-pair c = search needs
+
+cast-put-pair-2 : tie.Need-cast-put-pair-2
+cast-put-pair-2 c = search needs
+
+put-pair-requires-3 : tie.Need-put-pair-requires-3
+put-pair-requires-3 c κs = search needs
+
+same-length : tie.Need-same-length
+same-length c = search needs
+
+-- From each part to the one before it, and from the first to the start.
+abbrev critical-at : tie.After-put-pair3 → tie.After-put-pair2
+critical-at c = c .before .before .before .before
+
+abbrev typical-at : tie.After-put-pair2 → tie.After-put-pair
+typical-at c = c .before .before .before .before
+
+abbrev start-at : tie.After-put-pair → tie.Start
+start-at c = c .before .before .before
+
+returns : tie.Need-returns
+returns c =
+    let virtuals = c .before .before in
+    let critical = critical-at virtuals in
+    let typical = typical-at critical in
+    let start = start-at typical in
+    task-set (start .args .n) (start .args .i) (start .args .a) (now (start .args .buffer)) _ _ _ (start .pre .1 .two-bytes)
+    (typical .put-pair .ensures) (omega arith)
+    (critical .put-pair2 .ensures) (omega arith)
+    (virtuals .put-pair3 .ensures) (omega arith)
+
+pub write-task-spec : {M : Type 1} → statement M
+write-task-spec =
+    tie.close
+    (tie.spec
+    mul-put-pair
+    put-pair-requires
+    mul-put-pair-2
+    mul-put-pair-3
+    add-put-pair
+    put-pair-requires-2
+    mul-put-pair-4
+    mul-put-pair-5
+    add-put-pair-2
+    cast-put-pair
+    cast-put-pair-2
+    put-pair-requires-3
+    same-length
+    returns)
