@@ -26,6 +26,7 @@ use Rattle.allocation.specs.Allocation.{choiceAnswer, sixteen, sharesOf,
 use Rattle.allocation.specs.means.Bounds.{SharesFit, Bounded, AllBounded}
 use Rattle.allocation.proofs.Accepted.{both-accepted, accepted-lawful}
 use Rattle.allocation.proofs.KeptLine.{accepted-shares}
+use Rattle.shares.proofs.Division.{remainder-less}
 use Rattle.shares.proofs.Totals.{total-part}
 use Rattle.allocation.proofs.Blocks.{shares-blocks}
 use Rattle.allocation.proofs.Lawfulness.{figures-kept}
@@ -106,6 +107,9 @@ module _ (tasks : TaskSet) (lawful : LawfulSet tasks) (shares : List Share) (giv
         typical = let ends = blocks .inside false i (omega (arith, given .each)) in omega arith;
         critical = let ends = blocks .inside true i (omega (arith, given .each)) in omega arith;
         two-bytes = omega (arith, given .virtual i inside, kept .deadline-to);
+        remainder =
+            let ends = blocks .inside false i (omega (arith, given .each)) in
+            omega (arith, remainder-less (taskIn tasks i) (shareAt shares i .typical) (given .some-share i inside));
       }
 
 -- The answer on a sheet, and what goes with it.

@@ -14,6 +14,7 @@ pub mod Sets
 pub mod Held
 pub mod Accepted
 pub mod Allocations
+pub mod Rounding
 pub mod Laws
 pub mod SetShares
 pub mod KeptLine

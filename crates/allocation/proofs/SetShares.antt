@@ -14,7 +14,7 @@ use Rattle.sheet.specs.declared.task.TaskSet.{TaskSet}
 use Rattle.sheet.specs.Format.{taskIn, missingTask}
 use Rattle.sheet.specs.Level.{isLow}
 use Rattle.shares.specs.declared.share.Share.{Share}
-use Rattle.shares.specs.Deadline.{virtualDeadlineOf}
+use Rattle.shares.specs.Deadline.{virtualDeadlineOf, remainderOf}
 use Rattle.shares.specs.Low.{isKept}
 use Rattle.shares.specs.Totals.{noProcessors, shareAt, shareTotal}
 use Rattle.allocation.specs.Way.{HighPair}
@@ -37,6 +37,7 @@ typical-stays set choice =
       share = same;
       offset = total-same false (withKept kept choice) choice (with-length kept choice) same;
       virtual = λ i. ap (virtualDeadlineOf (taskIn set i)) (same i);
+      remainder = λ i. ap (remainderOf (taskIn set i)) (same i);
     }
   where
     kept : List ℕ

@@ -1,4 +1,4 @@
--- Worked facts by computation: choices and refusals of small task sets.
+-- Worked facts by computation: choices and refusals of small task sets, and what is fixed for their tasks.
 use Prim.Native.Nat.{ℕ, zero, suc, _≤_, _<_}
 use mathlib.Core.Path.{_≡_, refl, sym, ap}
 use mathlib.Core.Bool.{true, false≢true}
@@ -17,7 +17,8 @@ use Rattle.shares.specs.declared.share.Share.{Share}
 use Rattle.shares.specs.Cases.{figures, taskA, taskB, lowTask}
 use Rattle.sheet.specs.Level.{isLow, isHigh}
 use Rattle.shares.specs.Low.{ceilDiv, lowShare, hasLowShare}
-use Rattle.shares.specs.Test.{excess, demand, passes}
+use Rattle.shares.specs.Test.{excess, demand, passes, divisionOf}
+use Rattle.shares.specs.Deadline.{remainderOf}
 use Rattle.shares.specs.Search.{first, leastCritical}
 use Rattle.shares.specs.Offer.{tabulate, criticalAt, offerOf}
 use Rattle.shares.specs.Totals.{noProcessors, shareAt}
@@ -29,7 +30,7 @@ use Rattle.keeping.specs.Kept.{lowNumbers, holdable, firstHeld, typicalShareAt,
 use Rattle.keeping.specs.KeptSet.{HeldSet}
 use Rattle.allocation.specs.Held.{optionsUpTo, criticalShares, criticalTotals, uncappedShare, uncappedTotal, shareHeld, totalHeld}
 use Rattle.allocation.specs.means.Selection.{cellAt, leastFrom, sumAt, bestShare, totalWith, leastTotal, totalsOf, offersOf, offersUpTo, lastTotals, totalsFor}
-use Rattle.allocation.specs.Allocation.{chosenFor, shareAnswer, choiceAnswer, sharesWith, sharesOf}
+use Rattle.allocation.specs.Allocation.{chosenFor, shareAnswer, choiceAnswer, sharesWith, sharesOf, allocationOf}
 
 -- A typical and a critical share.
 abbrev pub pair : ℕ → ℕ → Share
@@ -101,6 +102,17 @@ worked-kept =
       one = refl;
       full = refl;
     }
+
+pub record WorkedRounded : Type 0 where
+  -- S4.6: A with the shares (1, 2) and B with (3, 4): 5 over 1 leaves nothing and 7 over 3 leaves 1.
+  pub none-left : allocationOf (on 8 ab) (pair 1 2 ∷ pair 3 4 ∷ []) 0 .remainder ≡ 0
+  pub one-left : allocationOf (on 8 ab) (pair 1 2 ∷ pair 3 4 ∷ []) 1 .remainder ≡ 1
+  -- E, a low task, has 0; its 60 over 7 would leave 4.
+  pub low-left : allocationOf (on 8 (low taskE ∷ [])) (pair 7 0 ∷ []) 0 .remainder ≡ 0
+
+pub worked-rounded : WorkedRounded
+unfolding taskIn isLow isHigh shareAt divisionOf remainderOf allocationOf
+worked-rounded = record { none-left = refl; one-left = refl; low-left = refl }
 
 pub record WorkedHeld : Type 0 where
   -- S5.7: at typical share 1 B needs 27 processors in the critical mode; on 5 processors 6 is held for it.

@@ -13,7 +13,7 @@ use Rattle.basics.specs.Lists.{cells, isEmpty, isNone}
 use Rattle.sheet.specs.Format.{taskIn}
 use Rattle.reader.specs.Reading.{readOf}
 use Rattle.shares.specs.declared.share.Share.{Share}
-use Rattle.shares.specs.Deadline.{virtualDeadlineOf}
+use Rattle.shares.specs.Deadline.{virtualDeadlineOf, remainderOf}
 use Rattle.shares.specs.Totals.{noProcessors, shareAt}
 use Rattle.allocation.specs.declared.allocate.Allocation.{Allocation}
 use Rattle.allocation.specs.declared.allocate.Allocated.{Allocated}
@@ -69,18 +69,21 @@ sharesOf set = sharesWith set (sharesChosen (chosenFor set))
 unfoldable pub choiceOf : TaskSet → Chosen
 choiceOf set = record { answer = choiceAnswer set; shares = sixteen (sharesOf set) }
 
--- What is fixed for task i of a set whose tasks have these shares: its share, where its block begins in each mode (S5.4), and V (S4.5).
+-- What is fixed for task i of a set whose tasks have these shares: its share, where its block begins in each mode (S5.4), V (S4.5) and
+-- the remainder (S4.6).
 unfoldable pub allocationOf : TaskSet → List Share → ℕ → Allocation
 allocationOf set shares i =
     record {
       share = shareAt shares i;
       offset = record { typical = offsetIn false shares i; critical = offsetIn true shares i };
       «virtual_deadline» = virtualDeadlineOf (taskIn set i) (shareAt shares i .typical);
+      remainder = remainderOf (taskIn set i) (shareAt shares i .typical);
     }
 
 -- What stands for a task that is not there.
 abbrev pub noAllocation : Allocation
-noAllocation = record { share = noProcessors; offset = record { typical = 0; critical = 0 }; «virtual_deadline» = 0 }
+noAllocation =
+    record { share = noProcessors; offset = record { typical = 0; critical = 0 }; «virtual_deadline» = 0; remainder = 0 }
 
 -- The same for all tasks of a set, as a line of sixteen, with zeros in the place of the tasks that are not there.
 unfoldable pub allocationsOf : TaskSet → List Share → List Allocation
@@ -100,7 +103,7 @@ allocatedWith Accepted count allocations = record { answer = Accepted; count = c
 allocatedWith (Refused number task) count allocations =
     record { answer = Refused number task; count = 0; allocations = replicate 16 noAllocation }
 
--- S5.3, S5.6, S5.4, S4.5: what is fixed for the tasks of a sheet, with the shares that they get.
+-- S5.3, S5.6, S5.4, S4.5, S4.6: what is fixed for the tasks of a sheet, with the shares that they get.
 unfoldable pub allocatedOf : List ℕ → Allocated
 allocatedOf sheet =
     allocatedWith (allocationAnswer sheet) (readOf sheet .set .count)

@@ -10,12 +10,13 @@ use Rattle.shares.specs.Totals.{shareAt}
 use Rattle.keeping.specs.Kept.{keptTasks, isIn}
 use Rattle.allocation.specs.Allocation.{tasksOf, sharesWith, allocationOf}
 
--- S5.6: of what is fixed for a task its typical share and block and its V are those of the choice.
+-- S5.6: of what is fixed for a task its typical share and block, its V and its remainder are those of the choice.
 pub record TypicalStays (set : TaskSet) (choice : List Share) : Type 0 where
   pub share : (i : ℕ) → allocationOf set (sharesWith set choice) i .share .typical ≡ allocationOf set choice i .share .typical
   pub offset : (i : ℕ) → allocationOf set (sharesWith set choice) i .offset .typical ≡ allocationOf set choice i .offset .typical
   pub virtual : (i : ℕ) →
       allocationOf set (sharesWith set choice) i .«virtual_deadline» ≡ allocationOf set choice i .«virtual_deadline»
+  pub remainder : (i : ℕ) → allocationOf set (sharesWith set choice) i .remainder ≡ allocationOf set choice i .remainder
 
 -- S5.6 and S7.4: a task is kept by its level and share, as a state has them, just where it is in the kept set.
 unfoldable pub KeptMarked : TaskSet → List Share → Type 0

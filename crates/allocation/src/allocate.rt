@@ -17,11 +17,12 @@ pub struct Offset {
     pub critical: u8,
 }
 
-// What is fixed for one task: its share (S5.3), where its blocks begin (S5.4), and V (S4.5).
+// What is fixed for one task: its share (S5.3), where its blocks begin (S5.4), V (S4.5) and the remainder (S4.6).
 pub struct Allocation {
     pub share: Share,
     pub offset: Offset,
     pub virtual_deadline: u32,
+    pub remainder: u32,
 }
 
 // The answer on a sheet, the number of its tasks, and what is fixed for them; zeros where it is refused and after the last task.
@@ -45,6 +46,7 @@ fn no_allocations() -> [Allocation; 16]
             critical: 0,
         },
         virtual_deadline: 0,
+        remainder: 0,
     }; 16]
 }
 
@@ -61,10 +63,12 @@ pub fn allocations_of(set: TaskSet, shares: [Share; 16]) -> [Allocation; 16]
     while i < n {
         let task = set.tasks[i];
         let share = shares[i];
+        let rounded = virtual_deadline_of(task, share.typical);
         allocations[i] = Allocation {
             share,
             offset: Offset { typical, critical },
-            virtual_deadline: virtual_deadline_of(task, share.typical),
+            virtual_deadline: rounded.ticks,
+            remainder: rounded.remainder,
         };
         typical += share.typical;
         critical += share.critical;

@@ -21,7 +21,7 @@ use Rattle.sheet.specs.Rules.{shapeLawful, inRange, inOrder, lowLawful, figures
 use Rattle.reader.specs.declared.Reading.{Reading}
 use Rattle.reader.specs.Reading.{headerLawful, headerAnswer, placeAnswer, endAnswer, shapeAnswer, recordAnswer, readOf, readAnswer}
 use Rattle.shares.specs.declared.share.Share.{Share}
-use Rattle.shares.specs.Test.{excess, demand, passes, virtualDeadline}
+use Rattle.shares.specs.Test.{excess, demand, passes, divisionOf, virtualDeadline}
 use Rattle.shares.specs.Low.{ceilDiv, lowShare, hasLowShare, isKept}
 use Rattle.shares.specs.Totals.{shareAt}
 use Rattle.shares.specs.Deadline.{virtualDeadlineOf}
@@ -281,7 +281,7 @@ record Runs : Type 0 where
   pub kept-alive : rowAt (after keptStart (take 7 overSwitch)) 1 .job .alive ≡ true
 
 runs : Runs
-unfolding fresh freshRow virtualDeadlineOf isLow virtualDeadline has range isHigh isKept isSubset allEnded predecessorsOf isReady ready running runningSet releasedRow joined tickedRow isLate survives switchedRow step rowAt granted runningAt unknownTask lowInCritical tooEarly wrongCount notRunning releaseRefusal tickRefusal released ticked isAccepted isRunning isDue
+unfolding fresh freshRow virtualDeadlineOf isLow divisionOf virtualDeadline has range isHigh isKept isSubset allEnded predecessorsOf isReady ready running runningSet releasedRow joined tickedRow isLate survives switchedRow step rowAt granted runningAt unknownTask lowInCritical tooEarly wrongCount notRunning releaseRefusal tickRefusal released ticked isAccepted isRunning isDue
 runs =
     record {
       begins = refl;

@@ -8,7 +8,7 @@ use lib.Dec.{lit<, lit≤}
 use lib.ListN.{getD, replicate}
 use Rattle.sheet.specs.declared.task.TaskSet.{TaskSet}
 use Rattle.shares.specs.declared.share.Share.{Share}
-use Rattle.shares.specs.Test.{excess, demand, passes, virtualDeadline}
+use Rattle.shares.specs.Test.{excess, demand, passes, divisionOf, virtualDeadline}
 use Rattle.sheet.specs.Level.{isLow, isHigh}
 use Rattle.shares.specs.Deadline.{virtualDeadlineOf}
 use Rattle.nodes.proofs.Bits.{has-zero}
@@ -50,7 +50,7 @@ sharesA = record { typical = 1; critical = 2 } ∷ []
 
 -- S11.2: V is 9, and its fresh model is the one of the worked facts.
 fresh-alone : fresh sheetA sharesA ≡ alone
-unfolding fresh freshRow virtualDeadlineOf isLow isHigh virtualDeadline
+unfolding fresh freshRow virtualDeadlineOf isLow isHigh divisionOf virtualDeadline
 fresh-alone = refl
 
 -- The task set and the shares are planned.

@@ -5,7 +5,7 @@ use lib.Dec.{lit<, lit≤}
 use borrow.Author.Tests.{le-leb, lt-leb, lt-ltb}
 use native.Mathlib.Omega.{arith}
 use Rattle.sheet.specs.declared.task.Figures.{Figures}
-use Rattle.shares.specs.Test.{excess, demand, passes, virtualDeadline}
+use Rattle.shares.specs.Test.{excess, demand, passes, divisionOf, virtualDeadline}
 use Rattle.shares.specs.Low.{ceilDiv, lowShare, hasLowShare, lowAnswer}
 use Rattle.shares.specs.Cases.{lowTask, Passes, Fails, Gets, Cases}
 
@@ -28,7 +28,7 @@ gets f slack =
     }
 
 pub cases : Cases
-unfolding excess demand virtualDeadline ceilDiv lowShare
+unfolding excess demand divisionOf virtualDeadline ceilDiv lowShare
 cases =
     record {
       case1 = failing _ 1 1 (lit< tt);

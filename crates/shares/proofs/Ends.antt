@@ -7,7 +7,7 @@ use native.Mathlib.Decide.{decLe}
 use native.Mathlib.Omega.{arith}
 use lib.Dec.{T, leb→le}
 use Rattle.sheet.specs.declared.task.Figures.{Figures}
-use Rattle.shares.specs.Test.{excess, demand, passes, virtualDeadline}
+use Rattle.shares.specs.Test.{excess, demand, passes, divisionOf, virtualDeadline}
 use Rattle.shares.specs.Low.{ceilDiv, lowShare}
 use Rattle.shares.proofs.Ticks.{ticks-critical, ticks-typical}
 
@@ -25,7 +25,7 @@ module _ (D LO X n w a b : ℕ) (one : 1 ≤ a) (le : a ≤ b) (over : X ≤ n +
 -- The virtual deadline, times the typical share.
 pub virtual-product : (f : Figures) (a : ℕ) →
     a * virtualDeadline f a ≤ a * f .nominal .span + (f .nominal .work - f .nominal .span)
-unfolding virtualDeadline
+unfolding divisionOf virtualDeadline
 virtual-product f a = omega (arith, mul-div-le (f .nominal .work - f .nominal .span) a)
 
 -- t ticks with a·t + a ≤ n + a·s.
@@ -69,7 +69,7 @@ overload-ends f a b f₁ f₂ p one le spans test full span work =
 -- A job that keeps its nominal budget in typical mode is alive only below V.
 pub nominal-ends : (f : Figures) (a f₁ p : ℕ) → 1 ≤ a → p + 1 ≤ f .nominal .span → a * f₁ + p + 1 ≤ f .nominal .work →
     f₁ + p + 1 ≤ virtualDeadline f a
-unfolding virtualDeadline
+unfolding divisionOf virtualDeadline
 nominal-ends f a f₁ p one span work =
     quotient (f .nominal .work - f .nominal .span) (f .nominal .span) a (f₁ + p) one
     (ticks-typical (f .nominal .work) _ (f₁ + p) a a f₁ 0 p one (omega arith) (omega arith) span (omega arith))
@@ -127,7 +127,7 @@ virtual-within f a b one le spans test =
 
 -- The virtual deadline is at least LN.
 pub virtual-from-span : (f : Figures) (a : ℕ) → f .nominal .span ≤ virtualDeadline f a
-unfolding virtualDeadline
+unfolding divisionOf virtualDeadline
 virtual-from-span f a = omega arith
 
 -- The virtual deadline is at least 1 where LN is.

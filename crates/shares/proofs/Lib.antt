@@ -1,6 +1,7 @@
 -- Facts at literals first, then the laws that belong to no one function.
 pub mod Cases
 pub mod Worked
+pub mod Division
 pub mod Ticks
 pub mod Ends
 pub mod Least

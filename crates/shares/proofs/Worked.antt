@@ -5,12 +5,12 @@ use mathlib.Core.Bool.{false}
 use mathlib.Core.List.{[], _∷_}
 use Rattle.sheet.specs.declared.task.Task.{Task}
 use Rattle.sheet.specs.declared.task.Figures.{Figures}
-use Rattle.shares.specs.Test.{excess, demand, passes, virtualDeadline}
+use Rattle.shares.specs.Test.{excess, demand, passes, divisionOf, virtualDeadline}
 use Rattle.sheet.specs.Level.{isLow, isHigh}
 use Rattle.shares.specs.Low.{ceilDiv, lowShare, hasLowShare}
 use Rattle.shares.specs.Search.{first, leastCritical}
 use Rattle.shares.specs.Offer.{lowCritical, criticalAt, tabulate}
-use Rattle.shares.specs.Deadline.{virtualDeadlineOf}
+use Rattle.shares.specs.Deadline.{virtualDeadlineOf, remainderOf}
 use Rattle.shares.specs.Cases.{figures, taskA, taskB, lowTask}
 
 -- A task of a level, with these figures and one node.
@@ -36,9 +36,15 @@ pub record Worked : Type 0 where
   -- S4.5: V of a high task and of a low one.
   pub high-virtual : virtualDeadlineOf (ofLevel 1 taskB) 3 ≡ 6
   pub low-virtual : virtualDeadlineOf (ofLevel 0 (lowTask 30)) 2 ≡ 0
+  -- S4.6: 5 over 2, of A, and 7 over 2 and over 7, of B. A low task's 25 over 3 is not asked.
+  pub some-left : divisionOf taskA 2 ≡ record { quotient = 2; remainder = 1 }
+  pub one-left : divisionOf taskB 2 ≡ record { quotient = 3; remainder = 1 }
+  pub none-left : divisionOf taskB 7 ≡ record { quotient = 1; remainder = 0 }
+  pub high-remainder : remainderOf (ofLevel 1 taskB) 4 ≡ 3
+  pub low-remainder : remainderOf (ofLevel 0 (lowTask 31)) 3 ≡ 0
 
 pub worked : Worked
-unfolding excess demand passes virtualDeadline isLow ceilDiv lowShare hasLowShare first leastCritical lowCritical criticalAt tabulate virtualDeadlineOf isHigh
+unfolding excess demand passes divisionOf virtualDeadline isLow ceilDiv lowShare hasLowShare first leastCritical lowCritical criticalAt tabulate virtualDeadlineOf remainderOf isHigh
 worked =
     record {
       itself = refl;
@@ -53,4 +59,9 @@ worked =
       no-slack = refl;
       high-virtual = refl;
       low-virtual = refl;
+      some-left = refl;
+      one-left = refl;
+      none-left = refl;
+      high-remainder = refl;
+      low-remainder = refl;
     }

@@ -1,8 +1,9 @@
--- S4.2 and S4.5: the test on a high task's pair (a, b), and the virtual deadline at its typical share.
-use Prim.Native.Nat.{ℕ, _+_, _-_, _*_, _/_, min}
+-- S4.2, S4.5 and S4.6: the test on a high task's pair (a, b), the virtual deadline at its typical share and the division behind it.
+use Prim.Native.Nat.{ℕ, _+_, _-_, _*_, _/_, _%_, min}
 use mathlib.Core.Bool.{Bool}
 use lib.Dec.{leb}
 use Rattle.sheet.specs.declared.task.Figures.{Figures}
+use Rattle.shares.specs.declared.deadline.Division.{Division}
 
 -- S4.2: w, by how much more the work grows than the span from the nominal to the overload figures.
 unfoldable pub excess : Figures → ℕ
@@ -20,6 +21,14 @@ demand f a b =
 unfoldable pub passes : Figures → ℕ → ℕ → Bool
 passes f a b = leb (demand f a b) (f .deadline * a * b)
 
--- S4.5: V of a high task: LN, and the rest of the nominal work spread over a processors, rounded down.
+-- S4.6: the division behind V: the nominal work beside the span, over a processors, with quotient and remainder.
+unfoldable pub divisionOf : Figures → ℕ → Division
+divisionOf f a =
+    record {
+      quotient = (f .nominal .work - f .nominal .span) / a;
+      remainder = (f .nominal .work - f .nominal .span) % a;
+    }
+
+-- S4.5: V of a high task: LN and the quotient, which is rounded down.
 unfoldable pub virtualDeadline : Figures → ℕ → ℕ
-virtualDeadline f a = f .nominal .span + (f .nominal .work - f .nominal .span) / a
+virtualDeadline f a = f .nominal .span + divisionOf f a .quotient

@@ -26,7 +26,7 @@ taskA =
 
 -- What is fixed for it at the shares (1, 2): V is 9.
 abbrev fixedA : Allocation
-fixedA = record { share = record { typical = 1; critical = 2 }; offset = record { typical = 0; critical = 0 }; «virtual_deadline» = 9 }
+fixedA = record { share = record { typical = 1; critical = 2 }; offset = record { typical = 0; critical = 0 }; «virtual_deadline» = 9; remainder = 0 }
 
 pub record Worked : Type 0 where
   -- S8.1: a fresh entry has the sheet's shape, the V and the share that are fixed for it, the age D, and no job.

@@ -67,40 +67,43 @@ mul-allocations c = search needs
 array-set-from-allocations : tie.Need-array-set-from-allocations Inv-loop μ-loop
 array-set-from-allocations c = search needs
 
+-- The start and the loop, seen from a task's allocation.
+abbrev start-of : tie.After-struct-known Inv-loop μ-loop → tie.Start Inv-loop μ-loop
+start-of c = c .before .before .before .before .before .before .before
+
+abbrev loop-of : tie.After-struct-known Inv-loop μ-loop → tie.At-loop Inv-loop μ-loop
+loop-of c = c .before .before .before .before .before
+
 -- The next blocks begin where these end.
 typical-next : (c : tie.After-struct-known Inv-loop μ-loop) →
-    let args = c .before .before .before .before .before .before .before .args in
-    let loop = c .before .before .before .before .before .loop in
-    loop .typical + shareAt (args .t2) (loop .i) .typical ≡ offsetIn false (args .t2) (loop .i + 1)
+    let shares = start-of c .args .t2 in
+    let loop = loop-of c .loop in
+    loop .typical + shareAt shares (loop .i) .typical ≡ offsetIn false shares (loop .i + 1)
 unfolding lengthIn shareAt
 typical-next c =
-    let args = c .before .before .before .before .before .before .before .args in
-    let loop = c .before .before .before .before .before .loop in
-    omega (arith, loop .inv .1, offset-next false (args .t2) (loop .i) (omega arith))
+    let loop = loop-of c .loop in
+    omega (arith, loop .inv .1, offset-next false (start-of c .args .t2) (loop .i) (omega arith))
 
 critical-next : (c : tie.After-struct-known Inv-loop μ-loop) →
-    let args = c .before .before .before .before .before .before .before .args in
-    let loop = c .before .before .before .before .before .loop in
-    loop .critical + shareAt (args .t2) (loop .i) .critical ≡ offsetIn true (args .t2) (loop .i + 1)
+    let shares = start-of c .args .t2 in
+    let loop = loop-of c .loop in
+    loop .critical + shareAt shares (loop .i) .critical ≡ offsetIn true shares (loop .i + 1)
 unfolding lengthIn shareAt
 critical-next c =
-    let args = c .before .before .before .before .before .before .before .args in
-    let loop = c .before .before .before .before .before .loop in
-    omega (arith, loop .inv .2, offset-next true (args .t2) (loop .i) (omega arith))
+    let loop = loop-of c .loop in
+    omega (arith, loop .inv .2, offset-next true (start-of c .args .t2) (loop .i) (omega arith))
 
 add-typical : tie.Need-add-typical Inv-loop μ-loop
 unfolding shareAt
 add-typical c =
-    let start = c .before .before .before .before .before .before .before in
-    let loop = c .before .before .before .before .before .loop in
-    omega (arith, typical-next c, start .pre .ends false (loop .i + 1) (omega arith))
+    let next = loop-of c .loop .i + 1 in
+    omega (arith, typical-next c, start-of c .pre .ends false next (omega arith))
 
 add-critical : tie.Need-add-critical Inv-loop μ-loop
 unfolding shareAt
 add-critical c =
-    let start = c .before .before .before .before .before .before .before .before in
-    let loop = c .before .before .before .before .before .before .loop in
-    omega (arith, critical-next (c .before), start .pre .ends true (loop .i + 1) (omega arith))
+    let next = loop-of (c .before) .loop .i + 1 in
+    omega (arith, critical-next (c .before), start-of (c .before) .pre .ends true next (omega arith))
 
 add-i : tie.Need-add-i Inv-loop μ-loop
 add-i c = search needs
@@ -112,18 +115,23 @@ loop-less c = search needs
 fixed : (c : tie.After-virtual-deadline-of Inv-loop μ-loop) →
     let args = c .before .before .before .before .before .before .args in
     let loop = c .before .before .before .before .loop in
-    record { share = shareAt (args .t2) (loop .i); offset = record { typical = loop .typical; critical = loop .critical }; «virtual_deadline» = c .virtual-deadline-of .result }
+    record {
+      share = shareAt (args .t2) (loop .i);
+      offset = record { typical = loop .typical; critical = loop .critical };
+      «virtual_deadline» = c .virtual-deadline-of .result .ticks;
+      remainder = c .virtual-deadline-of .result .remainder;
+    }
     ≡ allocationOf (args .t1) (args .t2) (loop .i)
 unfolding shareAt allocationOf taskIn
 fixed c =
     let loop = c .before .before .before .before .loop in
-    rw (loop .inv .1, loop .inv .2, c .virtual-deadline-of .ensures)
+    rw (loop .inv .1, loop .inv .2, c .virtual-deadline-of .ensures .0, c .virtual-deadline-of .ensures .1)
 
 loop-again : tie.Need-loop-again Inv-loop μ-loop
 unfolding shareAt
 loop-again c =
-    let start = c .before .before .before .before .before .before .before .before in
-    let loop = c .before .before .before .before .before .before .loop in
+    let start = start-of (c .before) in
+    let loop = loop-of (c .before) .loop in
     let few = start .pre .few in (
       omega arith,
       typical-next (c .before),
