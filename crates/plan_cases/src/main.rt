@@ -138,14 +138,14 @@ fn wide(x: u8) -> u32
     x as u32
 }
 
-// S3.1: 0 and 255, for an accepted plan of two tasks; then the plan's twelve bytes.
-fn accepted(plan: [u8; 18]) -> [u32; 14]
-    ensures { λ r. ⌜ r ≡ 0 ∷ noTask ∷ take 12 plan ⌝ }
+// S3.1: 0 and 255, for an accepted plan of two tasks; then the plan's fourteen bytes.
+fn accepted(plan: [u8; 21]) -> [u32; 16]
+    ensures { λ r. ⌜ r ≡ 0 ∷ noTask ∷ take 14 plan ⌝ }
 {
-    let mut numbers = [0u32; 14];
+    let mut numbers = [0u32; 16];
     numbers[1] = wide(NO_TASK);
     let mut i: usize = 0;
-    while i < 12 {
+    while i < 14 {
         numbers[i + 2] = wide(plan[i]);
         i += 1;
     }
@@ -154,7 +154,7 @@ fn accepted(plan: [u8; 18]) -> [u32; 14]
 
 // Plans a sheet of at most three tasks and prints the answer, and the plan where it is one of two tasks.
 fn print_case(sheet: &[u8]) {
-    let mut buffer = [0u8; 18];
+    let mut buffer = [0u8; 21];
     let answer = plan(sheet, &mut buffer);
     match answer {
         Answer::Accepted => {

@@ -9,7 +9,7 @@ use plan_text::printed::write_plan;
 fn print_plan() {
     let mut sheet = io::buffer();
     let n = io::read_full(STDIN_FILENO, &mut sheet);
-    let mut text = [0u8; 416];
+    let mut text = [0u8; 480];
     let len = write_plan(&sheet[..n], &mut text);
     if !io::write_all(STDOUT_FILENO, &text[..len]) {
         io::write_all(

@@ -32,16 +32,18 @@ field-length k n rest h =
     let digits = decimal-length k n h in
     rw (length-append (decimal n) (mark (length rest) ∷ line rest)) (omega arith)
 
--- The line of six numbers, five of at most three digits and the last of at most five.
-six-length : (a b c d e v : ℕ) → a < 10 ^ 3 → b < 10 ^ 3 → c < 10 ^ 3 → d < 10 ^ 3 → e < 10 ^ 3 → v < 10 ^ 5 → length (line (a ∷ b ∷ c ∷ d ∷ e ∷ v ∷ [])) ≤ 26
-six-length a b c d e v ha hb hc hd he hv = omega (
+-- The line of seven numbers: five of at most three digits, one of at most five, and one of at most three.
+seven-length : (a b c d e v r : ℕ) → a < 10 ^ 3 → b < 10 ^ 3 → c < 10 ^ 3 → d < 10 ^ 3 → e < 10 ^ 3 → v < 10 ^ 5 → r < 10 ^ 3 →
+    length (line (a ∷ b ∷ c ∷ d ∷ e ∷ v ∷ r ∷ [])) ≤ 30
+seven-length a b c d e v r ha hb hc hd he hv hr = omega (
   arith,
-  field-length 2 a (b ∷ c ∷ d ∷ e ∷ v ∷ []) ha,
-  field-length 2 b (c ∷ d ∷ e ∷ v ∷ []) hb,
-  field-length 2 c (d ∷ e ∷ v ∷ []) hc,
-  field-length 2 d (e ∷ v ∷ []) hd,
-  field-length 2 e (v ∷ []) he,
-  field-length 4 v [] hv,
+  field-length 2 a (b ∷ c ∷ d ∷ e ∷ v ∷ r ∷ []) ha,
+  field-length 2 b (c ∷ d ∷ e ∷ v ∷ r ∷ []) hb,
+  field-length 2 c (d ∷ e ∷ v ∷ r ∷ []) hc,
+  field-length 2 d (e ∷ v ∷ r ∷ []) hd,
+  field-length 2 e (v ∷ r ∷ []) he,
+  field-length 4 v (r ∷ []) hv,
+  field-length 2 r [] hr,
 )
 
 -- What f gives for the numbers of a range, each of at most b bytes.
@@ -53,9 +55,9 @@ each-length f b first (suc n) h =
     let rest = each-length f b (suc first) n (λ i l. h i (omega arith)) in
     rw (length-append (f first) (each (range (suc first) n) f)) (omega arith)
 
--- The lines of tasks whose blocks and V are small.
+-- The lines of tasks whose blocks, V and remainders are small.
 module _ (n : ℕ) (allocations : List Allocation) (small : AllBounded allocations n) where
-  fields-length : (i : ℕ) → i < n → length (line (fieldsOf i (allocationAt allocations i))) ≤ 26
+  fields-length : (i : ℕ) → i < n → length (line (fieldsOf i (allocationAt allocations i))) ≤ 30
   unfolding fieldsOf
   fields-length i h =
       let few = small .few in
@@ -63,13 +65,14 @@ module _ (n : ℕ) (allocations : List Allocation) (small : AllBounded allocatio
       let typical = here .typical in
       let critical = here .critical in
       let word = here .two-bytes in
-      six-length i _ _ _ _ _ (omega arith) (omega arith) (omega arith) (omega arith) (omega arith) (omega arith)
+      let left = here .remainder in
+      seven-length i _ _ _ _ _ _ (omega arith) (omega arith) (omega arith) (omega arith) (omega arith) (omega arith) (omega arith)
 
   pub lines-length : length (planLines n allocations) ≤ room
   unfolding planLines
   lines-length =
       let few = small .few in
-      let all = each-length (λ i. line (fieldsOf i (allocationAt allocations i))) 26 0 n (λ i h. fields-length i (omega arith)) in
+      let all = each-length (λ i. line (fieldsOf i (allocationAt allocations i))) 30 0 n (λ i h. fields-length i (omega arith)) in
       omega arith
 
 -- The line of a refusal whose number and task are bytes.

@@ -11,8 +11,8 @@ use Rattle.allocation.specs.declared.allocate.Allocation.{Allocation}
 use Rattle.allocation.specs.Allocation.{allocationAt, allocationAnswer, allocatedOf}
 use Rattle.plan_text.specs.Lines.{blank, line}
 
--- S6.1: the six numbers of task i: itself, its block in the typical and in the critical mode (where it begins, and its
--- length; S5.4), and V (S4.5).
+-- S6.1: the seven numbers of task i: itself, its block in the typical and in the critical mode (where it begins, and its
+-- length; S5.4), V (S4.5) and the remainder (S4.6).
 unfoldable pub fieldsOf : ℕ → Allocation → List ℕ
 fieldsOf i a =
     i
@@ -21,6 +21,7 @@ fieldsOf i a =
     ∷ a .offset .critical
     ∷ a .share .critical
     ∷ a .«virtual_deadline»
+    ∷ a .remainder
     ∷ []
 
 -- S6.1: a line for each of n tasks, in their order.

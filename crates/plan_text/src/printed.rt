@@ -14,8 +14,8 @@ use allocation::allocate::Allocation;
 use allocation::allocate::allocate;
 use sheet::answer::Answer;
 
-// S6.1: task i, its typical offset and length, its critical offset and length, and V.
-fn fields_of(i: u8, a: Allocation) -> [u32; 6]
+// S6.1: task i, its typical offset and length, its critical offset and length, V, and the remainder.
+fn fields_of(i: u8, a: Allocation) -> [u32; 7]
     ensures { λ r. ⌜ r ≡ fieldsOf i a ⌝ }
 {
     [
@@ -25,6 +25,7 @@ fn fields_of(i: u8, a: Allocation) -> [u32; 6]
         a.offset.critical as u32,
         a.share.critical as u32,
         a.virtual_deadline,
+        a.remainder,
     ]
 }
 
@@ -79,7 +80,7 @@ fn copy(bytes: &[u8], len: usize, out: &mut [u8])
 }
 
 // S6.1, S6.2: writes the lines of a sheet's plan, or the line of its refusal, to the front of out, and answers the number of
-// their bytes, 416 at most. Where they do not fit, out stays as it is.
+// their bytes, 480 at most. Where they do not fit, out stays as it is.
 pub fn write_plan(sheet: &[u8], out: &mut [u8]) -> usize
     ensures counted { λ r. ⌜ r ≡ length (textOf (now (sheet .entry))) ⌝ }
     ensures written { λ _. ⌜ now (out .exit) ≡ writtenTo (now (out .entry)) (textOf (now (sheet .entry))) ⌝ }

@@ -4,12 +4,12 @@ ghost use mathlib.Core.List.{[]};
 ghost use Rattle.plan_text.specs.Decimal.{decimal};
 ghost use Rattle.plan_text.specs.means.Growth.{holding, withByte, withBytes};
 
-// Sixteen lines of 26 bytes.
-const ROOM: usize = 416;
+// Sixteen lines of 30 bytes.
+const ROOM: usize = 480;
 
 // The bytes of a text, and how many of them it has.
 pub struct Text {
-    pub bytes: [u8; 416],
+    pub bytes: [u8; 480],
     pub len: usize,
 }
 
@@ -18,7 +18,7 @@ pub fn empty() -> Text
     ensures { λ r. ⌜ r ≡ holding [] ⌝ }
 {
     Text {
-        bytes: [0u8; 416],
+        bytes: [0u8; 480],
         len: 0,
     }
 }

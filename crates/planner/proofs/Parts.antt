@@ -2,7 +2,7 @@
 use Prim.Native.Nat.{ℕ, _+_, _*_}
 use mathlib.Core.Path.{_≡_, refl, sym, ap, _∙_}
 use mathlib.Core.Bool.{Bool}
-use mathlib.Core.List.{List}
+use mathlib.Core.List.{List, [], _∷_}
 use native.Mathlib.Omega.{arith}
 use lib.ListN.{length}
 use lib.Seq.{sets}
@@ -11,7 +11,7 @@ use Rattle.basics.specs.Lists.{range, each}
 use Rattle.basics.proofs.Bytes.{sets-append}
 use Rattle.allocation.specs.declared.allocate.Allocation.{Allocation}
 use Rattle.allocation.specs.Allocation.{allocationAt}
-use Rattle.planner.specs.Plan.{blockOf, blockBytes, virtualBytes}
+use Rattle.planner.specs.Plan.{blockOf, blockBytes, virtualBytes, remainderBytes}
 use Rattle.planner.proofs.Bytes.{each-next, part-length}
 
 -- The bytes of task i behind those of i tasks.
@@ -42,3 +42,13 @@ module _ (allocations : List Allocation) where
       ≡ sets old from (virtualBytes (i + 1) allocations)
   unfolding virtualBytes u16Bytes
   virtuals-more = part-more (λ j. u16Bytes (allocationAt allocations j .«virtual_deadline»)) 2 (λ j. refl)
+
+  pub remainders-length : (n : ℕ) → length (remainderBytes n allocations) ≡ n
+  unfolding remainderBytes
+  remainders-length n = part-length (λ j. allocationAt allocations j .remainder ∷ []) 1 (λ j. refl) n ∙ omega arith
+
+  pub remainders-more : (old : List ℕ) (from i place : ℕ) → place ≡ from + i →
+      sets (sets old from (remainderBytes i allocations)) place (allocationAt allocations i .remainder ∷ [])
+      ≡ sets old from (remainderBytes (i + 1) allocations)
+  unfolding remainderBytes
+  remainders-more old from i place here = part-more (λ j. allocationAt allocations j .remainder ∷ []) 1 (λ j. refl) old from i place (omega arith)

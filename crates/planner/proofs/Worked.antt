@@ -13,9 +13,9 @@ use Rattle.sheet.specs.Level.{levelLawful, isLow, bytesBeforeMasks, figureLimit
 use Rattle.sheet.specs.Rules.{shapeLawful, inRange, inOrder, lowLawful, figuresLawful, maskLawful, masksLawful, isHeavy, taskAnswer}
 use Rattle.reader.proofs.Worked.{sheetABE}
 use Rattle.reader.specs.Reading.{headerLawful, headerAnswer, placeAnswer, endAnswer, shapeAnswer, recordAnswer, readOf, readAnswer}
-use Rattle.shares.specs.Deadline.{virtualDeadlineOf}
+use Rattle.shares.specs.Deadline.{virtualDeadlineOf, remainderOf}
 use Rattle.shares.specs.Low.{ceilDiv, lowShare, hasLowShare}
-use Rattle.shares.specs.Test.{excess, demand, passes, virtualDeadline}
+use Rattle.shares.specs.Test.{excess, demand, passes, divisionOf, virtualDeadline}
 use Rattle.basics.specs.Order.{leastBy}
 use Rattle.allocation.specs.Choice.{lowOptions, pairsWithin, highOptions, optionsOf, fits, fitting, chosen}
 use Rattle.shares.specs.Totals.{shareAt}
@@ -25,7 +25,7 @@ use Rattle.keeping.specs.Kept.{lowNumbers, holdable, firstHeld, typicalShareAt,
 use Rattle.allocation.specs.Allocation.{chosenFor, shareAnswer, choiceAnswer, allocationOf, allocationsOf, allocationAt, allocationAnswer, allocatedOf, sharesWith, sharesOf}
 use Rattle.allocation.specs.declared.allocate.Allocation.{Allocation}
 use Rattle.allocation.proofs.Worked.{pair, on, ab}
-use Rattle.planner.specs.Plan.{blockBytes, virtualBytes, planBytes, planAnswer, planned}
+use Rattle.planner.specs.Plan.{blockBytes, virtualBytes, remainderBytes, planBytes, planAnswer, planned}
 
 -- The sheet of a high task with V = 600 at typical share 1 (D 900, CN 600, CO 1000, LN and LO 200) and of a low task with the
 -- share 2, a node each, on M processors.
@@ -37,9 +37,9 @@ sheetOn M =
     ∷ 1 ∷ 1 ∷ 132 ∷ 3 ∷ 88 ∷ 2 ∷ 232 ∷ 3 ∷ 200 ∷ 0 ∷ 200 ∷ 0 ∷ 0 ∷ 0 ∷ 0 ∷ 0
     ∷ 0 ∷ 1 ∷ 18 ∷ 0 ∷ 30 ∷ 0 ∷ 30 ∷ 0 ∷ 6 ∷ 0 ∷ 6 ∷ 0 ∷ 0 ∷ 0 ∷ 0 ∷ 0 ∷ []
 
--- Their plan: A has (1, 2) and V 9, B has (3, 4) and V 6.
+-- Their plan: A has (1, 2) and V 9, with nothing left; B has (3, 4) and V 6, with 1 left.
 abbrev pub planAB : List ℕ
-planAB = typical ++ (critical ++ virtuals)
+planAB = typical ++ (critical ++ (virtuals ++ remainders))
   where
     typical : List ℕ
     typical = 0 ∷ 1 ∷ 1 ∷ 3 ∷ []
@@ -49,6 +49,9 @@ planAB = typical ++ (critical ++ virtuals)
 
     virtuals : List ℕ
     virtuals = 9 ∷ 0 ∷ 6 ∷ 0 ∷ []
+
+    remainders : List ℕ
+    remainders = 0 ∷ 1 ∷ []
 
 -- What is fixed for three tasks with the shares (1, 3), (2, 2) and (2, 0).
 abbrev three : List Allocation
@@ -69,25 +72,25 @@ pub record Worked : Type 0 where
   -- S3.3: a sheet's refusals come in the order 7, 8, 9, also where the buffer has no byte.
   pub first-seven : planAnswer (sheetOn 1) 0 ≡ Refused 7 0
   pub then-eight : planAnswer (sheetOn 2) 0 ≡ Refused 8 255
-  pub then-nine : planAnswer (sheetOn 3) 11 ≡ Refused 9 255
-  pub room-enough : planAnswer (sheetOn 3) 12 ≡ Accepted
-  -- S5.5: typical blocks, critical blocks, V; the byte behind them stays. A refusal leaves the buffer as it was.
-  pub plan-bytes : planned (sheetOn 3) (replicate 13 7)
-      ≡ 0 ∷ 1 ∷ 1 ∷ 2 ∷ 0 ∷ 2 ∷ 2 ∷ 0 ∷ 88 ∷ 2 ∷ 0 ∷ 0 ∷ 7 ∷ []
+  pub then-nine : planAnswer (sheetOn 3) 13 ≡ Refused 9 255
+  pub room-enough : planAnswer (sheetOn 3) 14 ≡ Accepted
+  -- S5.5: typical blocks, critical blocks, V, remainders; the byte behind them stays. A refusal leaves the buffer as it was.
+  pub plan-bytes : planned (sheetOn 3) (replicate 15 7)
+      ≡ 0 ∷ 1 ∷ 1 ∷ 2 ∷ 0 ∷ 2 ∷ 2 ∷ 0 ∷ 88 ∷ 2 ∷ 0 ∷ 0 ∷ 0 ∷ 0 ∷ 7 ∷ []
   -- S5.6: on 4 processors the high task leaves two over, and the low one is kept.
-  pub plan-kept : planned (sheetOn 4) (replicate 13 7)
-      ≡ 0 ∷ 1 ∷ 1 ∷ 2 ∷ 0 ∷ 2 ∷ 2 ∷ 2 ∷ 88 ∷ 2 ∷ 0 ∷ 0 ∷ 7 ∷ []
-  pub left-alone : planned (sheetOn 4) (replicate 11 7) ≡ replicate 11 7
+  pub plan-kept : planned (sheetOn 4) (replicate 15 7)
+      ≡ 0 ∷ 1 ∷ 1 ∷ 2 ∷ 0 ∷ 2 ∷ 2 ∷ 2 ∷ 88 ∷ 2 ∷ 0 ∷ 0 ∷ 0 ∷ 0 ∷ 7 ∷ []
+  pub left-alone : planned (sheetOn 4) (replicate 13 7) ≡ replicate 13 7
   -- S11.11: A and B on 8 and on 6 processors.
   pub on-eight : planFor (on 8 ab) ≡ planAB
   pub on-six : planFor (on 6 ab) ≡ planAB
   -- S11.14: the plan of a sheet of 62 bytes, and refusal 9 for a buffer that is a byte short.
-  pub sheet-plan : planned (sheetABE 8) (replicate 18 255)
-      ≡ 0 ∷ 1 ∷ 1 ∷ 2 ∷ 3 ∷ 5 ∷ 0 ∷ 2 ∷ 2 ∷ 6 ∷ 8 ∷ 0 ∷ 9 ∷ 0 ∷ 7 ∷ 0 ∷ 0 ∷ 0 ∷ []
-  pub sheet-room : planAnswer (sheetABE 8) 17 ≡ Refused 9 255
+  pub sheet-plan : planned (sheetABE 8) (replicate 21 255)
+      ≡ 0 ∷ 1 ∷ 1 ∷ 2 ∷ 3 ∷ 5 ∷ 0 ∷ 2 ∷ 2 ∷ 6 ∷ 8 ∷ 0 ∷ 9 ∷ 0 ∷ 7 ∷ 0 ∷ 0 ∷ 0 ∷ 0 ∷ 1 ∷ 0 ∷ []
+  pub sheet-room : planAnswer (sheetABE 8) 20 ≡ Refused 9 255
 
 pub worked : Worked
-unfolding byteAt u16At u32At processorsOf countOf offsetOf lengthOf placeOf cellsFrom levelAt nodesAt figuresAt masksAt taskAt zeroTask tasksBelow taskSetOf taskIn levelLawful shapeLawful inRange inOrder lowLawful figuresLawful maskLawful allBelow masksLawful isHeavy taskAnswer firstOver headerLawful headerAnswer placeAnswer endAnswer shapeAnswer recordAnswer readAnswer readOf virtualDeadlineOf isLow ceilDiv lowShare hasLowShare excess demand passes virtualDeadline range lowOptions pairsWithin highOptions optionsOf fits leastBy fitting chosen offsetIn chosenFor shareAnswer choiceAnswer lowNumbers holdable firstHeld typicalShareAt leftOver keptTasks keptShare withKept sharesWith sharesOf shareAt allocationOf allocationsOf allocationAt allocationAnswer allocatedOf blockBytes virtualBytes planBytes planAnswer planned isHigh figureLimit bytesBeforeMasks u16Bytes
+unfolding byteAt u16At u32At processorsOf countOf offsetOf lengthOf placeOf cellsFrom levelAt nodesAt figuresAt masksAt taskAt zeroTask tasksBelow taskSetOf taskIn levelLawful shapeLawful inRange inOrder lowLawful figuresLawful maskLawful allBelow masksLawful isHeavy taskAnswer firstOver headerLawful headerAnswer placeAnswer endAnswer shapeAnswer recordAnswer readAnswer readOf virtualDeadlineOf remainderOf isLow ceilDiv lowShare hasLowShare excess demand passes divisionOf virtualDeadline range lowOptions pairsWithin highOptions optionsOf fits leastBy fitting chosen offsetIn chosenFor shareAnswer choiceAnswer lowNumbers holdable firstHeld typicalShareAt leftOver keptTasks keptShare withKept sharesWith sharesOf shareAt allocationOf allocationsOf allocationAt allocationAnswer allocatedOf blockBytes virtualBytes remainderBytes planBytes planAnswer planned isHigh figureLimit bytesBeforeMasks u16Bytes
 worked =
     record {
       typical-blocks = refl;

@@ -34,15 +34,23 @@ blockBytes mode n allocations = each (range 0 n) (λ i. blockOf mode (allocation
 unfoldable pub virtualBytes : ℕ → List Allocation → List ℕ
 virtualBytes n allocations = each (range 0 n) (λ i. u16Bytes (allocationAt allocations i .«virtual_deadline»))
 
--- S5.5: the typical blocks, the critical blocks and the virtual deadlines of n tasks, one behind the other: 6n bytes.
+-- S5.5: the remainders of n tasks, a byte for each.
+unfoldable pub remainderBytes : ℕ → List Allocation → List ℕ
+remainderBytes n allocations = each (range 0 n) (λ i. allocationAt allocations i .remainder ∷ [])
+
+-- S5.5: the typical blocks, the critical blocks, the virtual deadlines and the remainders of n tasks, one behind the other: 7n bytes.
 unfoldable pub planBytes : ℕ → List Allocation → List ℕ
-planBytes n allocations = blockBytes false n allocations ++ blockBytes true n allocations ++ virtualBytes n allocations
+planBytes n allocations =
+    blockBytes false n allocations
+    ++ blockBytes true n allocations
+    ++ virtualBytes n allocations
+    ++ remainderBytes n allocations
 
 -- S3.3: the refusals of the allocation, and then refusal 9, for a sheet and the length of the buffer.
 unfoldable pub planAnswer : List ℕ → ℕ → Answer
 planAnswer s room =
     allocationAnswer s
-    orElse refusedIf (ltb room (6 * allocatedOf s .count)) shortBuffer noTask
+    orElse refusedIf (ltb room (7 * allocatedOf s .count)) shortBuffer noTask
 
 -- S5.5 and S3.4: the plan goes to the front and what is behind it stays; a refusal leaves all as it was.
 abbrev pub writtenIf : Answer → List ℕ → List ℕ → List ℕ

@@ -23,8 +23,8 @@ fn put_pair(buffer: &mut [u8], at: usize, x: u8, y: u8)
     buffer[at + 1] = y;
 }
 
-// Task i's bytes in the three parts of a plan of n tasks: the typical blocks, the critical blocks, and the virtual deadlines, low byte
-// first.
+// Task i's bytes in the four parts of a plan of n tasks: the typical blocks, the critical blocks, the virtual deadlines, low byte first,
+// and the remainders.
 fn write_task(buffer: &mut [u8], n: usize, i: usize, a: Allocation)
     requires { ⌜ TaskFits n i (length (now buffer)) ⌝ }
     requires { ⌜ Bounded a ⌝ }
@@ -34,11 +34,12 @@ fn write_task(buffer: &mut [u8], n: usize, i: usize, a: Allocation)
     put_pair(buffer, 2 * i, a.offset.typical, a.share.typical);
     put_pair(buffer, 2 * n + 2 * i, a.offset.critical, a.share.critical);
     put_pair(buffer, 4 * n + 2 * i, (v % 256) as u8, (v / 256) as u8);
+    buffer[6 * n + i] = a.remainder as u8;
 }
 
-// The plan's 6n bytes, at the front of the buffer.
+// The plan's 7n bytes, at the front of the buffer.
 fn write_plan(buffer: &mut [u8], allocations: [Allocation; 16], n: u8)
-    requires { ⌜ 6 * n ≤ length (now buffer) ⌝ }
+    requires { ⌜ 7 * n ≤ length (now buffer) ⌝ }
     requires { ⌜ AllBounded allocations n ⌝ }
     ensures { λ _. ⌜ now (buffer .exit) ≡ sets (now (buffer .entry)) 0 (planBytes n allocations) ⌝ }
 {
@@ -51,7 +52,7 @@ fn write_plan(buffer: &mut [u8], allocations: [Allocation; 16], n: u8)
     }
 }
 
-// Plan: the allocation's refusals, then 9, and then the plan's 6n bytes; a refusal writes nothing.
+// Plan: the allocation's refusals, then 9, and then the plan's 7n bytes; a refusal writes nothing.
 pub fn plan(sheet: &[u8], buffer: &mut [u8]) -> Answer
     ensures answered { λ r. ⌜ r ≡ planAnswer (now (sheet .entry)) (length (now (buffer .entry))) ⌝ }
     ensures says { λ r. ⌜ Says r (numberOf (planAnswer (now (sheet .entry)) (length (now (buffer .entry))))) (taskOf (planAnswer (now (sheet .entry)) (length (now (buffer .entry))))) ⌝ }
@@ -63,7 +64,7 @@ pub fn plan(sheet: &[u8], buffer: &mut [u8]) -> Answer
         return answer;
     }
     let n = allocated.count;
-    if buffer.len() < 6 * (n as usize) {
+    if buffer.len() < 7 * (n as usize) {
         return Answer::Refused(SHORT_BUFFER, NO_TASK);
     }
     let allocations = allocated.allocations;

@@ -13,21 +13,21 @@ use Rattle.plan_cases.proofs.accepted.Tie as tie
 
 -- The numbers after i bytes of the plan.
 abbrev numbersAt : List ℕ → ℕ → List ℕ
-numbersAt plan i = 0 ∷ noTask ∷ (take i plan ++ drop i (replicate 12 0))
+numbersAt plan i = 0 ∷ noTask ∷ (take i plan ++ drop i (replicate 14 0))
 
-one-more : (plan : List ℕ) (i : ℕ) → i < 12 → i < length plan → set (numbersAt plan i) (i + 2) (getD plan i 0) ≡ numbersAt plan (i + 1)
+one-more : (plan : List ℕ) (i : ℕ) → i < 14 → i < length plan → set (numbersAt plan i) (i + 2) (getD plan i 0) ≡ numbersAt plan (i + 1)
 one-more plan i h g =
     let place : i + 2 ≡ suc (suc i) = omega arith in
-    rw place (ap (λ (l : List ℕ). 0 ∷ noTask ∷ l) (copy-step plan (replicate 12 0) i g h))
+    rw place (ap (λ (l : List ℕ). 0 ∷ noTask ∷ l) (copy-step plan (replicate 14 0) i g h))
 
-no-more : (plan : List ℕ) (i : ℕ) → i ≡ 12 → numbersAt plan i ≡ 0 ∷ noTask ∷ take 12 plan
-no-more plan i e = rw (e, append-nil (take 12 plan))
+no-more : (plan : List ℕ) (i : ℕ) → i ≡ 14 → numbersAt plan i ≡ 0 ∷ noTask ∷ take 14 plan
+no-more plan i e = rw (e, append-nil (take 14 plan))
 
 abbrev Inv-loop : tie.InvT-loop
-Inv-loop plan numbers₀ i₀ numbers i = (i ≤ 12) × (numbers ≡ numbersAt plan i)
+Inv-loop plan numbers₀ i₀ numbers i = (i ≤ 14) × (numbers ≡ numbersAt plan i)
 
 abbrev μ-loop : tie.MeasureT-loop
-μ-loop plan numbers₀ i₀ numbers i = 12 - i
+μ-loop plan numbers₀ i₀ numbers i = 14 - i
 
 wide-requires : tie.Need-wide-requires Inv-loop μ-loop
 wide-requires c κs = search needs
@@ -63,7 +63,7 @@ loop-again : tie.Need-loop-again Inv-loop μ-loop
 loop-again c =
     let loop = c .before .before .loop in
     let plan = c .before .before .before .before .args .t1 in
-    let long : 18 ≡ length plan = search needs in
+    let long : 21 ≡ length plan = search needs in
     (omega arith, rw (c .wide2 .ensures, loop .inv .1) (one-more plan (loop .i) (omega arith) (omega arith)))
 
 returns : tie.Need-returns Inv-loop μ-loop

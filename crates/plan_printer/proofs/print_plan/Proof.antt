@@ -34,7 +34,7 @@ array-share-prefix-text c = search needs
 slice-aggregate-write-all : tie.Need-slice-aggregate-write-all
 slice-aggregate-write-all c =
     let call = c .before .before .write-plan in
-    let long : 416 ≡ length (call .last .1 .0) = search needs in
+    let long : 480 ≡ length (call .last .1 .0) = search needs in
     sym (length-take-le (call .result) (call .last .1 .0) (omega arith))
 
 write-all-requires : tie.Need-write-all-requires

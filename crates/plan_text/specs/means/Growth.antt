@@ -1,5 +1,5 @@
--- A text that grows at its end, in an array of 416 bytes. That is sixteen lines (S2.2) of six numbers, five of at most three
--- digits and one of at most five, each with a byte behind it: 26 bytes.
+-- A text that grows at its end, in an array of 480 bytes. That is sixteen lines (S2.2) of seven numbers, six of at most three
+-- digits and one of at most five, each with a byte behind it: 30 bytes.
 use Prim.Native.Nat.{ℕ, _+_, _-_, _≤_}
 use mathlib.Core.Path.{_≡_}
 use mathlib.Core.Bool.{cond}
@@ -10,7 +10,7 @@ use Rattle.plan_text.specs.declared.text.Text.{Text}
 
 -- The room of a text, in bytes.
 abbrev pub room : ℕ
-room = 416
+room = 480
 
 -- The text of bytes that fit.
 unfoldable pub holding : List ℕ → Text

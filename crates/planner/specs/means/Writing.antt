@@ -1,7 +1,7 @@
 -- What only the writing of a plan needs: that a task's bytes fit the buffer, and where they go.
 use Prim.Native.Nat.{ℕ, _+_, _*_, _≤_, _<_}
 use mathlib.Core.Bool.{true, false}
-use mathlib.Core.List.{List}
+use mathlib.Core.List.{List, [], _∷_}
 use lib.Seq.{sets}
 use Rattle.basics.specs.Numbers.{u16Bytes}
 use Rattle.allocation.specs.declared.allocate.Allocation.{Allocation}
@@ -11,12 +11,15 @@ use Rattle.planner.specs.Plan.{blockOf}
 pub record TaskFits (n i room : ℕ) : Type 0 where
   pub known : i < n
   pub few : n ≤ 16
-  pub inside : 6 * n ≤ room
+  pub inside : 7 * n ≤ room
 
--- A buffer with the bytes of task i in the three parts of a plan of n tasks.
+-- A buffer with the bytes of task i in the four parts of a plan of n tasks.
 unfoldable pub withTask : ℕ → ℕ → Allocation → List ℕ → List ℕ
 withTask n i a buffer =
     sets
+    (sets
     (sets (sets buffer (2 * i) (blockOf false a)) (2 * n + 2 * i) (blockOf true a))
     (4 * n + 2 * i)
-    (u16Bytes (a .«virtual_deadline»))
+    (u16Bytes (a .«virtual_deadline»)))
+    (6 * n + i)
+    (a .remainder ∷ [])

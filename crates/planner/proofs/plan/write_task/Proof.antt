@@ -1,5 +1,7 @@
 -- `plan::write_task` meets its contract: the stores are those of the definition.
+use mathlib.Core.Path.{refl, _∙_}
 use native.Mathlib.Omega.{arith}
+use lib.ListN.{length-set}
 use denote.Ref.{now}
 use borrow.Author.Needs.{needs}
 use Rattle.planner.proofs.Plans.{task-set}
@@ -42,8 +44,17 @@ cast-put-pair-2 c = search needs
 put-pair-requires-3 : tie.Need-put-pair-requires-3
 put-pair-requires-3 c κs = search needs
 
-same-length : tie.Need-same-length
-same-length c = search needs
+cast-buffer : tie.Need-cast-buffer
+cast-buffer c = search needs
+
+mul-buffer : tie.Need-mul-buffer
+mul-buffer c = search needs
+
+add-buffer : tie.Need-add-buffer
+add-buffer c = search needs
+
+slice-write-buffer : tie.Need-slice-write-buffer
+slice-write-buffer c = search needs
 
 -- From each part to the one before it, and from the first to the start.
 abbrev critical-at : tie.After-put-pair3 → tie.After-put-pair2
@@ -55,16 +66,23 @@ typical-at c = c .before .before .before .before
 abbrev start-at : tie.After-put-pair → tie.Start
 start-at c = c .before .before .before
 
+same-length : tie.Need-same-length
+same-length c =
+    let virtuals = c .before .before .before in
+    let critical = critical-at virtuals in
+    simp length-set (virtuals .put-pair3 .kept .0 ∙ critical .put-pair2 .kept .0 ∙ typical-at critical .put-pair .kept .0)
+
 returns : tie.Need-returns
 returns c =
-    let virtuals = c .before .before in
+    let virtuals = c .before .before .before in
     let critical = critical-at virtuals in
     let typical = typical-at critical in
     let start = start-at typical in
-    task-set (start .args .n) (start .args .i) (start .args .a) (now (start .args .buffer)) _ _ _ (start .pre .1 .two-bytes)
+    task-set (start .args .n) (start .args .i) (start .args .a) (now (start .args .buffer)) _ _ _ _ (start .pre .1 .two-bytes)
     (typical .put-pair .ensures) (omega arith)
     (critical .put-pair2 .ensures) (omega arith)
     (virtuals .put-pair3 .ensures) (omega arith)
+    refl (omega arith)
 
 pub write-task-spec : {M : Type 1} → statement M
 write-task-spec =
@@ -82,5 +100,9 @@ write-task-spec =
     cast-put-pair
     cast-put-pair-2
     put-pair-requires-3
+    cast-buffer
+    mul-buffer
+    add-buffer
+    slice-write-buffer
     same-length
     returns)
