@@ -5,7 +5,7 @@ use dibwunek_tests::makers::random::Random;
 use dibwunek_tests::makers::sheets::{plausible, valid, Draft, CASE_14};
 use dibwunek_tests::makers::tight;
 use dibwunek_tests::reference::answers::Reply;
-use dibwunek_tests::reference::planner::{self, plan_into, Pair};
+use dibwunek_tests::reference::planner::{self, plan_into, Pair, TASK_BYTES};
 use dibwunek_tests::reference::reader::{Level, Sheet, Task};
 
 /// Compares the two planners on a sheet and a buffer of random bytes, and gives their answer.
@@ -19,9 +19,9 @@ fn check(sheet: &[u8], length: usize, random: &mut Random, counts: &mut Counts) 
     reply
 }
 
-/// A buffer's length near the 6n bytes of a plan.
+/// A buffer's length near the 7n bytes of a plan.
 fn near(random: &mut Random, count: usize) -> usize {
-    let needed = 6 * count;
+    let needed = TASK_BYTES * count;
     match random.within(0..=9) {
         0 => needed - 1,
         1 => random.within(0..=needed),
@@ -107,7 +107,7 @@ fn totals_beyond_a_byte() {
     for _ in 0..1_500 {
         let sheet = tight::wide(&mut random);
         let most = usize::from(sheet.processors);
-        let reply = check(&Draft::of(&sheet).bytes(), 6 * sheet.tasks.len(), &mut random, &mut counts);
+        let reply = check(&Draft::of(&sheet).bytes(), TASK_BYTES * sheet.tasks.len(), &mut random, &mut counts);
         if reply.number() == 7 {
             continue;
         }
@@ -180,11 +180,49 @@ fn every_length_of_buffer() {
         let sheet = Sheet { processors: 64, tasks };
         let processors = tight::least_processors(&sheet).unwrap_or(32);
         let sheet = bytes(processors, &sheet.tasks);
-        for length in (0..=6 * count + 14).chain([255, 256, 257, 4_096]) {
+        for length in (0..=TASK_BYTES * count + 16).chain([255, 256, 257, 4_096]) {
             check(&sheet, length, &mut random, &mut counts);
         }
     }
     counts.close([" 0", " 9"], 200);
+}
+
+/// What the bytes of a plan of n tasks give task i: its typical share, V and the remainder.
+fn rounded_in(plan: &[u8], n: usize, i: usize) -> (usize, usize, usize) {
+    let at = 4 * n + 2 * i;
+    (plan[2 * i + 1].into(), u16::from_le_bytes([plan[at], plan[at + 1]]).into(), plan[6 * n + i].into())
+}
+
+/// S4.6 on the proved planner's bytes: a·(V − LN) and the remainder are CN − LN, and the remainder is less than a.
+#[test]
+fn remainders() {
+    let mut random = Random::of_test("remainders");
+    let mut counts = Counts::new("remainders");
+    for count in (1..=16).cycle().take(1_600) {
+        let mut sheet = tight::sheet(&mut random, count);
+        sheet.processors = random.within(1..=64) as u8;
+        let mut plan = random.bytes(TASK_BYTES * count);
+        if planning::plan(&Draft::of(&sheet).bytes(), &mut plan) != Reply::Done {
+            continue;
+        }
+        for (i, task) in sheet.tasks.iter().enumerate() {
+            let (a, v, left) = rounded_in(&plan, count, i);
+            if task.level == Level::Low {
+                assert_eq!((v, left), (0, 0), "task {i} of {sheet:?}");
+                counts.add("low");
+                continue;
+            }
+            let [cn, ln] = [task.figures.cn, task.figures.ln].map(usize::from);
+            assert!(left < a && ln <= v && a * (v - ln) + left == cn - ln, "task {i} of {sheet:?}: {a}, {v}, {left}");
+            counts.add(match (a, left) {
+                (1, _) => "one processor",
+                (_, 0) => "nothing left",
+                (a, left) if left + 1 == a => "a tick's work less one",
+                _ => "less",
+            });
+        }
+    }
+    counts.close(["low", "one processor", "nothing left", "a tick's work less one", "less"], 100);
 }
 
 #[test]
@@ -227,18 +265,18 @@ fn cases_11_12_and_14() {
     let [a, b, e] = [14, 30, 46].map(|at| CASE_14[at..at + 16].to_vec());
     let plan = |processors, records: &[&Vec<u8>]| {
         let draft = Draft { processors, records: records.iter().map(|&record| record.clone()).collect() };
-        let mut buffer = vec![77; 20];
+        let mut buffer = vec![77; 24];
         (planning::plan(&draft.bytes(), &mut buffer), buffer)
     };
-    let refused = |number, task| (Reply::Refused(number, task), vec![77; 20]);
-    let of_11 = [&[0, 1, 1, 3, 0, 2, 2, 4, 9, 0, 6, 0][..], &[77; 8]].concat();
+    let refused = |number, task| (Reply::Refused(number, task), vec![77; 24]);
+    let of_11 = [&[0, 1, 1, 3, 0, 2, 2, 4, 9, 0, 6, 0, 0, 1][..], &[77; 10]].concat();
     for processors in [6, 8] {
         assert_eq!(plan(processors, &[&a, &b]), (Reply::Done, of_11.clone()));
     }
     assert_eq!(plan(5, &[&a, &b]), refused(8, 255));
     assert_eq!(plan(3, &[&a, &b]), refused(7, 1));
     assert_eq!(plan(7, &[&a, &b, &e]), refused(8, 255));
-    let of_14 = vec![0, 1, 1, 2, 3, 5, 0, 2, 2, 6, 8, 0, 9, 0, 7, 0, 0, 0, 77, 77];
+    let of_14 = vec![0, 1, 1, 2, 3, 5, 0, 2, 2, 6, 8, 0, 9, 0, 7, 0, 0, 0, 0, 1, 0, 77, 77, 77];
     assert_eq!(plan(8, &[&a, &b, &e]), (Reply::Done, of_14));
 }
 
@@ -249,19 +287,19 @@ fn kept_tasks_by_hand() {
     let f = [&e[..4], &[30, 0, 30, 0], &e[8..]].concat();
     let plan = |processors, records: &[&Vec<u8>]| {
         let draft = Draft { processors, records: records.iter().map(|&record| record.clone()).collect() };
-        let mut buffer = vec![77; 6 * records.len()];
+        let mut buffer = vec![77; TASK_BYTES * records.len()];
         assert_eq!(planning::plan(&draft.bytes(), &mut buffer), Reply::Done);
         buffer
     };
     for processors in [7, 8] {
-        assert_eq!(plan(processors, &[&a, &e]), [0, 1, 1, 5, 0, 2, 2, 5, 9, 0, 0, 0], "5 or 6 are left over");
+        assert_eq!(plan(processors, &[&a, &e]), [0, 1, 1, 5, 0, 2, 2, 5, 9, 0, 0, 0, 0, 0], "5 or 6 are left over");
     }
-    assert_eq!(plan(6, &[&a, &e]), [0, 1, 1, 5, 0, 2, 2, 0, 9, 0, 0, 0], "4 are");
+    assert_eq!(plan(6, &[&a, &e]), [0, 1, 1, 5, 0, 2, 2, 0, 9, 0, 0, 0, 0, 0], "4 are");
     assert_eq!(
         plan(8, &[&e, &a, &f]),
-        [0, 5, 5, 1, 6, 2, 0, 0, 0, 2, 2, 2, 0, 0, 9, 0, 0, 0],
+        [0, 5, 5, 1, 6, 2, 0, 0, 0, 2, 2, 2, 0, 0, 9, 0, 0, 0, 0, 0, 0],
         "of E and F the smaller"
     );
-    let first_two = [0, 2, 2, 2, 4, 1, 5, 2, 0, 2, 2, 2, 4, 2, 6, 0, 0, 0, 0, 0, 9, 0, 0, 0];
+    let first_two = [0, 2, 2, 2, 4, 1, 5, 2, 0, 2, 2, 2, 4, 2, 6, 0, 0, 0, 0, 0, 9, 0, 0, 0, 0, 0, 0, 0];
     assert_eq!(plan(7, &[&f, &f, &a, &f]), first_two, "of three alike the first two");
 }

@@ -43,7 +43,7 @@ fn check(input: &[u8], counts: &mut Counts) {
 
 #[test]
 fn case_14() {
-    assert_eq!(run(&[&CASE_14]), "0 0 1 0 2 9\n1 1 2 2 6 7\n2 3 5 8 0 0\n");
+    assert_eq!(run(&[&CASE_14]), "0 0 1 0 2 9 0\n1 1 2 2 6 7 1\n2 3 5 8 0 0 0\n");
     let with_processors = |processors| [&[processors], &CASE_14[1..]].concat();
     assert_eq!(run(&[&with_processors(7)]), "refused 8 255\n");
     assert_eq!(run(&[&with_processors(3)]), "refused 7 1\n");

@@ -19,6 +19,8 @@ pub struct Planned {
     pub shares: Pair,
     /// V.
     pub virtual_deadline: u16,
+    /// What is left of CN − LN where V is rounded down.
+    pub remainder: u8,
 }
 
 /// A plan, a task after the other.
@@ -31,6 +33,8 @@ pub struct Plan {
     pub left: usize,
 }
 
+/// The bytes of a plan, for each task.
+pub const TASK_BYTES: usize = 7;
 /// The bytes that the printer takes as the sheet.
 pub const PRINTER_INPUT: usize = 4_096;
 
@@ -41,8 +45,10 @@ pub fn plan(sheet: &Sheet) -> Result<Plan, Refusal> {
     for task in kept(&low_shares(sheet, &choice), left) {
         choice.pairs[task].critical = choice.pairs[task].typical;
     }
-    let planned =
-        |(task, &shares): (&Task, &Pair)| Planned { shares, virtual_deadline: virtual_deadline(task, shares.typical) };
+    let planned = |(task, &shares): (&Task, &Pair)| {
+        let (virtual_deadline, remainder) = rounded(task, shares.typical);
+        Planned { shares, virtual_deadline, remainder }
+    };
     let tasks = sheet.tasks.iter().zip(&choice.pairs).map(planned).collect();
     Ok(Plan { tasks, ties: choice.ways, left })
 }
@@ -133,20 +139,21 @@ pub fn printed(input: &[u8]) -> String {
 }
 
 impl Plan {
-    /// The 6n bytes: n typical pairs (offset, length), n critical pairs, n V.
+    /// The 7n bytes: n typical pairs (offset, length), n critical pairs, n V, n remainders.
     pub fn bytes(&self) -> Vec<u8> {
         let block = |(offset, length): (usize, usize)| [offset as u8, length as u8];
         let typical = self.typical_blocks().into_iter().flat_map(block);
         let critical = self.critical_blocks().into_iter().flat_map(block);
         let deadlines = self.tasks.iter().flat_map(|task| task.virtual_deadline.to_le_bytes());
-        typical.chain(critical).chain(deadlines).collect()
+        let remainders = self.tasks.iter().map(|task| task.remainder);
+        typical.chain(critical).chain(deadlines).chain(remainders).collect()
     }
 
     fn lines(&self) -> String {
         let blocks = self.typical_blocks().into_iter().zip(self.critical_blocks());
         let line = |(i, (task, (typical, critical))): (usize, (&Planned, _))| {
             let ((t, typical), (c, critical)): ((usize, usize), (usize, usize)) = (typical, critical);
-            format!("{i} {t} {typical} {c} {critical} {}\n", task.virtual_deadline)
+            format!("{i} {t} {typical} {c} {critical} {} {}\n", task.virtual_deadline, task.remainder)
         };
         self.tasks.iter().zip(blocks).enumerate().map(line).collect()
     }
@@ -210,13 +217,19 @@ pub fn least_deadline(figures: Figures, Pair { typical, critical }: Pair) -> usi
     ((needed + a * b - 1) / (a * b)) as usize
 }
 
-/// V: LN + (CN − LN) / a rounded down; 0 for a low task.
-fn virtual_deadline(task: &Task, typical: usize) -> u16 {
-    let Figures { cn, ln, .. } = task.figures;
-    match task.level {
-        Level::Low => 0,
-        Level::High => ln + (cn - ln) / typical as u16,
+/// V and the remainder: LN, and a tick for each time that a can be taken off CN − LN; then less than a is left. A low
+/// task has 0 and 0.
+fn rounded(task: &Task, typical: usize) -> (u16, u8) {
+    if task.level == Level::Low {
+        return (0, 0);
     }
+    let Figures { cn, ln, .. } = task.figures;
+    let (mut ticks, mut left) = (ln, usize::from(cn - ln));
+    while left >= typical {
+        ticks += 1;
+        left -= typical;
+    }
+    (ticks, left as u8)
 }
 
 /// The least critical total of all choices whose typical total is at most M, however large it is; none where no choice has
@@ -337,22 +350,23 @@ mod tests {
         };
         assert_eq!(case(A, 1, 1), (45, 52, false));
         assert_eq!(case(A, 1, 2), (90, 81, true));
-        assert_eq!([1, 2].map(|a| virtual_deadline(&high(A), a)), [9, 6]);
+        assert_eq!([1, 2, 6].map(|a| rounded(&high(A), a)), [(9, 0), (6, 1), (4, 5)]);
         assert_eq!(case(B, 2, 5), (540, 541, false));
         assert_eq!(case(B, 2, 6), (648, 640, true));
         assert_eq!(case(B, 3, 3), (486, 492, false));
         assert_eq!(case(B, 3, 4), (648, 637, true));
-        assert_eq!(virtual_deadline(&high(B), 3), 6);
+        assert_eq!([2, 3, 7].map(|a| rounded(&high(B), a)), [(7, 1), (6, 1), (5, 0)]);
+        assert_eq!(rounded(&low(E), 7), (0, 0));
         assert_eq!(case(B, 1, 26), (1404, 1405, false));
         assert_eq!(case(B, 1, 27), (1458, 1458, true));
-        let low = |c| low_share(Figures { d: 18, cn: c, co: c, ln: 6, lo: 6 });
-        assert_eq!([30, 31, 66].map(low), [Some(2), Some(3), Some(5)]);
+        let share = |c| low_share(Figures { d: 18, cn: c, co: c, ln: 6, lo: 6 });
+        assert_eq!([30, 31, 66].map(share), [Some(2), Some(3), Some(5)]);
     }
 
     #[test]
     fn case_11() {
         let tasks = [high(A), high(B)];
-        let bytes = vec![0, 1, 1, 3, 0, 2, 2, 4, 9, 0, 6, 0];
+        let bytes = vec![0, 1, 1, 3, 0, 2, 2, 4, 9, 0, 6, 0, 0, 1];
         assert_eq!(planned(8, &tasks), Ok(bytes.clone()));
         assert_eq!(planned(6, &tasks), Ok(bytes));
         assert_eq!(planned(5, &tasks), Err(Refusal::whole(Cause::NoFit)));
@@ -366,28 +380,28 @@ mod tests {
 
     #[test]
     fn case_14() {
-        assert_eq!(printed(&CASE_14), "0 0 1 0 2 9\n1 1 2 2 6 7\n2 3 5 8 0 0\n");
+        assert_eq!(printed(&CASE_14), "0 0 1 0 2 9 0\n1 1 2 2 6 7 1\n2 3 5 8 0 0 0\n");
         assert_eq!(printed(&CASE_14[..61]), "refused 2 2\n");
         assert_eq!(printed(&[]), "refused 1 255\n");
     }
 
     #[test]
     fn the_buffer_keeps_its_later_bytes_and_all_where_refused() {
-        let plan = [0, 1, 1, 2, 3, 5, 0, 2, 2, 6, 8, 0, 9, 0, 7, 0, 0, 0];
-        assert_eq!(plan_into(&CASE_14, &[7; 20]), (Reply::Done, [&plan[..], &[7, 7]].concat()));
-        assert_eq!(plan_into(&CASE_14, &[7; 18]), (Reply::Done, plan.to_vec()));
-        assert_eq!(plan_into(&CASE_14, &[7; 17]), (Reply::Refused(9, 255), vec![7; 17]));
-        assert_eq!(plan_into(&CASE_14[..61], &[7; 17]), (Reply::Refused(2, 2), vec![7; 17]));
+        let plan = [0, 1, 1, 2, 3, 5, 0, 2, 2, 6, 8, 0, 9, 0, 7, 0, 0, 0, 0, 1, 0];
+        assert_eq!(plan_into(&CASE_14, &[7; 23]), (Reply::Done, [&plan[..], &[7, 7]].concat()));
+        assert_eq!(plan_into(&CASE_14, &[7; 21]), (Reply::Done, plan.to_vec()));
+        assert_eq!(plan_into(&CASE_14, &[7; 20]), (Reply::Refused(9, 255), vec![7; 20]));
+        assert_eq!(plan_into(&CASE_14[..61], &[7; 20]), (Reply::Refused(2, 2), vec![7; 20]));
     }
 
     #[test]
     fn a_low_task_needs_room_for_its_span() {
         let with = |d, l| low(Figures { d, cn: 66, co: 66, ln: l, lo: l });
-        assert_eq!(planned(64, &[with(18, 17)]), Ok(vec![0, 49, 0, 49, 0, 0]));
+        assert_eq!(planned(64, &[with(18, 17)]), Ok(vec![0, 49, 0, 49, 0, 0, 0]));
         for task in [with(18, 18), with(18, 19)] {
             assert_eq!(planned(64, &[high(A), task]), Err(Refusal::of(Cause::NoShare, 1)));
         }
-        assert_eq!(planned(49, &[with(18, 17)]), Ok(vec![0, 49, 0, 49, 0, 0]));
+        assert_eq!(planned(49, &[with(18, 17)]), Ok(vec![0, 49, 0, 49, 0, 0, 0]));
         assert_eq!(planned(48, &[with(18, 17)]), Err(Refusal::of(Cause::NoShare, 0)));
     }
 
@@ -469,10 +483,10 @@ mod tests {
         let f = low(Figures { cn: 30, co: 30, ..E });
         let (a, e) = (high(A), low(E));
         let two = [a.clone(), e.clone()];
-        assert_eq!(planned(8, &two), Ok(vec![0, 1, 1, 5, 0, 2, 2, 5, 9, 0, 0, 0]), "6 are left over");
-        assert_eq!(planned(7, &two), Ok(vec![0, 1, 1, 5, 0, 2, 2, 5, 9, 0, 0, 0]), "just 5");
-        assert_eq!(planned(6, &two), Ok(vec![0, 1, 1, 5, 0, 2, 2, 0, 9, 0, 0, 0]), "4");
-        let three = vec![0, 5, 5, 1, 6, 2, 0, 0, 0, 2, 2, 2, 0, 0, 9, 0, 0, 0];
+        assert_eq!(planned(8, &two), Ok(vec![0, 1, 1, 5, 0, 2, 2, 5, 9, 0, 0, 0, 0, 0]), "6 are left over");
+        assert_eq!(planned(7, &two), Ok(vec![0, 1, 1, 5, 0, 2, 2, 5, 9, 0, 0, 0, 0, 0]), "just 5");
+        assert_eq!(planned(6, &two), Ok(vec![0, 1, 1, 5, 0, 2, 2, 0, 9, 0, 0, 0, 0, 0]), "4");
+        let three = vec![0, 5, 5, 1, 6, 2, 0, 0, 0, 2, 2, 2, 0, 0, 9, 0, 0, 0, 0, 0, 0];
         assert_eq!(planned(8, &[e, a, f]), Ok(three), "of 5 and 2 processors the 2");
     }
 
