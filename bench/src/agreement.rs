@@ -3,6 +3,7 @@ use crate::inputs::Input;
 use crate::plain;
 use dibwunek_tests::harness::boundary::STATE;
 use dibwunek_tests::harness::proved::calls as proved;
+use dibwunek_tests::reference::planner::TASK_BYTES;
 
 /// What a byte or a word is changed to.
 const VALUES: [u8; 5] = [0, 1, 33, 65, 255];
@@ -26,7 +27,7 @@ fn left(line: &[u32], call: impl Fn(&mut [u32]) -> u32) -> (u32, Vec<u32>) {
 }
 
 fn sheets_agree(input: &Input, sheet: &[u8]) {
-    for room in [6 * input.count, 6 * input.count - 1, 100] {
+    for room in [TASK_BYTES * input.count, TASK_BYTES * input.count - 1, TASK_BYTES * input.count + 9] {
         let plans = ran(room, |out| plain::plan(sheet, out));
         assert_eq!(plans, ran(room, |out| proved::plan(sheet, out)), "plan, {}: {sheet:?}", input.name);
     }

@@ -154,7 +154,7 @@ fn fresh(sheet: &[u8]) -> Result<State, Refusal> {
             nodes: task.nodes,
             masks: task.masks,
             deadline: task.figures.d,
-            virtual_deadline: virtual_deadline(task, share.typical),
+            virtual_deadline: virtual_deadline(task, share.typical).0,
             share,
             age: task.figures.d,
             ended: 0,

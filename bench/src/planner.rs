@@ -2,6 +2,7 @@
 use crate::sheet::{read, refusal, Answer, Figures, Refusal, Task, TaskSet};
 use dibwunek_tests::reference::answers::NO_TASK;
 use dibwunek_tests::reference::dispatcher::HIGH;
+use dibwunek_tests::reference::planner::TASK_BYTES;
 use dibwunek_tests::reference::reader::TASKS;
 
 /// The least critical share at each typical share 1 to 64; M + 1 for none.
@@ -118,12 +119,14 @@ pub fn choose(set: &TaskSet) -> Result<[Share; TASKS], Refusal> {
     Ok(shares)
 }
 
-pub fn virtual_deadline(task: &Task, a: u8) -> u32 {
+/// V and the remainder of the division behind it.
+pub fn virtual_deadline(task: &Task, a: u8) -> (u32, u8) {
     let f = &task.figures;
     if task.level == HIGH {
-        f.ln + (f.cn - f.ln) / u32::from(a)
+        let a = u32::from(a);
+        (f.ln + (f.cn - f.ln) / a, ((f.cn - f.ln) % a) as u8)
     } else {
-        0
+        (0, 0)
     }
 }
 
@@ -139,12 +142,15 @@ pub fn plan(sheet: &[u8], buffer: &mut [u8]) -> Answer {
     let set = read(sheet)?;
     let shares = choose(&set)?;
     let n = usize::from(set.count);
-    let bytes = buffer.get_mut(..6 * n).ok_or(Refusal { number: 9, task: NO_TASK })?;
+    let bytes = buffer.get_mut(..TASK_BYTES * n).ok_or(Refusal { number: 9, task: NO_TASK })?;
     let shares = &shares[..n];
     write_blocks(&mut bytes[..2 * n], shares.iter().map(|share| share.typical));
     write_blocks(&mut bytes[2 * n..4 * n], shares.iter().map(|share| share.critical));
-    for ((pair, task), share) in bytes[4 * n..].chunks_exact_mut(2).zip(set.tasks()).zip(shares) {
-        pair.copy_from_slice(&(virtual_deadline(task, share.typical) as u16).to_le_bytes());
+    let (virtuals, remainders) = bytes[4 * n..].split_at_mut(2 * n);
+    for (((pair, left), task), share) in virtuals.chunks_exact_mut(2).zip(remainders).zip(set.tasks()).zip(shares) {
+        let (ticks, remainder) = virtual_deadline(task, share.typical);
+        pair.copy_from_slice(&(ticks as u16).to_le_bytes());
+        *left = remainder;
     }
     Ok(())
 }

@@ -3,6 +3,7 @@ use crate::inputs::Input;
 use crate::plain;
 use dibwunek_tests::harness::boundary::STATE;
 use dibwunek_tests::harness::proved::calls as proved;
+use dibwunek_tests::reference::planner::TASK_BYTES;
 use std::hint::black_box;
 
 type Call = Box<dyn FnMut() -> u32>;
@@ -41,7 +42,7 @@ fn pair<F: Copy>(plain: F, proved: F, made: impl Fn(F) -> Call) -> Pair {
 
 fn plan(input: &Input) -> Pair {
     pair(plain::plan as Plan, proved::plan, |call| {
-        let (sheet, mut out) = (input.sheet.clone(), vec![0; 6 * input.count]);
+        let (sheet, mut out) = (input.sheet.clone(), vec![0; TASK_BYTES * input.count]);
         Box::new(move || call(black_box(&sheet), black_box(&mut out)))
     })
 }
