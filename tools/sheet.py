@@ -411,7 +411,8 @@ def faults(sheet):
 class Entry:
     """A line of the printer's plan: a task, its first processor and how many, in both states, its virtual deadline.
 
-    In the critical state a low task that is kept has as many as in the typical one, any other low task has none."""
+    In the critical state a low task that is kept has as many as in the typical one, any other low task has none. The
+    virtual deadline is rounded down, by the remainder over the typical processors."""
 
     task: int
     typical: int
@@ -419,6 +420,7 @@ class Entry:
     critical: int
     critically: int
     virtual: int
+    remainder: int
 
 
 # What a refusal of the planner means and what to do; the README's table has more.
@@ -485,7 +487,7 @@ def answer_of(text, tasks):
     refused = re.fullmatch(r"refused ([1-8]) (\d{1,3})\n", text)
     if refused:
         return None, int(refused.group(1)), int(refused.group(2))
-    rows = re.fullmatch(r"((\d{1,5} ){5}\d{1,5}\n)+", text)
+    rows = re.fullmatch(r"((\d{1,5} ){6}\d{1,5}\n)+", text)
     entries = [Entry(*map(int, line.split())) for line in text.splitlines()] if rows else []
     if not entries or [entry.task for entry in entries] != list(range(tasks)):
         what = f"expected a plan for {tasks} tasks or a refusal, got {quoted(text)}"
@@ -497,6 +499,13 @@ def processors(first, count):
     if not count:
         return "none"
     return f"{first} (1)" if count == 1 else f"{first}-{first + count - 1} ({count})"
+
+
+def virtual_deadline(entry):
+    """In whole ticks, and behind them what rounding down took away; a low task has none."""
+    if not entry.virtual:
+        return "none"
+    return f"{entry.virtual} + {entry.remainder}/{entry.typically}" if entry.remainder else str(entry.virtual)
 
 
 def task_name(names, index):
@@ -511,7 +520,7 @@ def plan_text(entries, names):
     for entry in entries:
         typical = processors(entry.typical, entry.typically)
         critical = processors(entry.critical, entry.critically)
-        rows.append((task_name(names, entry.task), typical, critical, str(entry.virtual or "none")))
+        rows.append((task_name(names, entry.task), typical, critical, virtual_deadline(entry)))
     widths = [max(len(row[column]) for row in rows) for column in range(4)]
     lines = ["  ".join(cell.ljust(width) for cell, width in zip(row, widths)).rstrip() for row in rows]
     return "\n".join(lines) + "\n"

@@ -365,7 +365,7 @@ class Plan(unittest.TestCase):
             self.skipTest("the printer is not built")
 
     def test_text_and_bytes(self):
-        rows = ["{}  0 (1)    0-1 (2)   9", "{}  1-2 (2)  2-7 (6)   7", "{}  3-7 (5)  none      none"]
+        rows = ["{}  0 (1)    0-1 (2)   9", "{}  1-2 (2)  2-7 (6)   7 + 1/2", "{}  3-7 (5)  none      none"]
         text = (HERE.parent / "examples" / "case-14.sheet").read_bytes()
         for data, names in ((text, ("0 A ", "1 B ", "2 E ")), (CASE_14, ("0   ", "1   ", "2   "))):
             lines = ["task  typical  critical  virtual deadline", *(r.format(n) for r, n in zip(rows, names))]
@@ -375,17 +375,35 @@ class Plan(unittest.TestCase):
         text = (HERE.parent / "examples" / "shuttle-lamp.sheet").read_bytes()
         for processors, rows in (
             (8, ["0-1 (2)  0-4 (5)   8", "2-3 (2)  5-6 (2)   none", "4-7 (4)  none      none"]),
-            (9, ["0-2 (3)  0-2 (3)   6", "3-4 (2)  3-4 (2)   none", "5-8 (4)  5-8 (4)   none"]),
+            (9, ["0-2 (3)  0-2 (3)   6 + 2/3", "3-4 (2)  3-4 (2)   none", "5-8 (4)  5-8 (4)   none"]),
         ):
             data = text.replace(b"processors 8", b"processors %d" % processors)
             status, output, errors = tool("plan", "-", data=data)
             self.assertEqual((status, errors), (0, ""))
             self.assertEqual([line[16:] for line in output.decode().splitlines()[1:]], rows)
 
+    def test_what_rounding_down_took_away(self):
+        text = (HERE.parent / "examples" / "rounding.sheet").read_bytes()
+        for work, virtual in ((8, "6"), (9, "6 + 1/2"), (10, "7"), (11, "7 + 1/2")):
+            status, output, errors = tool("plan", "-", data=text.replace(b"nominal work 9", b"nominal work %d" % work))
+            self.assertEqual((status, errors), (0, ""))
+            self.assertEqual(output.decode().splitlines()[1], f"0 A   0-1 (2)  0-1 (2)   {virtual}")
+
+    def nothing_lost(self, task, entry):
+        """S4.6: a share, the quotient and the remainder give the nominal work beside the span again."""
+        if not task.level:
+            self.assertEqual((entry.virtual, entry.remainder), (0, 0))
+            return
+        quotient = entry.virtual - task.span_nominal
+        self.assertLess(entry.remainder, entry.typically)
+        self.assertEqual(entry.typically * quotient + entry.remainder, task.work_nominal - task.span_nominal)
+
     def planned(self, sheet):
         """Whether the sheet is planned; in the critical state it then has the high tasks and the kept low ones."""
         entries, _, _ = sheets.answer_of(sheets.printed(sheets.encode(sheet)), len(sheet.tasks))
         if entries:
+            for task, entry in zip(sheet.tasks, entries):
+                self.nothing_lost(task, entry)
             blocks = [(entry.critical, entry.critically) for entry in entries]
             self.assertEqual(blocks, with_kept(sheet, entries), sheets.render(sheet))
         return entries is not None
@@ -488,7 +506,10 @@ class Printers(unittest.TestCase):
 
     def test_another_answer(self):
         self.printer.parent.mkdir(parents=True)
-        for answer in ("", "0 0 1 0 2 9", "0 0 1 0 2 9\n", "refused 9 255\n", "refused\n", "1 0 1 0 2 9\n" * 3, "no\n"):
+        six_numbers = "0 0 1 0 2 9\n1 1 2 2 6 7\n2 3 5 8 0 0\n"
+        other_tasks = "1 0 1 0 2 9 0\n" * 3
+        one_task = "0 0 1 0 2 9 0\n"
+        for answer in ("", one_task[:-1], one_task, six_numbers, other_tasks, "refused 9 255\n", "refused\n", "no\n"):
             with self.subTest(answer):
                 self.printer.write_text(f"#!/bin/sh\nprintf '%s' '{answer}'\n")
                 self.printer.chmod(0o755)
