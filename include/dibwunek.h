@@ -80,8 +80,8 @@ size_t dibwunek_state_words(void);
 
 /*
  * Plan (S5.5): chooses the shares for a sheet and writes 7 n bytes to the front of the buffer: n pairs of offset and length for the
- * typical mode, n such pairs for the critical mode, n virtual deadlines of two bytes, low byte first, and n remainders of one byte,
- * by which the virtual deadlines were rounded down (S4.6). The bytes behind stay. Numbers 1 to 9.
+ * typical mode, n such pairs for the critical mode, n virtual deadlines of two bytes, low byte first, and n remainders of one byte:
+ * what was left where the virtual deadlines were rounded down (S4.6). The bytes behind stay. Numbers 1 to 9.
  */
 uint32_t dibwunek_plan(const uint8_t *sheet, size_t sheet_length, uint8_t *buffer, size_t buffer_length);
 

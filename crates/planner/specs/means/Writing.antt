@@ -16,10 +16,7 @@ pub record TaskFits (n i room : ℕ) : Type 0 where
 -- A buffer with the bytes of task i in the four parts of a plan of n tasks.
 unfoldable pub withTask : ℕ → ℕ → Allocation → List ℕ → List ℕ
 withTask n i a buffer =
-    sets
-    (sets
-    (sets (sets buffer (2 * i) (blockOf false a)) (2 * n + 2 * i) (blockOf true a))
-    (4 * n + 2 * i)
-    (u16Bytes (a .«virtual_deadline»)))
-    (6 * n + i)
-    (a .remainder ∷ [])
+    let typical = sets buffer (2 * i) (blockOf false a) in
+    let critical = sets typical (2 * n + 2 * i) (blockOf true a) in
+    let virtuals = sets critical (4 * n + 2 * i) (u16Bytes (a .«virtual_deadline»)) in
+    sets virtuals (6 * n + i) (a .remainder ∷ [])
