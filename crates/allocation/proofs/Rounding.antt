@@ -1,13 +1,10 @@
 -- S4.6 of what is fixed for the tasks of a sheet: by the law of the division, since each task has a typical share.
-use Prim.Native.Nat.{ℕ, _-_, _≤_, _<_}
-use mathlib.Core.Bool.{false}
+use Prim.Native.Nat.{ℕ, _≤_, _<_}
 use mathlib.Core.List.{List}
-use mathlib.Core.Path.{_≡_, sym}
-use native.Mathlib.Omega.{arith}
+use mathlib.Core.Path.{_≡_}
 use Rattle.sheet.specs.declared.answer.Answer.the-variants.{Accepted}
 use Rattle.sheet.specs.declared.task.TaskSet.{TaskSet}
 use Rattle.sheet.specs.Format.{taskIn}
-use Rattle.sheet.specs.Level.{isLow}
 use Rattle.reader.specs.Reading.{readOf}
 use Rattle.shares.specs.declared.share.Share.{Share}
 use Rattle.shares.specs.Deadline.{virtualDeadlineOf, remainderOf}

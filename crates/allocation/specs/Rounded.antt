@@ -1,5 +1,5 @@
 -- S4.5 and S4.6 of what is fixed for a task, without a division.
-use Prim.Native.Nat.{ℕ, _-_, _≤_}
+use Prim.Native.Nat.{_-_, _≤_}
 use mathlib.Core.Bool.{true, false}
 use mathlib.Core.Path.{_≡_}
 use Rattle.sheet.specs.declared.task.Task.{Task}

@@ -8,7 +8,7 @@ use Rattle.sheet.specs.declared.task.Figures.{Figures}
 use Rattle.sheet.specs.declared.task.Task.{Task}
 use Rattle.sheet.specs.Level.{isLow}
 use Rattle.shares.specs.Test.{divisionOf, virtualDeadline}
-use Rattle.shares.specs.Deadline.{virtualDeadlineOf, remainderOf, Exact}
+use Rattle.shares.specs.Deadline.{remainderOf, Exact}
 
 module _ (f : Figures) (a : ℕ) (one : 1 ≤ a) where
   -- S4.6 of every figure and every share.

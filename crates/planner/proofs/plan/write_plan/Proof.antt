@@ -1,8 +1,7 @@
 -- `plan::write_plan` meets its contract. The loop's invariant: the bytes of the tasks passed stand in each part. The measure is the
 -- tasks left.
-use Prim.Native.Nat.{ℕ, _-_, _≤_}
+use Prim.Native.Nat.{_-_, _≤_}
 use mathlib.Core.Path.{_≡_, refl, ap, _∙_}
-use mathlib.Core.List.{List}
 use native.Mathlib.Omega.{arith}
 use lib.ListN.{length}
 use denote.Ref.{now}
