@@ -3,6 +3,7 @@ use Prim.Native.Nat.{ℕ}
 use mathlib.Core.Path.{_≡_, refl}
 use mathlib.Core.Bool.{true, false}
 use mathlib.Core.List.{List, [], _∷_, _++_}
+use native.Mathlib.Omega.{arith}
 use lib.ListN.{replicate}
 use Rattle.sheet.specs.declared.answer.Answer.the-variants.{Accepted, Refused}
 use Rattle.sheet.specs.Answers.{firstOver}
@@ -24,6 +25,8 @@ use Rattle.allocation.specs.Blocks.{offsetIn}
 use Rattle.keeping.specs.Kept.{lowNumbers, holdable, firstHeld, typicalShareAt, leftOver, keptTasks, keptShare, withKept}
 use Rattle.allocation.specs.Allocation.{chosenFor, shareAnswer, choiceAnswer, allocationOf, allocationsOf, allocationAt, allocationAnswer, allocatedOf, sharesWith, sharesOf}
 use Rattle.allocation.specs.declared.allocate.Allocation.{Allocation}
+use Rattle.allocation.specs.Rounded.{Rounded}
+use Rattle.allocation.proofs.Rounding.{sheet-rounded}
 use Rattle.allocation.proofs.Worked.{pair, on, ab}
 use Rattle.planner.specs.Plan.{blockBytes, virtualBytes, remainderBytes, planBytes, planAnswer, planned}
 
@@ -84,7 +87,10 @@ pub record Worked : Type 0 where
   -- S11.11: A and B on 8 and on 6 processors.
   pub on-eight : planFor (on 8 ab) ≡ planAB
   pub on-six : planFor (on 6 ab) ≡ planAB
-  -- S11.14: the plan of a sheet of 62 bytes, and refusal 9 for a buffer that is a byte short.
+  -- S11.14: a sheet of 62 bytes is planned, its second task is high; its plan, and refusal 9 for a buffer that is a byte short.
+  pub sheet-accepted : allocationAnswer (sheetABE 8) ≡ Accepted
+  pub sheet-count : readOf (sheetABE 8) .set .count ≡ 3
+  pub sheet-high : isLow (taskIn (readOf (sheetABE 8) .set) 1 .level) ≡ false
   pub sheet-plan : planned (sheetABE 8) (replicate 21 255)
       ≡ 0 ∷ 1 ∷ 1 ∷ 2 ∷ 3 ∷ 5 ∷ 0 ∷ 2 ∷ 2 ∷ 6 ∷ 8 ∷ 0 ∷ 9 ∷ 0 ∷ 7 ∷ 0 ∷ 0 ∷ 0 ∷ 0 ∷ 1 ∷ 0 ∷ []
   pub sheet-room : planAnswer (sheetABE 8) 20 ≡ Refused 9 255
@@ -107,6 +113,13 @@ worked =
       left-alone = refl;
       on-eight = refl;
       on-six = refl;
+      sheet-accepted = refl;
+      sheet-count = refl;
+      sheet-high = refl;
       sheet-plan = refl;
       sheet-room = refl;
     }
+
+-- There is a sheet with a high task for which `sheet-rounded` holds: B of S11.14, with 2·(7 − 4) + 1 = 11 − 4.
+pub some-rounded : Rounded (taskIn (readOf (sheetABE 8) .set) 1) (allocationAt (allocatedOf (sheetABE 8) .allocations) 1)
+some-rounded = sheet-rounded (sheetABE 8) (worked .sheet-accepted) 1 (omega (arith, worked .sheet-count))

@@ -9,9 +9,9 @@ ghost use Rattle.shares.specs.Test.{divisionOf};
 ghost use Rattle.shares.specs.Deadline.{virtualDeadlineOf, remainderOf, Exact};
 
 // How many whole times a share goes into a figure, and what is left.
-pub struct Division {
-    pub quotient: u32,
-    pub remainder: u32,
+struct Division {
+    quotient: u32,
+    remainder: u32,
 }
 
 // V in whole ticks, and the remainder of the division behind it: V was rounded down by remainder / a of a tick.
