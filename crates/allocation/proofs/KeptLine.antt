@@ -10,7 +10,7 @@ use lib.Dec.{eqb}
 use lib.ListN.{length, getD, take}
 use lib.Seq.{ext-getD, take-length}
 use borrow.Author.Tests.{eq-eqb, ne-eqb}
-use Rattle.basics.specs.Lists.{range, keep}
+use Rattle.basics.specs.Lists.{range, keep, isIn}
 use Rattle.basics.proofs.Lists.{keep-ext-below}
 use Rattle.sheet.specs.declared.answer.Answer.{Answer}
 use Rattle.sheet.specs.declared.answer.Answer.the-variants.{Accepted, Refused}
@@ -24,7 +24,7 @@ use Rattle.shares.specs.Totals.{noProcessors, shareAt}
 use Rattle.shares.proofs.Totals.{total-next, total-part}
 use Rattle.allocation.specs.declared.choice.Chosen.{Chosen}
 use Rattle.allocation.specs.Blocks.{lengthIn}
-use Rattle.keeping.specs.Kept.{lowNumbers, typicalShareAt, keptTasks, isIn, keptShare, withKept}
+use Rattle.keeping.specs.Kept.{lowNumbers, typicalShareAt, keptTasks, keptShare, withKept}
 use Rattle.allocation.specs.Lawful.{LawfulSet, LawfulShares}
 use Rattle.allocation.specs.Allocation.{tasksOf, chosenFor, shareAnswer, choiceAnswer, sharesChosen, sharesWith, sharesOf, sixteen, choiceOf}
 use Rattle.keeping.specs.Running.{criticalShareAt, without}

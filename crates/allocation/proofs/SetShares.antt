@@ -19,7 +19,8 @@ use Rattle.shares.specs.Low.{isKept}
 use Rattle.shares.specs.Totals.{noProcessors, shareAt, shareTotal}
 use Rattle.allocation.specs.Way.{HighPair}
 use Rattle.allocation.specs.Blocks.{offsetIn, lengthIn}
-use Rattle.keeping.specs.Kept.{keptTasks, isIn, keptShare, withKept}
+use Rattle.basics.specs.Lists.{isIn}
+use Rattle.keeping.specs.Kept.{keptTasks, keptShare, withKept}
 use Rattle.keeping.specs.KeptSet.{BestKept, KeptShares}
 use Rattle.allocation.specs.Lawful.{LawfulSet, KeptPair, LawfulShares}
 use Rattle.allocation.specs.Allocation.{tasksOf, chosenFor, sharesWith, allocationOf}

@@ -7,7 +7,8 @@ use Rattle.sheet.specs.Format.{taskIn}
 use Rattle.shares.specs.declared.share.Share.{Share}
 use Rattle.shares.specs.Low.{isKept}
 use Rattle.shares.specs.Totals.{shareAt}
-use Rattle.keeping.specs.Kept.{keptTasks, isIn}
+use Rattle.basics.specs.Lists.{isIn}
+use Rattle.keeping.specs.Kept.{keptTasks}
 use Rattle.allocation.specs.Allocation.{tasksOf, sharesWith, allocationOf}
 
 -- S5.6: of what is fixed for a task its typical share and block, its V and its remainder are those of the choice.

@@ -6,3 +6,4 @@ pub mod Below
 pub mod Counts
 pub mod Cells
 pub mod Bytes
+pub mod Digits

@@ -1,9 +1,9 @@
 -- Lists by enumeration, and tests and counts over the numbers below a bound.
 use Prim.Native.Nat.{ℕ, zero, suc, _+_}
-use mathlib.Core.Bool.{Bool, true, false, cond, _&&_}
+use mathlib.Core.Bool.{Bool, true, false, cond, _&&_, _||_}
 use mathlib.Core.List.{List, [], _∷_, _++_}
 use mathlib.Core.Option.{Option, none, some}
-use lib.Dec.{ltb}
+use lib.Dec.{ltb, eqb}
 
 -- The count numbers from first on, in rising order.
 unfoldable pub range : ℕ → ℕ → List ℕ
@@ -39,6 +39,11 @@ find test (x ∷ xs) = cond (test x) (some x) (find test xs)
 abbrev pub isEmpty : {A : Type 0} → List A → Bool
 isEmpty [] = true
 isEmpty (x ∷ xs) = false
+
+-- Whether a number is in a list.
+abbrev pub isIn : ℕ → List ℕ → Bool
+isIn i [] = false
+isIn i (j ∷ list) = eqb i j || isIn i list
 
 -- Whether there is nothing.
 abbrev pub isNone : {A : Type 0} → Option A → Bool

@@ -3,7 +3,7 @@ ghost use mathlib.Core.Path.{_≡_};
 ghost use Prim.Native.Nat.{_+_, _*_, _≤_, _<_, _^_};
 ghost use lib.ListN.{length};
 ghost use lib.Seq.{sets};
-ghost use Rattle.basics.specs.Numbers.{byteAt, u16At, u32At, u32Bytes, within};
+ghost use Rattle.basics.specs.Numbers.{byteAt, u16At, u32At, u16Bytes, u32Bytes, within};
 
 // The byte at a place; 0 past the end.
 pub fn byte_at(s: &[u8], at: usize) -> u8
@@ -41,6 +41,15 @@ pub fn u32_at(s: &[u8], at: usize) -> u32
         return u16_at(s, at) + 65536 * u16_at(s, at + 2);
     }
     pair(s[at], s[at + 1]) + 65536 * pair(s[at + 2], s[at + 3])
+}
+
+// Writes the low two bytes of a number from a place on.
+pub fn put_u16(out: &mut [u8], at: usize, x: u32)
+    requires { ⌜ at + 2 ≤ length (now out) ⌝ }
+    ensures { λ _. ⌜ now (out .exit) ≡ sets (now (out .entry)) at (u16Bytes x) ⌝ }
+{
+    out[at] = (x % 256) as u8;
+    out[at + 1] = (x / 256 % 256) as u8;
 }
 
 // Writes a number in four bytes from a place on.

@@ -19,7 +19,7 @@ use Rattle.dispatcher.specs.Board.{boardedOf, boardOf}
 use Rattle.dispatcher.proofs.Laws.{release-back, tick-back}
 use Rattle.start.specs.declared.Started.{Started}
 use Rattle.start.specs.Start.{startOf}
-use Rattle.exports.specs.Fields.{answerWord}
+use Rattle.sheet.specs.Answers.{answerWord}
 use Rattle.exports.specs.Ticks.{tickWord}
 use Rattle.exports.specs.Words.{stateSize, stateWords, stateFrom, isState, StateHeld}
 use Rattle.exports.specs.Calls.{Called, noState, startLeft, startCall, releaseCall, tickCall, boardCall, StartTaken}

@@ -10,8 +10,8 @@ use lib.ListN.{length, getD, getD-replicate, length-replicate}
 use Rattle.sheet.specs.declared.answer.Answer.{Answer}
 use Rattle.sheet.specs.declared.answer.Answer.the-variants.{Accepted, Refused}
 use Rattle.allocation.specs.Allocation.{allocatedOf}
-use Rattle.planner.specs.Plan.{planAnswer, planBytes, planned, writtenIf}
-use Rattle.sheet.specs.Answers.{noTask}
+use Rattle.planner.specs.Plan.{planAnswer, planBytes, planned}
+use Rattle.sheet.specs.Answers.{noTask, answerWord, writtenIf}
 use Rattle.model.specs.Row.{Row}
 use Rattle.model.specs.Step.{Model, step, release, tick}
 use Rattle.entries.specs.declared.state.TaskState.{TaskState}
@@ -27,7 +27,6 @@ use Rattle.dispatcher.specs.Calls.{releasedBy, releaseOf, tickedBy, tickOf}
 use Rattle.dispatcher.specs.Board.{boardAnswer, boardedOf, boardLeft, boardOf}
 use Rattle.dispatcher.proofs.Laws.{release-back, tick-back}
 use Rattle.start.specs.Start.{zeroState, startOf}
-use Rattle.exports.specs.Fields.{answerWord}
 use Rattle.exports.specs.Ticks.{tickWord}
 use Rattle.exports.specs.Words.{stateSize, stateWords, stateFrom, isState, EntryHeld, StateHeld}
 use Rattle.exports.specs.Calls.{noState, numberIn, startLeft, startCall, releaseCall, tickCall, boardCall, planCall, Leaves, RefusalLeaves, NoStateFirst, StaysState, SomeStates}

@@ -10,7 +10,7 @@ use Rattle.dispatcher.specs.declared.state.State.{State}
 use Rattle.dispatcher.specs.declared.tick.Ticked.{Ticked}
 use Rattle.dispatcher.specs.Calls.{releaseOf, tickOf}
 use Rattle.dispatcher.specs.Board.{boardedOf, boardOf}
-use Rattle.exports.specs.Fields.{answerWord}
+use Rattle.sheet.specs.Answers.{answerWord}
 use Rattle.exports.specs.Ticks.{acceptedWord, tickWord}
 use Rattle.exports.specs.Words.{stateFrom, isState}
 use Rattle.exports.specs.Repeats.{ticksWord, lastWord, boardsOf, ticksCall, releasesCall, boardsCall}

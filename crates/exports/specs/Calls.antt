@@ -7,13 +7,12 @@ use lib.Dec.{eqb}
 use lib.ListN.{length}
 use Rattle.sheet.specs.declared.answer.Answer.{Answer}
 use Rattle.sheet.specs.declared.answer.Answer.the-variants.{Accepted, Refused}
-use Rattle.sheet.specs.Answers.{noTask}
+use Rattle.sheet.specs.Answers.{noTask, answerWord}
 use Rattle.planner.specs.Plan.{planAnswer, planned}
 use Rattle.dispatcher.specs.declared.state.State.{State}
 use Rattle.dispatcher.specs.Calls.{releaseOf, tickOf}
 use Rattle.dispatcher.specs.Board.{boardedOf, boardOf}
 use Rattle.start.specs.Start.{zeroState, startOf}
-use Rattle.exports.specs.Fields.{answerWord}
 use Rattle.exports.specs.Ticks.{tickWord}
 use Rattle.exports.specs.Words.{stateSize, stateWords, stateFrom, isState}
 

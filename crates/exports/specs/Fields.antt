@@ -1,18 +1,12 @@
 -- What the exported functions say of a reading, as numbers.
-use Prim.Native.Nat.{ℕ, _+_, _*_}
+use Prim.Native.Nat.{ℕ}
 use mathlib.Core.Bool.{cond}
 use mathlib.Core.List.{List, [], _∷_}
 use lib.Dec.{ltb, eqb}
 use lib.ListN.{getD}
-use Rattle.sheet.specs.declared.answer.Answer.{Answer}
 use Rattle.sheet.specs.declared.task.Task.{Task}
 use Rattle.sheet.specs.declared.task.TaskSet.{TaskSet}
-use Rattle.sheet.specs.Answers.{numberOf, taskOf}
 use Rattle.sheet.specs.Format.{taskIn}
-
--- S3.1: an answer in one number: its number, and 256 times its task.
-unfoldable pub answerWord : Answer → ℕ
-answerWord a = numberOf a + 256 * taskOf a
 
 -- S2.6: the fields of a task in order: level, k, D, CN, LN, CO, LO, and the 32 masks.
 unfoldable pub taskFields : Task → List ℕ

@@ -6,7 +6,7 @@ use lib.ListN.{length}
 use Rattle.dispatcher.specs.declared.state.State.{State}
 use Rattle.dispatcher.specs.Calls.{releaseOf, tickOf}
 use Rattle.dispatcher.specs.Board.{boardedOf, boardOf}
-use Rattle.exports.specs.Fields.{answerWord}
+use Rattle.sheet.specs.Answers.{answerWord}
 use Rattle.exports.specs.Ticks.{acceptedWord, tickWord}
 use Rattle.exports.specs.Words.{stateFrom, isState}
 use Rattle.exports.specs.Calls.{Called, noState}

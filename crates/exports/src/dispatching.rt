@@ -6,9 +6,9 @@ use crate::checking::STATE_WORDS;
 use crate::checking::is_state;
 use crate::decoding::state_from;
 use crate::encoding::write_state;
-use crate::fields::answer_word;
 use dispatcher::tick::TickAnswer;
 use sheet::answer::Answer;
+use sheet::answer::answer_word;
 
 pub const ACCEPTED: u32 = 65280;
 

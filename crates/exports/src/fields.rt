@@ -1,21 +1,9 @@
 // Fields of a task set by their numbers.
 ghost use mathlib.Core.Path.{_≡_};
 ghost use lib.ListN.{getD};
-ghost use Rattle.exports.specs.Fields.{answerWord, taskFields, sheetFields, fieldOf};
-use sheet::answer::Answer;
+ghost use Rattle.exports.specs.Fields.{taskFields, sheetFields, fieldOf};
 use sheet::task::Task;
 use sheet::task::TaskSet;
-
-const NO_TASK: u32 = 255;
-
-pub fn answer_word(a: Answer) -> u32
-    ensures { λ r. ⌜ r ≡ answerWord a ⌝ }
-{
-    match a {
-        Answer::Accepted => 256 * NO_TASK,
-        Answer::Refused(number, task) => (number as u32) + 256 * (task as u32),
-    }
-}
 
 fn task_field(t: Task, field: usize) -> u32
     ensures { λ r. ⌜ r ≡ getD (taskFields t) field 0 ⌝ }

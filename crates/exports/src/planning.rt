@@ -1,7 +1,7 @@
 // S13.3: Plan.
 ghost use mathlib.Core.Path.{_≡_};
 ghost use Rattle.exports.specs.Calls.{planCall};
-use crate::fields::answer_word;
+use sheet::answer::answer_word;
 
 // S5.5: the plan's bytes go to the front of the buffer.
 #[no_mangle]

@@ -1,9 +1,10 @@
 // The reader of sheets (S2).
 ghost use mathlib.Core.Path.{_≡_};
 ghost use Rattle.reader.specs.Reading.{readOf};
-ghost use Rattle.exports.specs.Fields.{answerWord, fieldOf};
-use crate::fields::answer_word;
+ghost use Rattle.sheet.specs.Answers.{answerWord};
+ghost use Rattle.exports.specs.Fields.{fieldOf};
 use crate::fields::field_of;
+use sheet::answer::answer_word;
 
 // S3.1: the reader's answer: its number, and 256 times its task.
 #[no_mangle]

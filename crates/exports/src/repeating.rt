@@ -6,7 +6,7 @@ use crate::decoding::state_from;
 use crate::dispatching::ACCEPTED;
 use crate::dispatching::NOT_STATE;
 use crate::dispatching::tick_word;
-use crate::fields::answer_word;
+use sheet::answer::answer_word;
 
 // The answer of the last of `count` ticks with the same reports, each on the state that the one before returned.
 #[no_mangle]

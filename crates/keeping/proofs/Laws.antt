@@ -11,7 +11,7 @@ use native.Mathlib.Decide.{decLt}
 use lib.ListN.{length, getD, take, length-map, List·getD-eq-default}
 use lib.Seq.{take-length}
 use borrow.Author.Tests.{leb-true, le-leb}
-use Rattle.basics.specs.Lists.{range}
+use Rattle.basics.specs.Lists.{range, isIn}
 use Rattle.basics.proofs.Logic.{bool-ext}
 use Rattle.basics.proofs.Lists.{length-range}
 use Rattle.basics.proofs.Members.{range-has, range-within, keep-has, keep-from}
@@ -22,7 +22,7 @@ use Rattle.shares.specs.declared.share.Share.{Share}
 use Rattle.shares.specs.Totals.{noProcessors, shareAt, shareIn, shareTotal, typicalTotal, criticalTotal}
 use Rattle.shares.proofs.Totals.{total-same}
 use Rattle.basics.specs.Order.{noLater, leastBy}
-use Rattle.keeping.specs.Kept.{lowNumbers, subsets, processorsFor, holdable, keptRank, setFound, firstHeld, typicalShareAt, leftOver, keptTasks, isIn, keptShare, withKept}
+use Rattle.keeping.specs.Kept.{lowNumbers, subsets, processorsFor, holdable, keptRank, setFound, firstHeld, typicalShareAt, leftOver, keptTasks, keptShare, withKept}
 use Rattle.keeping.specs.KeptSet.{LowSet, HeldSet, BestKept, KeptShares}
 use Rattle.basics.proofs.Order.{no-later-then, least-member, least-first, least-none}
 use Rattle.keeping.proofs.Parts.{Part, nothing, taken, left, part-subset, subset-part, part-length, part-member, part-rising, keep-part, Rising, range-rising, rising-part, neighbours-rising, rising-neighbours, is-in, in-is}

@@ -9,9 +9,9 @@ use native.Mathlib.Omega.{arith}
 use lib.Dec.{eqb}
 use lib.ListN.{length, getD}
 use borrow.Author.Tests.{eqb-true, eq-eqb}
-use Rattle.basics.specs.Lists.{range, keptIf, keep}
+use Rattle.basics.specs.Lists.{range, keptIf, keep, isIn}
 use Rattle.basics.proofs.Members.{map-has, map-from, range-within}
-use Rattle.keeping.specs.Kept.{subsets, isIn}
+use Rattle.keeping.specs.Kept.{subsets}
 
 -- A part of a list of numbers.
 pub data Part : List ℕ → List ℕ → Type 0 where

@@ -11,13 +11,13 @@ use lib.Dec.{eqb}
 use lib.ListN.{length, getD, set, take, length-set}
 use lib.Seq.{ext-getD, getD-set-same, getD-set-other}
 use borrow.Author.Tests.{eq-eqb, ne-eqb}
-use Rattle.basics.specs.Lists.{range, keptIf, keep}
+use Rattle.basics.specs.Lists.{range, keptIf, keep, isIn}
 use Rattle.basics.proofs.Logic.{bool-ext}
 use Rattle.basics.proofs.Lists.{keep-agree, keep-none}
 use Rattle.basics.proofs.Members.{keep-has, keep-from}
 use Rattle.shares.specs.declared.share.Share.{Share}
 use Rattle.shares.specs.Totals.{noProcessors, shareAt, criticalTotal}
-use Rattle.keeping.specs.Kept.{processorsFor, typicalShareAt, leftOver, isIn, keptShare, withKept}
+use Rattle.keeping.specs.Kept.{processorsFor, typicalShareAt, leftOver, keptShare, withKept}
 use Rattle.keeping.specs.Running.{criticalShareAt, without, totalWithTask}
 use Rattle.keeping.specs.means.Keeping.{keptLine, NotAfter, Next, none, found, Keepable}
 use Rattle.keeping.proofs.Parts.{part-rising, keep-part, Rising, range-rising, is-in, in-is}

@@ -1,14 +1,14 @@
 -- S5.6 by enumeration: the low tasks that are kept in the critical mode, on the processors that the high tasks leave over.
 use Prim.Native.Nat.{ℕ, _+_, _-_}
-use mathlib.Core.Bool.{Bool, false, cond, _||_}
+use mathlib.Core.Bool.{Bool, cond}
 use mathlib.Core.List.{List, [], _∷_, _++_, map}
 use mathlib.Core.Option.{Option, none, some}
-use lib.Dec.{leb, eqb}
+use lib.Dec.{leb}
 use lib.ListN.{length, getD}
 use Rattle.sheet.specs.declared.task.Task.{Task}
 use Rattle.sheet.specs.Format.{missingTask}
 use Rattle.sheet.specs.Level.{isLow}
-use Rattle.basics.specs.Lists.{range, keep}
+use Rattle.basics.specs.Lists.{range, keep, isIn}
 use Rattle.shares.specs.declared.share.Share.{Share}
 use Rattle.shares.specs.Totals.{shareAt, criticalTotal}
 use Rattle.basics.specs.Order.{leastBy}
@@ -57,11 +57,6 @@ leftOver M choice = M - criticalTotal choice
 -- S5.6: the low tasks that are kept beside a choice, each with its typical share.
 unfoldable pub keptTasks : ℕ → List Task → List Share → List ℕ
 keptTasks M tasks choice = firstHeld (typicalShareAt choice) (leftOver M choice) (lowNumbers tasks)
-
--- Whether task i is in a set.
-abbrev pub isIn : ℕ → List ℕ → Bool
-isIn i [] = false
-isIn i (j ∷ set) = eqb i j || isIn i set
 
 -- A share that stays in the critical mode.
 unfoldable pub keptShare : Share → Share

@@ -11,7 +11,9 @@ use lib.ListN.{getD}
 use borrow.Author.Tests.{ltb-true, ltb-false, lt-ltb, le-ltb, le-leb}
 use Rattle.io.specs.Digits.{digits, Fewest}
 use Rattle.basics.specs.Lists.{all}
-use Rattle.plan_text.specs.Decimal.{digit, digitsWithin, decimal, isDigit, valueAfter, IsDecimal}
+use Rattle.basics.specs.Digits.{digit, isDigit}
+use Rattle.basics.proofs.Digits.{value-both, digits-both}
+use Rattle.plan_text.specs.Decimal.{digitsWithin, decimal, IsDecimal}
 
 -- A tenth of what is not 0 is smaller.
 pub tenth : (n : ℕ) → 1 ≤ n → n / 10 < n
@@ -46,17 +48,6 @@ more-digits zero h = absurd (omega arith)
 more-digits (suc n) h =
     let less = tenth (suc n) (omega arith) in
     rw (le-ltb (suc n) 10 h, same-digits n (suc n / 10) (suc n / 10) (omega arith) (omega arith))
-
--- Bytes read in two steps.
-value-both : (v : ℕ) (xs ys : List ℕ) → valueAfter v (xs ++ ys) ≡ valueAfter (valueAfter v xs) ys
-value-both v [] ys = refl
-value-both v (x ∷ xs) ys = value-both (10 * v + (x - digit 0)) xs ys
-
-digits-both : (xs ys : List ℕ) → all isDigit xs ≡ true → all isDigit ys ≡ true → all isDigit (xs ++ ys) ≡ true
-digits-both [] ys h g = g
-digits-both (x ∷ xs) ys h g =
-    let both = and-eq-true-iff (isDigit x) (all isDigit xs) .0 h in
-    and-eq-true-iff (isDigit x) (all isDigit (xs ++ ys)) .1 (both .0, digits-both xs ys (both .1) g)
 
 digit-is : (d : ℕ) → d < 10 → all isDigit (digit d ∷ []) ≡ true
 unfolding isDigit

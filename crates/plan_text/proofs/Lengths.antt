@@ -6,7 +6,8 @@ use native.Mathlib.Nat.{div-lt-iff-lt-mul, pow-suc}
 use native.Mathlib.Omega.{arith}
 use lib.ListN.{length, length-append}
 use Rattle.basics.specs.Lists.{range, each}
-use Rattle.plan_text.specs.Decimal.{digit, decimal}
+use Rattle.basics.specs.Digits.{digit}
+use Rattle.plan_text.specs.Decimal.{decimal}
 use Rattle.plan_text.specs.Lines.{mark, line}
 use Rattle.allocation.specs.declared.allocate.Allocation.{Allocation}
 use Rattle.allocation.specs.Allocation.{allocationAt}

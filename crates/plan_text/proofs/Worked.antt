@@ -6,7 +6,8 @@ use Rattle.sheet.specs.declared.answer.Answer.the-variants.{Refused}
 use Rattle.basics.specs.Lists.{range}
 use Rattle.allocation.specs.declared.allocate.Allocation.{Allocation}
 use Rattle.allocation.specs.Allocation.{allocationAt}
-use Rattle.plan_text.specs.Decimal.{digitsWithin, decimal, valueOf}
+use Rattle.plan_text.specs.Decimal.{digitsWithin, decimal}
+use Rattle.basics.specs.Digits.{valueOf}
 use Rattle.plan_text.specs.Lines.{line}
 use Rattle.plan_text.specs.Printed.{fieldsOf, planLines, refusalLine, linesFor}
 

@@ -1,15 +1,12 @@
 -- S6.3: numbers in decimal, as ASCII bytes.
-use Prim.Native.Nat.{ℕ, zero, suc, _+_, _-_, _*_, _/_, _%_, _≤_}
-use mathlib.Core.Bool.{Bool, true, cond, _&&_}
+use Prim.Native.Nat.{ℕ, zero, suc, _/_, _%_, _≤_}
+use mathlib.Core.Bool.{true, cond}
 use mathlib.Core.List.{List, [], _∷_, _++_}
 use mathlib.Core.Path.{_≡_}
-use lib.Dec.{leb, ltb}
+use lib.Dec.{ltb}
 use lib.ListN.{getD}
 use Rattle.basics.specs.Lists.{all}
-
--- The byte of a digit: `0` is 48.
-abbrev pub digit : ℕ → ℕ
-digit d = 48 + d
+use Rattle.basics.specs.Digits.{digit, isDigit, valueOf}
 
 -- The digits of n, the last one last and no zero in front, for an n of at most k + 1 digits.
 unfoldable pub digitsWithin : ℕ → ℕ → List ℕ
@@ -19,19 +16,6 @@ digitsWithin (suc k) n = cond (ltb n 10) (digit n ∷ []) (digitsWithin k (n / 1
 -- S6.3: the digits of any number, which has at most n + 1 of them.
 unfoldable pub decimal : ℕ → List ℕ
 decimal n = digitsWithin n n
-
--- Whether a byte is one of the ten digits.
-unfoldable pub isDigit : ℕ → Bool
-isDigit b = leb (digit 0) b && leb b (digit 9)
-
--- The number that bytes say, highest digit first, behind digits that say v.
-abbrev pub valueAfter : ℕ → List ℕ → ℕ
-valueAfter v [] = v
-valueAfter v (b ∷ bytes) = valueAfter (10 * v + (b - digit 0)) bytes
-
--- The number that bytes say.
-abbrev pub valueOf : List ℕ → ℕ
-valueOf bytes = valueAfter 0 bytes
 
 -- S6.3, read the other way: bytes that are n in decimal. They say n, each is a digit, and the first is not `0` where n is not 0.
 -- `Digits.decimal-reads` has this of `decimal n`, for all n.

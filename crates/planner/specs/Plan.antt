@@ -3,10 +3,9 @@ use Prim.Native.Nat.{ℕ, _*_}
 use mathlib.Core.Bool.{Bool, true, false, cond}
 use mathlib.Core.List.{List, [], _∷_, _++_}
 use lib.Dec.{ltb}
-use lib.ListN.{length, drop}
+use lib.ListN.{length}
 use Rattle.sheet.specs.declared.answer.Answer.{Answer}
-use Rattle.sheet.specs.declared.answer.Answer.the-variants.{Accepted, Refused}
-use Rattle.sheet.specs.Answers.{noTask, refusedIf, _orElse_}
+use Rattle.sheet.specs.Answers.{noTask, refusedIf, _orElse_, writtenIf}
 use Rattle.shares.specs.Totals.{shareIn}
 use Rattle.basics.specs.Numbers.{u16Bytes}
 use Rattle.basics.specs.Lists.{range, each}
@@ -51,11 +50,6 @@ unfoldable pub planAnswer : List ℕ → ℕ → Answer
 planAnswer s room =
     allocationAnswer s
     orElse refusedIf (ltb room (7 * allocatedOf s .count)) shortBuffer noTask
-
--- S5.5 and S3.4: the plan goes to the front and what is behind it stays; a refusal leaves all as it was.
-abbrev pub writtenIf : Answer → List ℕ → List ℕ → List ℕ
-writtenIf Accepted plan buffer = plan ++ drop (length plan) buffer
-writtenIf (Refused number task) plan buffer = buffer
 
 -- S5.5: the buffer after the call.
 unfoldable pub planned : List ℕ → List ℕ → List ℕ

@@ -114,7 +114,7 @@ round-trip t front back fits =
     (figure-read t front back 10 (t .figures .overload .span) (fits .overload-span) refl)
     (masks-whole t front back (levelAt (front ++ (recordBytes t ++ back)) (length front)) fits)
 
-masks-length : (k : ℕ) (masks : List ℕ) → k ≤ length masks → length (masksBytes k masks) ≡ 4 * k
+pub masks-length : (k : ℕ) (masks : List ℕ) → k ≤ length masks → length (masksBytes k masks) ≡ 4 * k
 unfolding masksBytes u32Bytes
 masks-length zero masks h = refl
 masks-length (suc k) [] h = absurd (omega arith)

@@ -1,7 +1,9 @@
--- S3: answers, the numbers of refusals 1 to 6, and causes put in order.
-use Prim.Native.Nat.{ℕ, zero, suc}
+-- S3: answers, the numbers of refusals 1 to 6, causes put in order, and what a call leaves in a lent buffer.
+use Prim.Native.Nat.{ℕ, zero, suc, _+_, _*_}
 use mathlib.Core.Bool.{Bool, true, false}
+use mathlib.Core.List.{List, _++_}
 use mathlib.Core.Path.{_≡_}
+use lib.ListN.{length, drop}
 use Rattle.sheet.specs.declared.answer.Answer.{Answer}
 use Rattle.sheet.specs.declared.answer.Answer.the-variants.{Accepted, Refused}
 
@@ -63,3 +65,12 @@ firstOver cause first (suc count) = cause first orElse firstOver cause (suc firs
 pub record Says (a : Answer) (number task : ℕ) : Type 0 where
   pub number-is : numberOf a ≡ number
   pub task-is : taskOf a ≡ task
+
+-- S13.4: an answer in one word: its number, and 256 times its task.
+unfoldable pub answerWord : Answer → ℕ
+answerWord a = numberOf a + 256 * taskOf a
+
+-- S3.4: the bytes that a call writes go to the front of the buffer, and what is behind them stays; a refusal leaves all as it was.
+abbrev pub writtenIf : Answer → List ℕ → List ℕ → List ℕ
+writtenIf Accepted bytes buffer = bytes ++ drop (length bytes) buffer
+writtenIf (Refused number task) bytes buffer = buffer

@@ -1,7 +1,7 @@
 // S3: what a call answers where it may refuse.
 ghost use mathlib.Core.Path.{_≡_};
 ghost use mathlib.Core.Bool.{not};
-ghost use Rattle.sheet.specs.Answers.{refusedIf, _orElse_};
+ghost use Rattle.sheet.specs.Answers.{refusedIf, _orElse_, answerWord};
 
 // S3.1: accepted, or refused with a number and the task at fault.
 pub enum Answer {
@@ -30,5 +30,15 @@ pub fn or_else(first: Answer, later: Answer) -> Answer
     match first {
         Answer::Accepted => later,
         Answer::Refused(_, _) => first,
+    }
+}
+
+// S13.4: an answer in one word.
+pub fn answer_word(a: Answer) -> u32
+    ensures { λ r. ⌜ r ≡ answerWord a ⌝ }
+{
+    match a {
+        Answer::Accepted => 256 * (NO_TASK as u32),
+        Answer::Refused(number, task) => (number as u32) + 256 * (task as u32),
     }
 }

@@ -30,7 +30,7 @@ pub fn shape_lawful(level: u8, nodes: u8, bytes: u32) -> bool
 }
 
 // S2.9: each figure by itself.
-fn in_range(level: u8, f: Figures) -> bool
+pub fn in_range(level: u8, f: Figures) -> bool
     ensures { λ r. ⌜ r ≡ inRange level f ⌝ }
 {
     let limit = figure_limit(level);

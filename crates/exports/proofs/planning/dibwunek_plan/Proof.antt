@@ -1,6 +1,6 @@
 -- `exports::planning::dibwunek_plan` meets its contract by what `plan` ensures. Assumes nothing.
 use mathlib.Core.Path.{_∙_, ap}
-use Rattle.exports.specs.Fields.{answerWord}
+use Rattle.sheet.specs.Answers.{answerWord}
 use Rattle.exports.specs.Calls.{planCall}
 use borrow.Author.Needs.{needs}
 use Rattle.exports.proofs.planning.dibwunek_plan.Statement.{statement}

@@ -1,7 +1,7 @@
 -- `exports::reading::dibwunek_read` meets its contract by what `read` ensures. Assumes nothing.
 use mathlib.Core.Path.{_∙_, ap}
 use Rattle.reader.specs.declared.Reading.{Reading}
-use Rattle.exports.specs.Fields.{answerWord}
+use Rattle.sheet.specs.Answers.{answerWord}
 use borrow.Author.Needs.{needs}
 use Rattle.exports.proofs.reading.dibwunek_read.Statement.{statement}
 use Rattle.exports.proofs.reading.dibwunek_read.Tie as tie

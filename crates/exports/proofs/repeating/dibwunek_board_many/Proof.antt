@@ -11,7 +11,7 @@ use lib.ListN.{length}
 use Rattle.dispatcher.specs.declared.state.State.{State}
 use Rattle.dispatcher.specs.declared.board.Boarded.{Boarded}
 use Rattle.dispatcher.specs.Board.{boardedOf, boardOf}
-use Rattle.exports.specs.Fields.{answerWord}
+use Rattle.sheet.specs.Answers.{answerWord}
 use Rattle.exports.specs.Words.{stateFrom, isState}
 use Rattle.exports.specs.Repeats.{lastWord, boardsOf}
 use Rattle.exports.proofs.Repeated.{last-next, boards-next, boards-no-state, boards-of-state}

@@ -10,7 +10,7 @@ use denote.Ref.{now}
 use Rattle.dispatcher.specs.declared.state.State.{State}
 use Rattle.dispatcher.specs.declared.release.Released.{Released}
 use Rattle.dispatcher.specs.Calls.{releaseOf}
-use Rattle.exports.specs.Fields.{answerWord}
+use Rattle.sheet.specs.Answers.{answerWord}
 use Rattle.exports.specs.Words.{stateFrom, isState}
 use Rattle.exports.specs.Repeats.{lastWord}
 use Rattle.exports.proofs.Repeated.{last-next, releases-no-state, releases-of-state}
