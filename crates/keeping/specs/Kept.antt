@@ -1,6 +1,6 @@
 -- S5.6 by enumeration: the low tasks that are kept in the critical mode, on the processors that the high tasks leave over.
 use Prim.Native.Nat.{ℕ, _+_, _-_}
-use mathlib.Core.Bool.{Bool, cond}
+use mathlib.Core.Bool.{cond}
 use mathlib.Core.List.{List, [], _∷_, _++_, map}
 use mathlib.Core.Option.{Option, none, some}
 use lib.Dec.{leb}
