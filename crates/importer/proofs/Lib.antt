@@ -1,0 +1,11 @@
+pub mod Writing
+pub mod Figures
+pub mod Imports
+pub mod Orders
+pub mod Rising
+pub mod Times
+pub mod Acceptance
+pub mod Budgets
+pub mod Readers
+pub mod Same
+pub mod Worked
