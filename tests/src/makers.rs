@@ -1,6 +1,8 @@
-//! Makers of what the calls are compared on: sheets, right and faulty, states, lengths of nodes and lists of calls.
+//! Makers of what the calls are compared on: sheets, right and faulty, states, lengths of nodes, lists of calls,
+//! and graphs as texts.
 pub mod crafts;
 pub mod faults;
+pub mod graphs;
 pub mod lengths;
 pub mod random;
 pub mod sheets;

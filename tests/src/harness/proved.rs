@@ -4,6 +4,7 @@ use crate::reference::reader::{NODES, TASKS};
 
 pub mod calls;
 pub mod dispatching;
+pub mod importing;
 pub mod planning;
 pub mod starting;
 

@@ -31,6 +31,11 @@ pub enum Kind {
 }
 
 impl Crafted {
+    /// A task with these times of its nodes, and shares that do.
+    pub fn of(task: Task, nominal: Vec<u32>, overload: Vec<u32>, shares: Pair) -> Crafted {
+        Crafted { task, nominal, overload, shares }
+    }
+
     fn budget(&self, kind: &Kind) -> Budget {
         let Figures { cn, co, ln, lo, .. } = self.task.figures;
         match kind {

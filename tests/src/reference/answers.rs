@@ -19,6 +19,10 @@ pub enum Cause {
     ReportCount = 14,
     NotRunning = 15,
     BoardBuffer = 16,
+    /// The text, the terms or the buffer of an import.
+    Text = 17,
+    Graph = 18,
+    Outside = 19,
     /// A line that is no state (S13.5).
     NoState = 100,
 }
@@ -68,7 +72,7 @@ impl Reply {
     pub fn of_word(word: u32) -> Reply {
         match word.to_le_bytes() {
             [0, 255, 0, 0] => Reply::Done,
-            [number @ (1..=16 | 100), task, 0, 0] => Reply::Refused(number, task),
+            [number @ (1..=19 | 100), task, 0, 0] => Reply::Refused(number, task),
             [0, task @ 0..=15, 1, 0] => Reply::Switched(task),
             _ => panic!("{word} is not the number of an answer"),
         }

@@ -17,6 +17,15 @@ mod archive {
             out: *mut u8,
             out_len: usize,
         ) -> usize;
+        pub fn dibwunek_import(
+            text: *const u8,
+            text_len: usize,
+            level: u32,
+            deadline: u32,
+            percentage: u32,
+            record: *mut u8,
+            record_len: usize,
+        ) -> u32;
         pub fn dibwunek_tick_many(
             state: *const u32,
             state_len: usize,
@@ -67,6 +76,11 @@ pub fn board(line: &[u32], buffer: &mut [u8]) -> u32 {
 pub fn replay(sheet: &[u8], calls: &[u8], out: &mut [u8]) -> usize {
     let (start, length) = (out.as_mut_ptr(), out.len());
     unsafe { archive::dibwunek_replay(sheet.as_ptr(), sheet.len(), calls.as_ptr(), calls.len(), start, length) }
+}
+
+pub fn import(text: &[u8], level: u32, deadline: u32, percentage: u32, record: &mut [u8]) -> u32 {
+    let (start, length) = (record.as_mut_ptr(), record.len());
+    unsafe { archive::dibwunek_import(text.as_ptr(), text.len(), level, deadline, percentage, start, length) }
 }
 
 pub fn tick_many(line: &[u32], reports: &[u32], count: u32) -> u32 {
