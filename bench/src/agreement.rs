@@ -1,5 +1,5 @@
-//! Both sides give the same answers, lines and bytes: on every input, and on every input with one byte or word changed.
-use crate::inputs::Input;
+//! Both sides give the same answers, lines and bytes: on every input and text, and on some with one byte or word changed.
+use crate::inputs::{Input, Text, DEADLINE, LEVEL, PERCENTAGE};
 use crate::plain;
 use dibwunek_tests::harness::boundary::STATE;
 use dibwunek_tests::harness::proved::calls as proved;
@@ -7,6 +7,7 @@ use dibwunek_tests::reference::planner::TASK_BYTES;
 
 /// What a byte or a word is changed to.
 const VALUES: [u8; 5] = [0, 1, 33, 65, 255];
+const BYTES: [u8; 8] = *b"0159 \n#-";
 const WORDS: [u32; 8] = [0, 1, 2, 33, 65, 255, 256, u32::MAX];
 /// A byte and a word of what is written before a call, so that one that must stay is seen to stay.
 const BEFORE: u8 = 170;
@@ -93,5 +94,37 @@ pub fn check(inputs: &[Input]) {
     }
     for input in named(inputs, &["small", "full", "low"]) {
         changed(&input.alive, &WORDS, |line| states_agree(input, line));
+    }
+}
+
+/// The terms that are measured, and each of them wrong or at an end of its range.
+const TERMS: [(u32, u32, u32); 9] = [
+    (LEVEL, DEADLINE, PERCENTAGE),
+    (0, DEADLINE, 100),
+    (0, DEADLINE, 101),
+    (2, DEADLINE, PERCENTAGE),
+    (LEVEL, 0, PERCENTAGE),
+    (LEVEL, 10_001, PERCENTAGE),
+    (LEVEL, DEADLINE, 99),
+    (LEVEL, DEADLINE, 400),
+    (LEVEL, DEADLINE, 401),
+];
+
+fn imports_agree(name: &str, text: &[u8], room: usize, (level, deadline, percentage): (u32, u32, u32)) {
+    let imports = ran(room, |out| plain::import(text, level, deadline, percentage, out));
+    let proved = ran(room, |out| proved::import(text, level, deadline, percentage, out));
+    assert_eq!(imports, proved, "import, {name}, {level} {deadline} {percentage}: {}", String::from_utf8_lossy(text));
+}
+
+pub fn check_imports(texts: &[Text]) {
+    for Text { name, text, record, .. } in texts {
+        let (answer, _) = ran(*record, |out| plain::import(text, LEVEL, DEADLINE, PERCENTAGE, out));
+        assert_eq!(answer, plain::ACCEPTED, "import, {name}");
+        for room in [0, record - 1, *record, record + 9] {
+            TERMS.into_iter().for_each(|terms| imports_agree(name, text, room, terms));
+        }
+    }
+    for Text { name, text, record, .. } in texts.iter().filter(|text| !text.growth) {
+        changed(text, &BYTES, |text| imports_agree(name, text, *record, TERMS[0]));
     }
 }

@@ -1,7 +1,9 @@
-//! What the calls are measured on: sheets and states of `tests/`. All of it is fixed: every run has the same inputs.
+//! What the calls are measured on: sheets, states and texts of `tests/`. All of it is fixed: every run has the same inputs.
 use dibwunek_tests::harness::boundary::to_words;
+use dibwunek_tests::makers::graphs::{Entry, Graph};
 use dibwunek_tests::makers::sheets::{Draft, CASE_14};
 use dibwunek_tests::reference::dispatcher::{start, State, HIGH};
+use dibwunek_tests::reference::import::HEAD;
 use dibwunek_tests::reference::reader::{Figures, Level, Sheet, Task};
 
 /// A sheet and what follows from it.
@@ -105,4 +107,43 @@ pub fn all() -> Vec<Input> {
     inputs.extend([1, 4, 8, 16].map(|n| grown(64, n, 32)));
     inputs.extend([1, 8, 16, 32].map(|k| grown(64, 16, k)));
     inputs
+}
+
+/// A text to import, and the bytes of the record that comes of it.
+pub struct Text {
+    pub name: String,
+    pub growth: bool,
+    pub text: Vec<u8>,
+    pub record: usize,
+}
+
+/// What is asked for beside a text: a high task, whose times a half is added to.
+pub const LEVEL: u32 = 1;
+pub const DEADLINE: u32 = 150;
+pub const PERCENTAGE: u32 = 150;
+
+/// 32 nodes, each with all lower ones as its predecessors, listed so many times.
+fn complete(times: usize) -> Graph {
+    let node = |v: usize| Entry { time: 5 + v, predecessors: (1..v).collect::<Vec<_>>().repeat(times) };
+    Graph::of((1..=32).map(node).collect())
+}
+
+/// A graph's numerals with this before each.
+fn text(graph: &Graph, before: &str) -> Text {
+    let text = graph.words().iter().map(|word| format!("{before}{word}")).collect::<String>().into_bytes();
+    Text { name: "graph".into(), growth: false, text, record: HEAD + 4 * graph.count() }
+}
+
+fn longer(what: &str, text: Text) -> Text {
+    Text { name: format!("{what}, {} bytes", text.text.len()), growth: true, ..text }
+}
+
+/// The text of a graph in which each node has all lower ones as predecessors, and growth over its length: by
+/// predecessors listed again and again, by blanks, and by leading zeros.
+pub fn texts() -> Vec<Text> {
+    let mut texts = vec![text(&complete(1), " ")];
+    texts.extend([1, 4, 16].map(|times| longer("predecessors", text(&complete(times), " "))));
+    texts.extend([4, 16].map(|times| longer("blanks", text(&complete(1), &" ".repeat(times)))));
+    texts.extend([4, 16].map(|times| longer("zeros", text(&complete(1), &format!(" {}", "0".repeat(times))))));
+    texts
 }

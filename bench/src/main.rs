@@ -2,6 +2,7 @@
 mod agreement;
 mod counting;
 mod dispatcher;
+mod importer;
 mod inputs;
 mod plain;
 mod planner;
@@ -63,11 +64,12 @@ fn fail(message: &str) -> ! {
 fn main() {
     let words: Vec<String> = std::env::args().skip(1).collect();
     let words: Vec<&str> = words.iter().map(String::as_str).collect();
-    let inputs = inputs::all();
-    let mut rows = rows::of(&inputs);
+    let (inputs, texts) = (inputs::all(), inputs::texts());
+    let mut rows = rows::of(&inputs, &texts);
     match words[..] {
         ["check"] => {
             agreement::check(&inputs);
+            agreement::check_imports(&texts);
             println!("both sides agree");
         }
         ["count"] => counting::run(&mut rows),

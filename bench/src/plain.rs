@@ -1,5 +1,6 @@
 //! The plain Rust behind the same signatures as the exported functions, with the same lines and answer words.
 use crate::dispatcher::{self, State, TaskState, TickAnswer};
+use crate::importer::{self, Terms};
 use crate::planner::{self, Share};
 use crate::sheet::{Answer, Refusal};
 use dibwunek_tests::harness::boundary::{ENTRY, HEAD, STATE};
@@ -7,7 +8,7 @@ use dibwunek_tests::reference::answers::NO_TASK;
 use dibwunek_tests::reference::reader::NODES;
 use std::hint::black_box;
 
-const ACCEPTED: u32 = 256 * NO_TASK as u32;
+pub const ACCEPTED: u32 = 256 * NO_TASK as u32;
 const SWITCHED: u32 = 65_536;
 const NOT_STATE: u32 = 100 + 256 * NO_TASK as u32;
 
@@ -91,6 +92,11 @@ fn encode(state: &State, line: &mut [u32]) {
 #[inline(never)]
 pub fn plan(sheet: &[u8], buffer: &mut [u8]) -> u32 {
     word(planner::plan(sheet, buffer))
+}
+
+#[inline(never)]
+pub fn import(text: &[u8], level: u32, deadline: u32, percentage: u32, record: &mut [u8]) -> u32 {
+    word(importer::import(text, Terms { level, deadline, percentage }, record))
 }
 
 #[inline(never)]

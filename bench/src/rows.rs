@@ -1,5 +1,5 @@
 //! The rows of the table: a call on an input, on both sides.
-use crate::inputs::Input;
+use crate::inputs::{Input, Text, DEADLINE, LEVEL, PERCENTAGE};
 use crate::plain;
 use dibwunek_tests::harness::boundary::STATE;
 use dibwunek_tests::harness::proved::calls as proved;
@@ -26,6 +26,7 @@ pub struct Row {
 }
 
 type Plan = fn(&[u8], &mut [u8]) -> u32;
+type Import = fn(&[u8], u32, u32, u32, &mut [u8]) -> u32;
 type Start = fn(&[u8], &mut [u32]) -> u32;
 type Release = fn(&mut [u32], usize) -> u32;
 type Tick = fn(&mut [u32], &[u32]) -> u32;
@@ -44,6 +45,16 @@ fn plan(input: &Input) -> Pair {
     pair(plain::plan as Plan, proved::plan, |call| {
         let (sheet, mut out) = (input.sheet.clone(), vec![0; TASK_BYTES * input.count]);
         Box::new(move || call(black_box(&sheet), black_box(&mut out)))
+    })
+}
+
+fn import(text: &Text) -> Pair {
+    pair(plain::import as Import, proved::import, |call| {
+        let (text, mut record) = (text.text.clone(), vec![0; text.record]);
+        Box::new(move || {
+            let [level, deadline, percentage] = black_box([LEVEL, DEADLINE, PERCENTAGE]);
+            call(black_box(&text), level, deadline, percentage, black_box(&mut record))
+        })
     })
 }
 
@@ -142,6 +153,11 @@ fn rows_of(input: &Input) -> Vec<Row> {
     rows
 }
 
-pub fn of(inputs: &[Input]) -> Vec<Row> {
-    inputs.iter().flat_map(rows_of).collect()
+/// The row of one text.
+fn row_of(text: &Text) -> Row {
+    Row { input: text.name.clone(), growth: text.growth, call: "import", whole: import(text), base: None, times: 1 }
+}
+
+pub fn of(inputs: &[Input], texts: &[Text]) -> Vec<Row> {
+    inputs.iter().flat_map(rows_of).chain(texts.iter().map(row_of)).collect()
 }
