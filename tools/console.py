@@ -18,13 +18,34 @@ def shown(text, most=200):
     return safe if len(text) <= most else f"{safe}..."
 
 
+def quoted(text):
+    return f"'{shown(text, 60)}'"
+
+
 def named(path):
     return shown(path) or "''"
 
 
+def cause_of(error):
+    return error.strerror if isinstance(error, OSError) and error.strerror else str(error)
+
+
 def failed(place, error):
-    cause = error.strerror if isinstance(error, OSError) and error.strerror else str(error)
-    return Failure(f"{place}: error: {cause}")
+    return Failure(f"{place}: error: {cause_of(error)}")
+
+
+def all_of(source):
+    """The bytes of an open file, unless they are too many."""
+    data = source.read(MOST + 1)
+    if len(data) > MOST:
+        raise ValueError(f"expected at most {MOST} bytes")
+    return data
+
+
+def contents(path):
+    """The bytes of a file. Where that fails, the caller has the error."""
+    with open(path, "rb") as source:
+        return all_of(source)
 
 
 def read(path):
@@ -32,16 +53,9 @@ def read(path):
     if path == "-" and sys.stdin is None:
         raise Failure("-: error: standard input is closed")
     try:
-        if path == "-":
-            data = sys.stdin.buffer.read(MOST + 1)
-        else:
-            with open(path, "rb") as source:
-                data = source.read(MOST + 1)
+        return all_of(sys.stdin.buffer) if path == "-" else contents(path)
     except (OSError, ValueError) as error:
         raise failed(named(path), error) from None
-    if len(data) > MOST:
-        raise Failure(f"{named(path)}: error: expected at most {MOST} bytes")
-    return data
 
 
 def write(path, data):

@@ -24,6 +24,11 @@ The text, where # begins a comment and the lines of a task stand in any order:
       work 66 span 6                 # the same figures in both cases
       nodes 1
 
+A line `graph FILE percentage N` stands for all lines of a task on work, span and nodes: these are what the import makes
+of a graph in the Standard Task Graph format. Overload times are the graph's by the percentage, rounded up; left out, it
+is 100, which a low task needs. FILE has no blanks, and begins in the text's own folder. What the import refuses (17 to
+19) is an error, which names the graph's line too.
+
 An error is what can't be written, such as a number that does not fit its bytes; it names the line, nothing is written
 and the exit status is 1. What can be written but breaks a rule of the sheet (refusals 1 and 3 to 6) is written, with a
 warning that gives the refusal's number; so a refused sheet can be tried too. Refusals 7 and 8 are the planner's to
@@ -39,6 +44,8 @@ import sys
 from dataclasses import dataclass, field
 
 import console
+import graph as graphs
+from console import quoted
 
 ROOT = pathlib.Path(__file__).resolve().parent.parent
 PRINTER = ROOT / "target" / "bin" / "plan_printer"
@@ -49,6 +56,7 @@ BYTE, WORD = 0xFF, 0xFFFF
 BITS = 32
 FIXED = 12  # bytes of a record before its masks
 MAX_PROCESSORS, MAX_TASKS, MAX_NODES, MAX_FIGURE = 64, 16, 32, 10_000
+MIN_PERCENTAGE, MAX_PERCENTAGE = 100, 400
 LEVELS = {"low": 0, "high": 1}
 FIGURES = ("deadline", "work_nominal", "work_overload", "span_nominal", "span_overload")  # in the record's order
 
@@ -64,6 +72,7 @@ class Task:
     span_nominal: int = 0
     span_overload: int = 0
     places: dict = field(default_factory=dict)  # where each part was read: a line of a text, an offset of a sheet
+    graph: tuple = ()  # the file and the percentage of a graph line
 
 
 @dataclass
@@ -102,11 +111,9 @@ GRAMMAR = {
     "work": "work N span N",
     "nodes": "nodes N",
     "node": "node N after N ...",
+    "graph": "graph FILE [percentage N]",
 }
-
-
-def quoted(text):
-    return f"'{console.shown(text, 60)}'"
+BY_GRAPH = ("nominal", "overload", "work", "nodes", "node")  # the lines that a graph line stands for
 
 
 def number_of(line, what, word, most):
@@ -184,8 +191,28 @@ def node_line(task, nodes, line, words):
     nodes[node] = mask
 
 
+def graph_line(task, line, words):
+    """`graph FILE percentage N`, or `graph FILE` for 100: the file is read when the whole task is known."""
+    claim(task.places, line, "graph", "the graph")
+    if len(words) == 2:
+        words = [*words, "percentage", str(MIN_PERCENTAGE)]
+    if len(words) != 4 or words[2] != "percentage":
+        raise SheetError(line, f"expected '{GRAMMAR['graph']}', got {quoted(' '.join(words))}")
+    task.graph = words[1], number_of(line, "percentage", words[3], WORD)
+
+
+def apart(task, line, key):
+    """A graph line and the lines that it stands for do not go together."""
+    others = BY_GRAPH if key == "graph" else ("graph",) if key in BY_GRAPH else ()
+    for other in others:
+        if ("line", other) in task.places:
+            raise SheetError(line, f"'{key}' can't stand beside '{other}', on line {task.places['line', other]}")
+    task.places.setdefault(("line", key), line)
+
+
 def part_line(task, nodes, line, words):
     key = words[0]
+    apart(task, line, key)
     if key == "deadline":
         claim(task.places, line, key, "the deadline")
         task.deadline = number_of(line, key, *shaped(line, words), WORD)
@@ -194,20 +221,59 @@ def part_line(task, nodes, line, words):
         task.predecessors = [0] * number_of(line, key, *shaped(line, words), BYTE)
     elif key == "node":
         node_line(task, nodes, line, words)
+    elif key == "graph":
+        graph_line(task, line, words)
     else:
         figures_line(task, line, words)
 
 
-def finish(task, nodes):
+def read_graph(task, folder):
+    """The graph that a task's line names. What is wrong in it is named by its own line too."""
+    line, file = task.places["graph"], task.graph[0]
+    try:
+        return graphs.graph_of(console.contents(folder / file))
+    except (OSError, ValueError) as error:
+        raise SheetError(line, f"{console.named(file)}: {console.cause_of(error)}") from None
+    except graphs.GraphError as error:
+        raise SheetError(line, f"{console.named(file)}: {error}") from None
+
+
+def check_terms(task):
+    """The level and the percentage that the import takes (S14.6)."""
+    if task.level not in LEVELS.values():
+        raise SheetError(task.places["task"], f"level: expected high or low for a graph, got {task.level} (refusal 17)")
+    most, expected = MAX_PERCENTAGE, f"{MIN_PERCENTAGE} to {MAX_PERCENTAGE}"
+    if task.level == LEVELS["low"]:
+        most, expected = MIN_PERCENTAGE, f"{MIN_PERCENTAGE} for a low task"
+    if not MIN_PERCENTAGE <= task.graph[1] <= most:
+        what = f"percentage: expected {expected}, got {task.graph[1]} (refusal 17)"
+        raise SheetError(task.places["graph"], what)
+
+
+def take_graph(task, folder):
+    """Nodes, work and span as the import gives them (S14.7): its refusals, in its order, are errors."""
+    check_terms(task)
+    graph = read_graph(task, folder)
+    task.predecessors = graph.masks
+    task.work_nominal, task.span_nominal = graphs.budget(graph, MIN_PERCENTAGE)
+    task.work_overload, task.span_overload = graphs.budget(graph, task.graph[1])
+    for part in ("nodes", *FIGURES):
+        task.places.setdefault(part, task.places["graph"])
+    for figure, cause in figure_causes(task):
+        whose = "" if figure == "deadline" else f"{console.named(task.graph[0])}: "
+        raise SheetError(task.places[figure], f"{whose}{cause} (refusal 19)")
+
+
+def finish(task, nodes, folder):
     """Every part is there, and every node line names a node of the task."""
-    for part, key in (
-        ("deadline", "deadline"),
-        ("work_nominal", "nominal"),
-        ("work_overload", "overload"),
-        ("nodes", "nodes"),
-    ):
+    parts = {"deadline": "deadline"}
+    if "graph" not in task.places:
+        parts |= {"work_nominal": "nominal", "work_overload": "overload", "nodes": "nodes"}
+    for part, key in parts.items():
         if part not in task.places:
             raise SheetError(task.places["task"], f"task {quoted(task.name)}: expected a line '{GRAMMAR[key]}'")
+    if "graph" in task.places:
+        take_graph(task, folder)
     count = len(task.predecessors)
     for node, mask in nodes.items():
         if node >= count:
@@ -215,8 +281,8 @@ def finish(task, nodes):
         task.predecessors[node] = mask
 
 
-def parse(data):
-    """The sheet that a text says."""
+def parse(data, folder=pathlib.Path()):
+    """The sheet that a text says. Its graphs are files of the folder."""
     sheet, nodes, end = Sheet(0, []), [], 1
     for line, text in lines_of(data):
         end, words = line, text.split()
@@ -243,7 +309,7 @@ def parse(data):
         raise SheetError(end, f"expected a line '{GRAMMAR['processors']}'")
     sheet.places["tasks"] = end
     for task, masks in zip(sheet.tasks, nodes):
-        finish(task, masks)
+        finish(task, masks, folder)
     return sheet
 
 
@@ -549,7 +615,7 @@ def warn(path, found, of_text):
 def read_text(path, data):
     """The sheet that a text says, and its bytes."""
     try:
-        sheet = parse(data)
+        sheet = parse(data, pathlib.Path(path).parent)
         return sheet, encode(sheet)
     except SheetError as error:
         raise console.Failure(f"{located(path, error.place, True)}: error: {error}") from None

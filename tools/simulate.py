@@ -21,6 +21,7 @@ import sys
 from dataclasses import dataclass
 
 import console
+import graph as graphs
 import sheet as sheets
 
 LONGEST = sheets.MAX_NODES * sheets.MAX_FIGURE  # ticks of a job; a length is at most a figure
@@ -51,10 +52,7 @@ def virtual_deadline(task, typical):
 
 
 def longest_chain(task, lengths):
-    chains = []
-    for length, mask in zip(lengths, task.predecessors):
-        chains.append(length + max((c for j, c in enumerate(chains) if mask >> j & 1), default=0))
-    return max(chains)
+    return graphs.longest_chain(task.predecessors, lengths)
 
 
 def running_nodes(task, ended, share):

@@ -18,14 +18,17 @@ NOT_RUN = {
     "python3 -m unittest discover -s tools": "it runs this test",
     "rt ci": "`./test` runs it first; it takes minutes",
     "rt check plan_printer": "`rt ci` has built the printer; anew it takes minutes",
+    "rt check stg_import": "as the one before it",
     "rt staticlib exports": "`./test` runs it before this test; anew it takes minutes",
     "rt staticlib replays": "as the one before it",
+    "rt staticlib importer": "as the two before it",
 }
 
 # What a command needs that another one builds: without it the command is skipped. In `./test` all of it is there.
 NEEDS = {
     "plan_printer": "target/bin/plan_printer",
     "sheet.py plan": "target/bin/plan_printer",
+    "stg_import": "target/bin/stg_import",
     "libexports.a": "target/staticlib/libexports.a",
     "examples/controller.c": "examples/controller.c",
     "target/controller": "target/controller",
@@ -102,7 +105,7 @@ class Commands(unittest.TestCase):
     def test_the_first_screen_has_a_command_for_each_reader(self):
         first = text_of("README.md").partition("\n## ")[0]
         self.assertLessEqual(len(first.splitlines()), 50)
-        for command in ("sheet.py check", "sheet.py plan", "rt staticlib exports", "gcc ", "./test"):
+        for command in ("sheet.py check", "sheet.py plan", "bin/stg_import", "rt staticlib exports", "gcc ", "./test"):
             self.assertTrue(any(command in line for line in indented(first)), command)
 
     def test_each_command_of_the_sheet_tool_that_is_named_exists(self):

@@ -114,7 +114,7 @@ class Bytes(unittest.TestCase):
         self.assertGreaterEqual(len(EXAMPLES), 7)
         for path in EXAMPLES:
             with self.subTest(path.name):
-                sheet = sheets.parse(path.read_bytes())
+                sheet = sheets.parse(path.read_bytes(), path.parent)
                 self.assertEqual(sheets.faults(sheet), [])
                 data = sheets.encode(sheet)
                 self.assertEqual(sheets.encode(sheets.parse(sheets.render(sheets.decode(data)).encode())), data)
@@ -130,7 +130,7 @@ class Bytes(unittest.TestCase):
             self.assertEqual(sheets.render(sheets.parse(text.encode())), text)
 
     def test_the_text_that_the_tool_describes(self):
-        text = sheets.__doc__[sheets.__doc__.index("    processors") : sheets.__doc__.index("An error is")]
+        text = sheets.__doc__[sheets.__doc__.index("    processors") : sheets.__doc__.index("A line `graph")]
         sheet = sheets.parse(text.encode())
         self.assertEqual([task.name for task in sheet.tasks], ["brake", "lamp"])
         self.assertEqual(sheets.faults(sheet), [])
@@ -410,7 +410,7 @@ class Plan(unittest.TestCase):
 
     def test_the_kept_tasks_are_the_first_of_all_sets(self):
         for path in EXAMPLES:
-            sheet = sheets.parse(path.read_bytes())
+            sheet = sheets.parse(path.read_bytes(), path.parent)
             for sheet.processors in range(1, 17):
                 self.planned(sheet)
         rng = random.Random(6)
@@ -478,7 +478,7 @@ class Printers(unittest.TestCase):
         self.addCleanup(folder.cleanup)
         self.root = pathlib.Path(folder.name).resolve()
         (self.root / "tools").mkdir()
-        for name in ("console.py", "sheet.py"):
+        for name in ("console.py", "graph.py", "sheet.py"):
             shutil.copy(HERE / name, self.root / "tools")
         self.printer = self.root / "target" / "bin" / "plan_printer"
 
