@@ -1,5 +1,5 @@
 /*
- * Dibwunek: plan a sheet of tasks, and dispatch their jobs tick by tick. The clauses S1 to S13 are in docs/SPECIFICATION.md.
+ * Dibwunek: plan a sheet of tasks, and dispatch their jobs tick by tick. The clauses S1 to S14 are in docs/SPECIFICATION.md.
  *
  * A state is a line of DIBWUNEK_STATE_WORDS words that the caller lends; its words are listed below. It begins as zeros, which
  * no call but dibwunek_start accepts. Every call may be given any bytes, words and numbers: it tests what it gets.
@@ -14,6 +14,10 @@
  *    6  the task is not heavy                14  there are not as many reports as tasks
  *    7  the task has no share                15  a report names a node that is not running
  *    8  no choice of shares fits             16  the board's buffer has another length than 2 M
+ *
+ *   17  dibwunek_import: the text, the level, the percentage, or a buffer that is too short
+ *   18  dibwunek_import: more than 32 nodes, none, or a predecessor that is not below its entry
+ *   19  dibwunek_import: a figure is not from 1 to 10,000
  *
  *  100  the line is no state: it has another length, or a word that its field can't hold
  *
@@ -114,6 +118,14 @@ uint32_t dibwunek_board(const uint32_t *state, size_t state_length, uint8_t *buf
  */
 size_t dibwunek_replay(const uint8_t *sheet, size_t sheet_length, const uint8_t *calls, size_t calls_length, uint8_t *buffer,
                        size_t buffer_length);
+
+/*
+ * Import (S14), for tools that write sheets. It is in libimporter.a; a controller's libexports.a has none of it. Import takes a text in
+ * the Standard Task Graph format, a level (0 low, 1 high), a deadline and the percentage that makes overload times of times (100 to 400,
+ * for a low task 100), and writes the task's record of 12 + 4 k bytes to the front of the buffer. The bytes behind stay. Numbers 17 to 19.
+ */
+uint32_t dibwunek_import(const uint8_t *text, size_t text_length, uint32_t level, uint32_t deadline, uint32_t percentage, uint8_t *record,
+                         size_t record_length);
 
 #ifdef __cplusplus
 }
