@@ -22,7 +22,7 @@ fn longest_among(chains: &[u32], nodes: u32) -> u32
         if longest < chain {
             longest = chain;
         }
-        rest -= 1 << j;
+        rest = rest & (rest - 1);
     }
     longest
 }

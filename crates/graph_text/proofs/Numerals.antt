@@ -157,11 +157,14 @@ module _ (text : List ℕ) (at : ℕ) (inside : at < length text) where
       rw (before-from mark, blank, bad-word (byteAt text at) [] (beforeMark (drop (at + 1) text)) (rw one))
 
   -- A digit begins a numeral.
-  pub digits-begin : isDigit (byteAt text at) ≡ true → numeralsAt text at ≡ numeralsAfter 0 (beforeMark (drop at text))
+  pub digits-begin : isDigit (byteAt text at) ≡ true →
+      numeralsAt text at ≡ numeralsAfter (byteAt text at - digit 0) (beforeMark (drop (at + 1) text))
   unfolding numeralsAt numeralsOf
   digits-begin h =
-      rw (before-from (digit-no-mark (byteAt text at) h), digit-no-blank (byteAt text at) h, h)
-      (word-numbers (byteAt text at) [] (beforeMark (drop (at + 1) text)) (rw h))
+      let first : 10 * 0 + (byteAt text at - digit 0) ≡ byteAt text at - digit 0 = omega arith in
+      rw (before-from (digit-no-mark (byteAt text at) h), digit-no-blank (byteAt text at) h)
+      (word-numbers (byteAt text at) [] (beforeMark (drop (at + 1) text)) (rw h)
+      ∙ ap (λ (n : ℕ). numeralsAfter n (beforeMark (drop (at + 1) text))) first)
 
   -- One digit more.
   pub digit-more : (v : ℕ) → isDigit (byteAt text at) ≡ true →
@@ -195,8 +198,8 @@ pub digits-to-end : (text : List ℕ) (at v : ℕ) → at ≡ length text → v 
 digits-to-end text at v e small = rw (none-at-end text at e, e, drop-length text, le-leb v numeralLimit small)
 
 -- What digits tell is what the place in front of them tells.
-pub told-from : (text : List ℕ) (from at : ℕ) (r : Next) → numeralsAt text at ≡ numeralsAt text from →
-    numeralsAt text at ≡ numeralsAfter 0 (beforeMark (drop at text)) → ToldAfter text at r → Told text from r
-told-from text from at (Numeral n next) same begun (inside, small, told) = (inside, small, sym same ∙ begun ∙ told)
-told-from text from at Nothing same begun told = absurd told
-told-from text from at Fault same begun told = sym same ∙ begun ∙ told
+pub told-from : (text : List ℕ) (from behind first : ℕ) (r : Next) →
+    numeralsAt text from ≡ numeralsAfter first (beforeMark (drop behind text)) → ToldAfter first text behind r → Told text from r
+told-from text from behind first (Numeral n next) begun (inside, small, told) = (inside, small, begun ∙ told)
+told-from text from behind first Nothing begun told = absurd told
+told-from text from behind first Fault begun told = begun ∙ told

@@ -1,10 +1,10 @@
 // S14.1: the numerals of a text, read one after the other.
 ghost use mathlib.Core.Path.{_≡_};
 ghost use Prim.Native.Nat.{_≤_, _<_};
-ghost use lib.ListN.{length, drop};
+ghost use lib.ListN.{length};
 ghost use Rattle.basics.specs.Digits.{isDigit};
-ghost use Rattle.graph_text.specs.Text.{isBlank, beforeMark};
-ghost use Rattle.graph_text.specs.means.Scan.{numeralsAt, numeralsAfter, Told, ToldAfter, StopsAt};
+ghost use Rattle.graph_text.specs.Text.{isBlank, numeralLimit};
+ghost use Rattle.graph_text.specs.means.Scan.{numeralsAt, Told, ToldAfter, StopsAt};
 
 const END_MARK: u8 = 35;
 
@@ -51,12 +51,12 @@ fn skip_blanks(text: &[u8], from: usize) -> usize
     at
 }
 
-// The numeral whose digits stand from `from` on, or that it is too great.
-fn read_digits(text: &[u8], from: usize) -> Next
-    requires { ⌜ from ≤ length (now text) ⌝ }
-    ensures { λ r. ⌜ ToldAfter (now (text .entry)) from r ⌝ }
+// The numeral that begins with the digit `first` and whose other digits stand from `from` on, or that it is too great.
+fn read_digits(text: &[u8], from: usize, first: u32) -> Next
+    requires { ⌜ (from ≤ length (now text)) × (first ≤ numeralLimit) ⌝ }
+    ensures { λ r. ⌜ ToldAfter first (now (text .entry)) from r ⌝ }
 {
-    let mut value: u32 = 0;
+    let mut value = first;
     let mut at = from;
     while at < text.len() {
         let b = text[at];
@@ -86,7 +86,7 @@ pub fn next_numeral(text: &[u8], from: usize) -> Next
         return Next::Nothing;
     }
     if is_digit(b) {
-        read_digits(text, at)
+        read_digits(text, at + 1, (b - ZERO) as u32)
     } else {
         Next::Fault
     }

@@ -1,11 +1,12 @@
 -- The lowest member of a set is the number of zeros below its lowest one. By induction on the width, an even and an odd set apart.
 use Prim.Native.Nat.{ℕ, zero, suc, _-_, _/_, _%_, _^_, _≤_, _<_}
-use mathlib.Core.Path.{_≡_, _∙_}
+use mathlib.Core.Path.{_≡_, ap, _∙_}
 use mathlib.Core.Logic.{_⊎_, inl, inr}
 use mathlib.Core.Bool.{true}
 use mathlib.Core.List.{_∷_, map}
 use native.Mathlib.Nat.{pow-suc}
 use native.Mathlib.Omega.{arith}
+use lib.Bits.{bitAnd, and-step, and-self}
 use lib.Count.{trailingZeros}
 use Rattle.nodes.specs.Sets.{has, members}
 use Rattle.nodes.proofs.Bits.{digit-cases, has-first, has-next, has-lt, within-power, within-le}
@@ -59,3 +60,20 @@ members-trailing (suc k) set low high =
         let half : (set - 1) / 2 ≡ set / 2 = omega arith in
         let even : (set - 1) % 2 ≡ 0 = omega arith in
         rw (trailing-odd k set e, members-odd k set e, members-even k (set - 1) even, half)
+
+-- What a set and the number before it have in common is the set without its lowest member.
+pub without-lowest : (k set : ℕ) → 0 < set → set < 2 ^ k → bitAnd set (set - 1) ≡ set - 2 ^ trailingZeros k set
+without-lowest zero set low high = absurd (omega arith)
+without-lowest (suc k) set low high = go (digit-cases set) (λ pos. without-lowest k (set / 2) pos (omega (arith, pow-suc 2 k)))
+  where
+    go : (set % 2 ≡ 0) ⊎ (set % 2 ≡ 1) → (0 < set / 2 → bitAnd (set / 2) (set / 2 - 1) ≡ set / 2 - 2 ^ trailingZeros k (set / 2)) →
+        bitAnd set (set - 1) ≡ set - 2 ^ trailingZeros (suc k) set
+    go (inl e) rest =
+        let t = trailingZeros k (set / 2) in
+        let half : (set - 1) / 2 ≡ set / 2 - 1 = omega arith in
+        let part = trailing-power k (set / 2) (omega arith) (omega (arith, pow-suc 2 k)) in
+        rw (trailing-even k set e)
+        (omega (arith, and-step set (set - 1), ap (bitAnd (set / 2)) half, rest (omega arith), pow-suc 2 t, part))
+    go (inr e) rest =
+        let half : (set - 1) / 2 ≡ set / 2 = omega arith in
+        rw (trailing-odd k set e) (omega (arith, and-step set (set - 1), ap (bitAnd (set / 2)) half, and-self (set / 2)))

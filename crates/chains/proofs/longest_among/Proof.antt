@@ -1,16 +1,16 @@
 -- `chains::longest_among` meets its contract. The loop's invariant: the longest so far, with that of the nodes left, is the longest
 -- of all. The measure is the set of the nodes left, as a number. Assumes nothing.
-use Prim.Native.Nat.{_*_, _%_, _^_, _≤_, _<_, max}
+use Prim.Native.Nat.{_-_, _^_, _≤_, _<_, max}
 use mathlib.Core.Path.{_≡_}
 use mathlib.Core.Logic.{⊎-elim}
 use native.Mathlib.Omega.{arith}
+use lib.Bits.{bitAnd}
 use lib.Count.{trailingZeros}
 use lib.ListN.{getD}
 use lib.Pow.{pow-pos}
 use denote.Ref.{now}
 use Rattle.nodes.specs.Sets.{members}
-use Rattle.nodes.proofs.Bits.{shl-one}
-use Rattle.nodes.proofs.Trailing.{trailing-lt, trailing-power}
+use Rattle.nodes.proofs.Trailing.{trailing-lt, trailing-power, without-lowest}
 use Rattle.chains.specs.Chains.{longestAmong}
 use Rattle.chains.proofs.Stores.{Scanned, scanned-none, scanned-again, scanned-all}
 use Rattle.chains.proofs.longest_among.Statement.{statement}
@@ -26,10 +26,10 @@ abbrev μ-loop : tie.MeasureT-loop
 node-at : (c : tie.In-loop Inv-loop μ-loop) → trailingZeros 32 (c .before .loop .rest) < 32
 node-at c = trailing-lt 32 (c .before .loop .rest) (omega arith) (c .before .loop .inv .below)
 
--- The shift makes its set, a part of the nodes left.
-bit-at : (c : tie.In-loop Inv-loop μ-loop) →
-    (1 * 2 ^ trailingZeros 32 (c .before .loop .rest)) % 2 ^ 32 ≡ 2 ^ trailingZeros 32 (c .before .loop .rest)
-bit-at c = shl-one 32 (trailingZeros 32 (c .before .loop .rest)) (node-at c)
+-- What is left without it.
+left-at : (c : tie.In-loop Inv-loop μ-loop) →
+    bitAnd (c .before .loop .rest) (c .before .loop .rest - 1) ≡ c .before .loop .rest - 2 ^ trailingZeros 32 (c .before .loop .rest)
+left-at c = without-lowest 32 (c .before .loop .rest) (omega arith) (c .before .loop .inv .below)
 
 part-at : (c : tie.In-loop Inv-loop μ-loop) → 2 ^ trailingZeros 32 (c .before .loop .rest) ≤ c .before .loop .rest
 part-at c = trailing-power 32 (c .before .loop .rest) (omega arith) (c .before .loop .inv .below)
@@ -53,20 +53,17 @@ mul-chain c = omega (arith, node-at c)
 shared-slice-read-chain : tie.Need-shared-slice-read-chain Inv-loop μ-loop
 shared-slice-read-chain c = omega (arith, node-at (c .before))
 
-shl-rest : tie.Need-shl-rest Inv-loop μ-loop
-shl-rest c = node-at (c .before .before)
-
 sub-rest : tie.Need-sub-rest Inv-loop μ-loop
-sub-rest c = omega (arith, bit-at (c .before .before), part-at (c .before .before))
+sub-rest c = omega arith
 
 loop-less : tie.Need-loop-less Inv-loop μ-loop
 loop-less c =
     let lowest = trailingZeros 32 (c .before .before .before .loop .rest) in
-    omega (arith, bit-at (c .before .before), part-at (c .before .before), pow-pos lowest)
+    omega (arith, left-at (c .before .before), part-at (c .before .before), pow-pos lowest)
 
 loop-again : tie.Need-loop-again Inv-loop μ-loop
 loop-again c =
-    rw (bit-at (c .before .before)) (scanned-again _ _ _ _ _ (c .before .before .before .loop .inv) (omega arith) (longest-at c))
+    rw (left-at (c .before .before)) (scanned-again _ _ _ _ _ (c .before .before .before .loop .inv) (omega arith) (longest-at c))
 
 returns : tie.Need-returns Inv-loop μ-loop
 returns c = scanned-all _ _ _ _ (c .before .loop .inv) (omega arith)
@@ -81,7 +78,6 @@ longest-among-spec =
     cast-chain
     mul-chain
     shared-slice-read-chain
-    shl-rest
     sub-rest
     loop-less
     loop-again

@@ -40,14 +40,14 @@ Told text from (Numeral n next) =
 Told text from Nothing = numeralsAt text from ≡ some []
 Told text from Fault = numeralsAt text from ≡ none
 
--- The same of digits that stand from a place on.
-abbrev pub ToldAfter : List ℕ → ℕ → Next → Type 0
-ToldAfter text from (Numeral n next) =
+-- The same behind digits that say v and end at a place.
+abbrev pub ToldAfter : ℕ → List ℕ → ℕ → Next → Type 0
+ToldAfter v text from (Numeral n next) =
     (next ≤ length text)
     × (n ≤ numeralLimit)
-    × (numeralsAfter 0 (beforeMark (drop from text)) ≡ numberBefore n (numeralsAt text next))
-ToldAfter text from Nothing = ⊥
-ToldAfter text from Fault = numeralsAfter 0 (beforeMark (drop from text)) ≡ none
+    × (numeralsAfter v (beforeMark (drop from text)) ≡ numberBefore n (numeralsAt text next))
+ToldAfter v text from Nothing = ⊥
+ToldAfter v text from Fault = numeralsAfter v (beforeMark (drop from text)) ≡ none
 
 -- A place at which no blank stands, or the end.
 unfoldable pub StopsAt : List ℕ → ℕ → Type 0

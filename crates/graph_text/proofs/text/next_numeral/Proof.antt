@@ -1,15 +1,17 @@
 -- `text::next_numeral` meets its contract, by the first byte that is no blank. Assumes nothing.
-use Prim.Native.Nat.{_<_}
-use mathlib.Core.Path.{sym, _∙_}
+use Prim.Native.Nat.{_≤_, _<_}
+use mathlib.Core.Bool.{true}
+use mathlib.Core.Path.{_≡_, sym, _∙_}
 use native.Mathlib.Omega.{arith}
 use borrow.Author.Needs.{needs}
 use borrow.Author.Tests.{ne-eqb}
 use denote.Ref.{now}
-use lib.ListN.{length}
+use lib.ListN.{length, getD}
+use Rattle.basics.specs.Digits.{isDigit}
 use Rattle.basics.specs.Numbers.{byteAt}
 use Rattle.graph_text.specs.Text.{endMark}
 use Rattle.graph_text.specs.means.Scan.{StopsAt}
-use Rattle.graph_text.proofs.Numerals.{none-at-end, none-at-mark, fault-at, digits-begin, told-from}
+use Rattle.graph_text.proofs.Numerals.{digit-within, none-at-end, none-at-mark, fault-at, digits-begin, told-from}
 use Rattle.graph_text.proofs.text.next_numeral.Statement.{statement}
 use Rattle.graph_text.proofs.text.next_numeral.Tie as tie
 
@@ -39,19 +41,38 @@ returns-2 c =
 is-digit-requires : tie.Need-is-digit-requires
 is-digit-requires c κs = search needs
 
+-- The byte there is a digit, and what it says is at most 9.
+digit-at : (c : tie.Then3) →
+    isDigit (byteAt (now (c .before .before .before .before .before .before .before .args .text)) (c .before .before .before .before .before .skip-blanks .result)) ≡ true
+unfolding byteAt
+digit-at c = sym (c .before .is-digit .ensures) ∙ c .if3 .taken
+
+range-at : (c : tie.Then3) →
+    (48 ≤ getD (now (c .before .before .before .before .before .before .before .args .text)) (c .before .before .before .before .before .skip-blanks .result) 0)
+    × (getD (now (c .before .before .before .before .before .before .before .args .text)) (c .before .before .before .before .before .skip-blanks .result) 0 ≤ 57)
+unfolding byteAt
+range-at c = digit-within _ (digit-at c)
+
+add-read-digits : tie.Need-add-read-digits
+add-read-digits c = search needs
+
+sub-read-digits : tie.Need-sub-read-digits
+sub-read-digits c = range-at c .0
+
+cast-read-digits : tie.Need-cast-read-digits
+cast-read-digits c = let r = range-at c in search needs
+
 read-digits-requires : tie.Need-read-digits-requires
-read-digits-requires c κs = c .before .before .before .before .before .skip-blanks .ensures .0
+read-digits-requires c κs = let r = range-at c in (omega (arith, inside-at (c .before .before .before .before)), omega arith)
 
 returns-3 : tie.Need-returns-3
 unfolding byteAt
 returns-3 c =
-    let digit = c .before .before in
-    let place = digit .before .before .before in
+    let place = c .before .before .before .before .before in
     let text = now (place .before .before .before .args .text) in
-    let from = place .before .before .before .args .from in
     let skipped = place .before .skip-blanks in
-    let begun = digits-begin text (skipped .result) (inside-at place) (sym (digit .is-digit .ensures) ∙ c .before .if3 .taken) in
-    told-from text from (skipped .result) (c .read-digits .result) (skipped .ensures .1 .0) begun (c .read-digits .ensures)
+    let begun = sym (skipped .ensures .1 .0) ∙ digits-begin text (skipped .result) (inside-at place) (digit-at (c .before)) in
+    told-from text (place .before .before .before .args .from) _ _ (c .read-digits .result) begun (c .read-digits .ensures)
 
 returns-4 : tie.Need-returns-4
 unfolding byteAt StopsAt
@@ -74,6 +95,9 @@ next-numeral-spec =
     shared-slice-read-b
     returns-2
     is-digit-requires
+    add-read-digits
+    sub-read-digits
+    cast-read-digits
     read-digits-requires
     returns-3
     returns-4)

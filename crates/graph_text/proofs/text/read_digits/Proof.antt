@@ -17,16 +17,16 @@ use Rattle.graph_text.proofs.text.read_digits.Statement.{statement}
 use Rattle.graph_text.proofs.text.read_digits.Tie as tie
 
 abbrev Inv-loop : tie.InvT-loop
-Inv-loop text from value₀ at₀ value at =
+Inv-loop text from first value₀ at₀ value at =
     (at ≤ length text)
     × (value ≤ numeralLimit)
-    × (numeralsAfter value (beforeMark (drop at text)) ≡ numeralsAfter 0 (beforeMark (drop from text)))
+    × (numeralsAfter value (beforeMark (drop at text)) ≡ numeralsAfter first (beforeMark (drop from text)))
 
 abbrev μ-loop : tie.MeasureT-loop
-μ-loop text from value₀ at₀ value at = length text - at
+μ-loop text from first value₀ at₀ value at = length text - at
 
 loop-holds : tie.Need-loop-holds Inv-loop μ-loop
-loop-holds c = (c .before .pre, omega arith, refl)
+loop-holds c = (c .before .pre .0, c .before .pre .1, refl)
 
 shared-slice-read-b : tie.Need-shared-slice-read-b Inv-loop μ-loop
 shared-slice-read-b c = search needs
@@ -76,7 +76,7 @@ returns-2 c =
     let inside : at-loop .loop .at < length text = omega arith in
     sym (at-loop .loop .inv .2)
     ∙ sym (digit-more text (at-loop .loop .at) inside (at-loop .loop .value) (digit-at (c .before)))
-    ∙ too-great _ (beforeMark (drop (at-loop .loop .at + 1) text)) (c .if2 .taken)
+    ∙ too-great _ (beforeMark (drop (at-loop .loop .at + 1) text)) (omega (arith, c .if2 .taken))
 
 add-at : tie.Need-add-at Inv-loop μ-loop
 add-at c = search needs
@@ -91,7 +91,7 @@ loop-again c =
     let text = now (at-loop .before .before .args .text) in
     let inside : at-loop .loop .at < length text = omega arith in (
       omega arith,
-      c .if2 .left,
+      omega (arith, c .if2 .left),
       digit-more text (at-loop .loop .at) inside (at-loop .loop .value) (digit-at (c .before)) ∙ at-loop .loop .inv .2,
     )
 
