@@ -9,10 +9,10 @@ use native.Mathlib.Omega.{arith}
 use lib.Bits.{bitOr, or-zero-r, or-zero-l, or-lt}
 use lib.Dec.{eqb, leb, ltb}
 use lib.ListN.{length, take, drop, set}
-use borrow.Author.Tests.{eqb-true, eq-eqb, ltb-true, leb-true, le-leb, lt-leb, lt-ltb, ne-eqb}
+use borrow.Author.Tests.{eqb-true, eq-eqb, ltb-true, leb-true, le-leb, lt-leb, lt-ltb, le-ltb, ne-eqb}
 use Rattle.basics.specs.Lists.{range, all, isIn}
 use Rattle.basics.specs.Numbers.{within}
-use Rattle.basics.proofs.Logic.{left-true, right-true, leb-same, bool-ext}
+use Rattle.basics.proofs.Logic.{left-true, right-true, test-same, leb-same, bool-ext}
 use Rattle.basics.proofs.Lists.{keep-none}
 use Rattle.nodes.specs.Sets.{has, setOf}
 use Rattle.nodes.proofs.Bits.{has-or, has-power, has-zero, has-ext, below-of-has, within-antisymm}
@@ -25,9 +25,17 @@ pub within-bounds : (low high x : ℕ) → within low high x ≡ true → (low �
 within-bounds low high x h =
     (leb-true low x (left-true (leb low x) (leb x high) h), leb-true x high (right-true (leb low x) (leb x high) h))
 
-pub is-node : (last v : ℕ) → 1 ≤ last → (leb 1 v && ltb v last && leb v 32) ≡ isNode (last - 1) v
+-- A test that says whether a number is below another or at most it, however it is written.
+below-is : (t : Bool) (a b : ℕ) → (t ≡ true → a < b) → (t ≡ false → b ≤ a) → t ≡ ltb a b
+below-is t a b passes fails = test-same t (ltb a b) (λ e. lt-ltb a b (passes e)) (λ e. le-ltb a b (fails e))
+
+pub at-most-is : (t : Bool) (a b : ℕ) → (t ≡ true → a ≤ b) → (t ≡ false → b < a) → t ≡ leb a b
+at-most-is t a b passes fails = test-same t (leb a b) (λ e. le-leb a b (passes e)) (λ e. lt-leb a b (fails e))
+
+-- Below the last entry is up to the count.
+up-to-count : (last v : ℕ) → 1 ≤ last → (leb 1 v && ltb v last && leb v 32) ≡ isNode (last - 1) v
 unfolding isNode
-is-node last v h =
+up-to-count last v h =
     and-assoc (leb 1 v) (ltb v last) (leb v 32)
     ∙ ap (λ (t : Bool). leb 1 v && t) (bool-ext (ltb v last && leb v 32) (leb v (min (last - 1) 32)) to from)
   where
@@ -41,6 +49,16 @@ is-node last v h =
     from e =
         let most = leb-true v (min (last - 1) 32) e in
         rw (lt-ltb v last (omega arith), le-leb v 32 (omega arith))
+
+pub is-node : (last v : ℕ) (below : Bool) → 1 ≤ last → (below ≡ true → v < last) → (below ≡ false → last ≤ v) →
+    (leb 1 v && below && leb v 32) ≡ isNode (last - 1) v
+is-node last v below h passes fails = rw (below-is below v last passes fails) (up-to-count last v h)
+
+-- A node with one predecessor more, by its parts.
+pub named-with : (v p bit : ℕ) (node : Node) (below : Bool) → bit ≡ bitNamed p → (below ≡ true → p < v) → (below ≡ false → v ≤ p) →
+    record { time = node .time; mask = bitOr (node .mask) bit; rising = node .rising && below } ≡ withNamed v node p
+unfolding withNamed
+named-with v p bit node below named passes fails = rw (named, below-is below p v passes fails)
 
 -- A node is none of the dummies, and one of the first 32.
 pub node-bounds : (count v : ℕ) → isNode count v ≡ true → (1 ≤ v) × (v ≤ 32)
