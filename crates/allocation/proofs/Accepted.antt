@@ -18,14 +18,13 @@ use Rattle.basics.specs.Numbers.{within}
 use Rattle.sheet.specs.Level.{levelLawful, bytesBeforeMasks}
 use Rattle.sheet.specs.Rules.{shapeLawful, figuresLawful, masksLawful, isHeavy, taskAnswer}
 use Rattle.reader.specs.Reading.{headerLawful, headerAnswer, placeAnswer, endAnswer, shapeAnswer, recordAnswer, readingOf, readOf, readAnswer}
-use Rattle.basics.proofs.Cells.{cells-length}
-use Rattle.basics.proofs.Logic.{left-true, right-true}
+use Rattle.basics.proofs.Cells.{cells-length, cells-at}
+use Rattle.basics.proofs.Logic.{left-true, right-true, within-bounds}
 use Rattle.shares.specs.declared.share.Share.{Share}
 use Rattle.basics.specs.Lists.{isNone}
 use Rattle.allocation.specs.Allocation.{noFit, chosenFor, shareAnswer, choiceAnswer, sharesChosen}
 use Rattle.allocation.specs.Lawful.{LawfulTask, LawfulSet}
-use Rattle.allocation.proofs.Lawfulness.{within-from, within-to, all-four}
-use Rattle.allocation.proofs.Lines.{cells-at}
+use Rattle.allocation.proofs.Lawfulness.{all-four}
 
 -- Two causes that let pass.
 pub both-accepted : (first later : Answer) → (first orElse later) ≡ Accepted → (first ≡ Accepted) × (later ≡ Accepted)
@@ -121,17 +120,17 @@ module _ (s : List ℕ) where
       task-in : taskIn (taskSetOf s) i ≡ taskAt s (offsetOf s i)
       unfolding taskIn taskSetOf tasksBelow
       task-in =
-          let few = within-to 1 16 (countOf s) (ranges .1) in
+          let few = within-bounds 1 16 (countOf s) (ranges .1) .1 in
           cells-at (λ j. taskAt s (offsetOf s j)) zeroTask 16 (countOf s) i missingTask (omega arith) inside
 
     sheet-lawful : LawfulSet (taskSetOf s)
     unfolding taskSetOf tasksBelow
     sheet-lawful =
         record {
-          some-processors = within-from 1 64 (processorsOf s) (ranges .0);
-          few-processors = within-to 1 64 (processorsOf s) (ranges .0);
-          some-tasks = within-from 1 16 (countOf s) (ranges .1);
-          few-tasks = within-to 1 16 (countOf s) (ranges .1);
+          some-processors = within-bounds 1 64 (processorsOf s) (ranges .0) .0;
+          few-processors = within-bounds 1 64 (processorsOf s) (ranges .0) .1;
+          some-tasks = within-bounds 1 16 (countOf s) (ranges .1) .0;
+          few-tasks = within-bounds 1 16 (countOf s) (ranges .1) .1;
           all-there = cells-length (λ j. taskAt s (offsetOf s j)) zeroTask 0 16 (countOf s);
           lawful = λ i inside. subst LawfulTask (sym (task-in i inside)) (task-lawful i inside);
         }

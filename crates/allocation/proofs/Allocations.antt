@@ -1,21 +1,18 @@
 -- What is fixed for the tasks of a set: a line of sixteen shares fixes what the shares do, the numbers are small since the shares
 -- fit, and a sheet's answers go refusal by refusal.
-use Prim.Native.Nat.{ℕ, zero, suc, _+_, _≤_, _<_}
-use mathlib.Core.Bool.{true, false, cond}
-use mathlib.Core.List.{List, _∷_}
-use mathlib.Core.Path.{_≡_, refl, sym, ap, ap₂, _∙_}
-use native.Mathlib.Decide.{decLt}
+use Prim.Native.Nat.{ℕ, _+_, _≤_, _<_}
+use mathlib.Core.Bool.{true, false}
+use mathlib.Core.List.{List}
+use mathlib.Core.Path.{_≡_, refl, sym, _∙_}
 use native.Mathlib.Omega.{arith}
-use lib.Dec.{ltb}
 use lib.ListN.{length, take, set, replicate}
-use borrow.Author.Tests.{le-ltb}
 use Rattle.sheet.specs.declared.answer.Answer.{Answer}
 use Rattle.sheet.specs.declared.answer.Answer.the-variants.{Accepted, Refused}
 use Rattle.sheet.specs.declared.task.TaskSet.{TaskSet}
 use Rattle.sheet.specs.Format.{taskIn}
 use Rattle.sheet.specs.Level.{figureLimit}
-use Rattle.basics.specs.Lists.{cellsFrom, cells}
-use Rattle.basics.proofs.Cells.{cells-none, cells-store, cells-length}
+use Rattle.basics.specs.Lists.{cells}
+use Rattle.basics.proofs.Cells.{cells-none, cells-store, cells-length, cells-at, cells-same}
 use Rattle.reader.specs.Reading.{readOf}
 use Rattle.shares.specs.declared.share.Share.{Share}
 use Rattle.shares.specs.Totals.{shareAt, shareTotal}
@@ -30,20 +27,7 @@ use Rattle.shares.proofs.Division.{remainder-less}
 use Rattle.shares.proofs.Totals.{total-part}
 use Rattle.allocation.proofs.Blocks.{shares-blocks}
 use Rattle.allocation.proofs.Lawfulness.{figures-kept}
-use Rattle.allocation.proofs.Lines.{cells-at}
 use Rattle.allocation.proofs.Sixteen.{share-same, sixteen-take, offset-same}
-
--- Cells that agree below the count are alike.
-cells-same : {A : Type 0} (f g : ℕ → A) (none : A) (first size count : ℕ) →
-    ((i : ℕ) → i < count → f i ≡ g i) → cellsFrom first size f none count ≡ cellsFrom first size g none count
-unfolding cellsFrom
-cells-same f g none first zero count same = refl
-cells-same f g none first (suc size) count same =
-    ap₂ _∷_ (go (decLt first count)) (cells-same f g none (suc first) size count same)
-  where
-    go : Dec (first < count) → cond (ltb first count) (f first) none ≡ cond (ltb first count) (g first) none
-    go (yes h) = ap (λ x. cond (ltb first count) x none) (same first h)
-    go (no h) = rw (le-ltb first count (omega arith))
 
 -- The line of the first i tasks: none of them, one more, all of them.
 module _ (tasks : TaskSet) (shares : List Share) where

@@ -8,14 +8,7 @@ use Rattle.sheet.specs.declared.task.Figures.{Figures}
 use Rattle.basics.specs.Numbers.{within}
 use Rattle.sheet.specs.Level.{isHigh, isLow, figureLimit}
 use Rattle.sheet.specs.Rules.{inRange, inOrder, lowLawful, figuresLawful, isHeavy}
-use Rattle.basics.proofs.Logic.{left-true, right-true}
-
--- A number in a range.
-pub within-from : (low high x : ℕ) → within low high x ≡ true → low ≤ x
-within-from low high x e = leb-true low x (left-true (leb low x) (leb x high) e)
-
-pub within-to : (low high x : ℕ) → within low high x ≡ true → x ≤ high
-within-to low high x e = leb-true x high (right-true (leb low x) (leb x high) e)
+use Rattle.basics.proofs.Logic.{left-true, right-true, within-bounds}
 
 -- The parts of four tests that hold together.
 pub all-four : (p q r s : Bool) → p && q && r && s ≡ true → (p ≡ true) × (q ≡ true) × (r ≡ true) × (s ≡ true)
@@ -62,9 +55,9 @@ module _ (level : ℕ) (f : Figures) (lawful : figuresLawful level f ≡ true) w
       (leb (f .nominal .span) (f .overload .span))
       _ in-order in
       record {
-        deadline-from = within-from 1 (figureLimit level) _ deadline;
-        deadline-to = within-to 1 (figureLimit level) _ deadline;
-        span-from = within-from 1 (figureLimit level) _ (ranges .2);
+        deadline-from = within-bounds 1 (figureLimit level) _ deadline .0;
+        deadline-to = within-bounds 1 (figureLimit level) _ deadline .1;
+        span-from = within-bounds 1 (figureLimit level) _ (ranges .2) .0;
         span-work = leb-true _ _ (left-true (leb (f .nominal .span) (f .nominal .work)) _ (orders .0));
         works = leb-true _ _ (orders .1);
         spans = leb-true _ _ (orders .2);

@@ -1,5 +1,5 @@
 -- Totals by tasks: the totals of the last tasks one task after the other, and what the selection reads off them.
-use Prim.Native.Nat.{ℕ, zero, suc, _+_, _-_, _≤_, _<_, min}
+use Prim.Native.Nat.{ℕ, suc, _+_, _-_, _≤_, _<_, min}
 use mathlib.Core.Path.{_≡_, refl, sym, ap, _∙_}
 use mathlib.Core.List.{List, [], _∷_, map}
 use native.Mathlib.Numerals.{add-one}
@@ -7,9 +7,8 @@ use native.Mathlib.Omega.{arith}
 use native.Mathlib.Decide.{decLe}
 use lib.ListN.{length, getD, take, drop, set, replicate, length-map, List·getD-map, List·getD-eq-default, drop-of-length-le}
 use lib.Seq.{drop-cons, getD-take, getD-drop, drop-drop, length-take-le}
-use borrow.Author.Tests.{lt-ltb, le-ltb}
 use Rattle.basics.specs.Lists.{cells, cellsFrom}
-use Rattle.basics.proofs.Cells.{cells-none, cells-store}
+use Rattle.basics.proofs.Cells.{cells-none, cells-store, cells-at}
 use Rattle.shares.specs.declared.share.Share.{Share}
 use Rattle.shares.specs.Offer.{tabulate}
 use Rattle.shares.proofs.Offers.{tabulate-at, tabulate-length, tabulated}
@@ -19,34 +18,6 @@ use Rattle.allocation.specs.Allocation.{sixteen}
 use Rattle.allocation.specs.means.Selection.{cellAt, leastFrom, sumAt, bestShare, totalWith, leastTotal, totalsOf, offered, sharesAt, bestTotal, missingOffer, missingTotals, offersUpTo, lastTotals, totalAt, Small, OfferWithin}
 use Rattle.allocation.proofs.Firsts.{least-same, least-to, least-taken, least-kept}
 use Rattle.allocation.proofs.Optimal.{best-from, best-to, with-positive, with-best, with-none, with-some, total-bound}
-
--- A filled cell holds what it is to hold.
-cells-at-from : {A : Type 0} (f : ℕ → A) (none : A) (size first count j : ℕ) (d : A) → j < size → first + j < count →
-    getD (cellsFrom first size f none count) j d ≡ f (first + j)
-unfolding cellsFrom
-cells-at-from f none zero first count j d inside filled = absurd (omega arith)
-cells-at-from f none (suc size) first count zero d inside filled =
-    let e : first + 0 ≡ first = omega arith in
-    rw (lt-ltb first count (omega arith), e)
-cells-at-from f none (suc size) first count (suc j) d inside filled =
-    let e : suc first + j ≡ first + suc j = omega arith in
-    cells-at-from f none size (suc first) count j d (omega arith) (omega arith) ∙ ap f e
-
-pub cells-at : {A : Type 0} (f : ℕ → A) (none : A) (size count j : ℕ) (d : A) → j < size → j < count →
-    getD (cells size f none count) j d ≡ f j
-cells-at f none size count j d inside filled =
-    let e : 0 + j ≡ j = omega arith in
-    cells-at-from f none size 0 count j d inside (omega arith) ∙ ap f e
-
--- A cell from the count on is empty, and so is any behind the last.
-cells-past-from : {A : Type 0} (f : ℕ → A) (none : A) (size first count j : ℕ) → count ≤ first + j → getD (cellsFrom first size f none count) j none ≡ none
-unfolding cellsFrom
-cells-past-from f none zero first count j past = refl
-cells-past-from f none (suc size) first count zero past = rw (le-ltb first count (omega arith))
-cells-past-from f none (suc size) first count (suc j) past = cells-past-from f none size (suc first) count j (omega arith)
-
-pub cells-past : {A : Type 0} (f : ℕ → A) (none : A) (size count j : ℕ) → count ≤ j → getD (cells size f none count) j none ≡ none
-cells-past f none size count j past = cells-past-from f none size 0 count j (omega arith)
 
 -- Numbers that agree are tabulated alike.
 pub tabulate-same : (g h : ℕ → ℕ) (n : ℕ) → ((x : ℕ) → x < n → g x ≡ h x) → tabulate g 0 n ≡ tabulate h 0 n

@@ -19,7 +19,7 @@ use Rattle.sheet.specs.declared.task.TaskSet.{TaskSet}
 use Rattle.sheet.specs.Answers.{refusedIf, _orElse_, firstOver}
 use Rattle.basics.specs.Lists.{isEmpty, range}
 use Rattle.sheet.specs.Format.{taskIn, missingTask}
-use Rattle.basics.proofs.Cells.{cells-length}
+use Rattle.basics.proofs.Cells.{cells-length, cells-at}
 use Rattle.shares.specs.declared.share.Share.{Share}
 use Rattle.shares.specs.Offer.{tabulate, criticalAt, offerOf}
 use Rattle.shares.proofs.Levels.{critical-within, critical-bound, critical-past}
@@ -37,7 +37,7 @@ use Rattle.basics.proofs.Order.{least-of-none}
 use Rattle.allocation.proofs.Optimal.{OfferOf, EachOffer, Offers, no-offer, offer-and, Takes, choice-takes, select-least}
 use Rattle.allocation.proofs.Options.{offer-of, offer-agrees}
 use Rattle.allocation.proofs.Cells.{tabulate-from, tabulate-has}
-use Rattle.allocation.proofs.Lines.{cells-at, table-within, offers-open, offers-length, sixteen-none}
+use Rattle.allocation.proofs.Lines.{table-within, offers-open, offers-length, sixteen-none}
 
 -- The answer on a task set beside the choice, before low tasks are kept.
 abbrev pub chosenLine : TaskSet → Chosen

@@ -7,12 +7,11 @@ use native.Mathlib.Decide.{decLt}
 use native.Mathlib.Omega.{arith}
 use lib.ListN.{length, getD, take, List·getD-eq-default}
 use lib.Seq.{ext-getD, getD-take, length-take-le}
-use Rattle.basics.proofs.Cells.{cells-length}
+use Rattle.basics.proofs.Cells.{cells-length, cells-at, cells-past}
 use Rattle.shares.specs.declared.share.Share.{Share}
 use Rattle.shares.specs.Totals.{noProcessors, shareAt, shareTotal}
 use Rattle.allocation.specs.Blocks.{offsetIn}
 use Rattle.allocation.specs.Allocation.{sixteen}
-use Rattle.allocation.proofs.Lines.{cells-at, cells-past}
 
 module _ (shares : List Share) where
   pub sixteen-length : length (sixteen shares) ≡ 16

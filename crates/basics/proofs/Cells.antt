@@ -1,11 +1,15 @@
--- Cells filled one after the other: a store at the count gives the cells of the count plus one.
+-- Cells filled one after the other: a store at the count gives the cells of the count plus one. And what each of them holds.
 use Prim.Native.Nat.{ℕ, zero, suc, _≤_, _<_, _+_}
-use mathlib.Core.Path.{_≡_, refl, ap}
+use mathlib.Core.Bool.{Bool, true, false, cond}
+use mathlib.Core.List.{_∷_, map}
+use mathlib.Core.Path.{_≡_, refl, ap, ap₂, _∙_}
+use native.Mathlib.Decide.{decLt}
 use native.Mathlib.Omega.{arith}
 use native.Mathlib.Numerals.{add-one}
-use lib.ListN.{length, set, replicate}
+use lib.Dec.{ltb}
+use lib.ListN.{length, getD, set, replicate}
 use borrow.Author.Tests.{lt-ltb, le-ltb}
-use Rattle.basics.specs.Lists.{cells, cellsFrom}
+use Rattle.basics.specs.Lists.{range, cells, cellsFrom}
 
 module _ {A : Type 0} (f : ℕ → A) (none : A) where
   -- Every cell is empty from the count on.
@@ -44,3 +48,64 @@ module _ {A : Type 0} (f : ℕ → A) (none : A) where
 
   pub cells-store : (size count : ℕ) → count < size → set (cells size f none count) count (f count) ≡ cells size f none (count + 1)
   cells-store size count h = cells-store-from 0 size count count h (omega arith)
+
+  -- A filled cell holds what it is to hold.
+  cells-at-from : (size first count j : ℕ) (d : A) → j < size → first + j < count → getD (cellsFrom first size f none count) j d ≡ f (first + j)
+  unfolding cellsFrom
+  cells-at-from zero first count j d inside filled = absurd (omega arith)
+  cells-at-from (suc size) first count zero d inside filled =
+      let e : first + 0 ≡ first = omega arith in
+      rw (lt-ltb first count (omega arith), e)
+  cells-at-from (suc size) first count (suc j) d inside filled =
+      let e : suc first + j ≡ first + suc j = omega arith in
+      cells-at-from size (suc first) count j d (omega arith) (omega arith) ∙ ap f e
+
+  pub cells-at : (size count j : ℕ) (d : A) → j < size → j < count → getD (cells size f none count) j d ≡ f j
+  cells-at size count j d inside filled =
+      let e : 0 + j ≡ j = omega arith in
+      cells-at-from size 0 count j d inside (omega arith) ∙ ap f e
+
+  -- A cell from the count on is empty, and so is any behind the last.
+  cells-past-from : (size first count j : ℕ) → count ≤ first + j → getD (cellsFrom first size f none count) j none ≡ none
+  unfolding cellsFrom
+  cells-past-from zero first count j past = refl
+  cells-past-from (suc size) first count zero past = rw (le-ltb first count (omega arith))
+  cells-past-from (suc size) first count (suc j) past = cells-past-from size (suc first) count j (omega arith)
+
+  pub cells-past : (size count j : ℕ) → count ≤ j → getD (cells size f none count) j none ≡ none
+  cells-past size count j past = cells-past-from size 0 count j (omega arith)
+
+  -- What an empty cell and what f gives keep, each cell keeps.
+  cells-keep-from : (P : A → Type 0) (size first count j : ℕ) → P none → ((v : ℕ) → first + j ≡ v → P (f v)) →
+      P (getD (cellsFrom first size f none count) j none)
+  unfolding cellsFrom
+  cells-keep-from P zero first count j empty full = empty
+  cells-keep-from P (suc size) first count zero empty full = go (ltb first count)
+    where
+      go : (t : Bool) → P (cond t (f first) none)
+      go true = full first (omega arith)
+      go false = empty
+  cells-keep-from P (suc size) first count (suc j) empty full = cells-keep-from P size (suc first) count j empty (λ v e. full v (omega arith))
+
+  pub cells-keep : (P : A → Type 0) (size count j : ℕ) → P none → P (f j) → P (getD (cells size f none count) j none)
+  cells-keep P size count j empty full =
+      cells-keep-from P size 0 count j empty (λ v e. let same : j ≡ v = omega arith in rw (← same) full)
+
+  -- Where all cells are filled they are what f gives in turn.
+  pub cells-full : (first size count : ℕ) → first + size ≤ count → cellsFrom first size f none count ≡ map f (range first size)
+  unfolding cellsFrom range
+  cells-full first zero count h = refl
+  cells-full first (suc size) count h =
+      rw (lt-ltb first count (omega arith), cells-full (suc first) size count (omega arith))
+
+-- Cells that agree below the count are alike.
+pub cells-same : {A : Type 0} (f g : ℕ → A) (none : A) (first size count : ℕ) →
+    ((i : ℕ) → i < count → f i ≡ g i) → cellsFrom first size f none count ≡ cellsFrom first size g none count
+unfolding cellsFrom
+cells-same f g none first zero count same = refl
+cells-same f g none first (suc size) count same =
+    ap₂ _∷_ (go (decLt first count)) (cells-same f g none (suc first) size count same)
+  where
+    go : Dec (first < count) → cond (ltb first count) (f first) none ≡ cond (ltb first count) (g first) none
+    go (yes h) = ap (λ x. cond (ltb first count) x none) (same first h)
+    go (no h) = rw (le-ltb first count (omega arith))

@@ -5,7 +5,8 @@ use mathlib.Core.Path.{_≡_, refl, sym, _∙_}
 use native.Mathlib.Omega.{arith}
 use native.Mathlib.Decide.{decLe}
 use lib.Dec.{leb}
-use borrow.Author.Tests.{le-leb, lt-leb}
+use borrow.Author.Tests.{leb-true, le-leb, lt-leb}
+use Rattle.basics.specs.Numbers.{within}
 
 -- Under a guard, only what holds where the guard does has to agree.
 pub under : (g : Bool) {x y : Bool} → (g ≡ true → x ≡ y) → (g && x) ≡ (g && y)
@@ -45,3 +46,8 @@ leb-same a b c d to from = go (decLe a b)
         other : Dec (c ≤ d) → d < c
         other (yes k) = absurd (h (from k))
         other (no k) = omega arith
+
+-- A number within bounds, by the bounds.
+pub within-bounds : (low high x : ℕ) → within low high x ≡ true → (low ≤ x) × (x ≤ high)
+within-bounds low high x h =
+    (leb-true low x (left-true (leb low x) (leb x high) h), leb-true x high (right-true (leb low x) (leb x high) h))

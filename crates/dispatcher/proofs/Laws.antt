@@ -9,6 +9,7 @@ use mathlib.Core.Option.{Option, none, some}
 use native.Mathlib.Omega.{arith}
 use borrow.Author.Tests.{not-true}
 use lib.ListN.{length, getD, take, drop, length-map, length-take, List·getD-map}
+use Rattle.basics.proofs.Logic.{within-bounds}
 use Rattle.sheet.specs.declared.answer.Answer.the-variants.{Refused}
 use Rattle.shares.specs.Totals.{shareIn}
 use Rattle.model.specs.Row.{Fixed, Job, Row, allEnded, fixedPart as rowFixed}
@@ -24,7 +25,7 @@ use Rattle.dispatcher.specs.Sound.{entriesSound, isSound}
 use Rattle.sheet.specs.Answers.{noTask}
 use Rattle.dispatcher.specs.Answers.{notSound, releaseAnswer, tickAnswer}
 use Rattle.dispatcher.specs.Calls.{releasedBy, releaseOf, tickedBy, tickOf}
-use Rattle.entries.proofs.Soundness.{SoundEntry, entry-facts, sound-entry, within-bounds}
+use Rattle.entries.proofs.Soundness.{SoundEntry, entry-facts, sound-entry}
 use Rattle.dispatcher.proofs.Soundness.{sharesIn, SoundState, state-facts, sound-state}
 use Rattle.dispatcher.proofs.Entries.{noEntry, sound-in}
 use Rattle.dispatcher.proofs.Rows.{rows-rest, model-own, model-with, no-entry-row}

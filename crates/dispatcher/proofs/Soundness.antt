@@ -6,9 +6,9 @@ use mathlib.Core.List.{List}
 use borrow.Author.Tests.{leb-true, le-leb}
 use lib.Dec.{leb}
 use Rattle.basics.specs.Numbers.{within}
+use Rattle.basics.proofs.Logic.{within-bounds}
 use Rattle.shares.specs.Totals.{shareTotal}
 use Rattle.model.specs.Row.{Row}
-use Rattle.entries.proofs.Soundness.{within-bounds}
 use Rattle.dispatcher.specs.declared.state.State.{State}
 use Rattle.dispatcher.specs.Holds.{entriesOf, modelOf, rowShares}
 use Rattle.dispatcher.specs.Sound.{entriesSound, isSound}

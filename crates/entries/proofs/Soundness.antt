@@ -10,7 +10,7 @@ use lib.Pow.{pow-pos}
 use Rattle.basics.specs.Lists.{range}
 use Rattle.nodes.specs.Sets.{setOf}
 use Rattle.nodes.proofs.Members.{setOf-range}
-use Rattle.basics.proofs.Logic.{leb-same}
+use Rattle.basics.proofs.Logic.{leb-same, within-bounds}
 use Rattle.basics.specs.Numbers.{within}
 use Rattle.sheet.specs.Level.{levelLawful, figureLimit}
 use Rattle.sheet.specs.Rules.{masksLawful}
@@ -42,12 +42,6 @@ all-of a b c d e f g h t =
 
 of-all : (a b c d e f g h : Bool) → All a b c d e f g h → (a && b && c && d && e && f && g && h) ≡ true
 of-all a b c d e f g h t = rw (t .first, t .second, t .third, t .fourth, t .fifth, t .sixth, t .seventh, t .eighth)
-
--- A range that is kept, by its bounds.
-pub within-bounds : (low high x : ℕ) → within low high x ≡ true → (low ≤ x) × (x ≤ high)
-within-bounds low high x t =
-    let both = and-eq-true-iff (leb low x) (leb x high) .0 t in
-    (leb-true low x (both .0), leb-true x high (both .1))
 
 -- A sound entry, part by part.
 pub record SoundEntry (e : TaskState) : Type 0 where

@@ -1,27 +1,19 @@
 -- Entries read one after the other: cells that are all filled are the whole.
-use Prim.Native.Nat.{ℕ, zero, suc, _+_, _≤_, _<_}
-use mathlib.Core.Path.{_≡_, refl, ap, ap₂, _∙_}
+use Prim.Native.Nat.{ℕ, _+_, _<_}
+use mathlib.Core.Path.{_≡_, ap, ap₂, _∙_}
 use mathlib.Core.Bool.{not}
-use mathlib.Core.List.{List, map}
+use mathlib.Core.List.{List}
 use native.Mathlib.Nat.{add-zero}
 use native.Mathlib.Omega.{arith}
-use borrow.Author.Tests.{lt-ltb}
 use lib.Dec.{eqb}
 use lib.ListN.{getD, take, drop, set, replicate}
 use lib.Seq.{getD-drop, drop-drop}
-use Rattle.basics.specs.Lists.{range, cells, cellsFrom}
-use Rattle.basics.proofs.Cells.{cells-none, cells-store}
+use Rattle.basics.specs.Lists.{cells}
+use Rattle.basics.proofs.Cells.{cells-none, cells-store, cells-full}
 use Rattle.entries.specs.declared.state.TaskState.{TaskState}
 use Rattle.start.specs.Fresh.{zeroEntry}
 use Rattle.dispatcher.specs.declared.state.State.{State}
 use Rattle.exports.specs.Words.{isSet, entryFrom, entryAt, stateFrom}
-
-cells-full : {A : Type 0} (f : ℕ → A) (none : A) (first size count : ℕ) → first + size ≤ count →
-    cellsFrom first size f none count ≡ map f (range first size)
-unfolding cellsFrom range
-cells-full f none first zero count h = refl
-cells-full f none first (suc size) count h =
-    rw (lt-ltb first count (omega arith), cells-full f none (suc first) size count (omega arith))
 
 -- The entry by its words' places in the line.
 pub entry-in-place : (line : List ℕ) (at : ℕ) (masks : List ℕ) → masks ≡ take 32 (drop (at + 2) line) →

@@ -12,7 +12,7 @@ use lib.ListN.{length, take, drop, set}
 use borrow.Author.Tests.{eqb-true, eq-eqb, ltb-true, leb-true, le-leb, lt-leb, lt-ltb, le-ltb, ne-eqb}
 use Rattle.basics.specs.Lists.{range, all, isIn}
 use Rattle.basics.specs.Numbers.{within}
-use Rattle.basics.proofs.Logic.{left-true, right-true, test-same, leb-same, bool-ext}
+use Rattle.basics.proofs.Logic.{left-true, right-true, within-bounds, test-same, leb-same, bool-ext}
 use Rattle.basics.proofs.Lists.{keep-none}
 use Rattle.nodes.specs.Sets.{has, setOf}
 use Rattle.nodes.proofs.Bits.{has-or, has-power, has-zero, has-ext, below-of-has, within-antisymm}
@@ -20,10 +20,6 @@ use Rattle.nodes.proofs.Members.{setOf-keep-lt, has-setOf-keep}
 use Rattle.graph_text.specs.declared.graph.Node.{Node}
 use Rattle.graph_text.specs.Graph.{Entry, timeLawful, entryBefore, entriesFrom, maskOf}
 use Rattle.graph_text.specs.means.Entries.{afterTaken, bitNamed, withNamed, namedFrom, nodeWith, Held, isNode, storedAt, heldWith, heldFrom}
-
-pub within-bounds : (low high x : ℕ) → within low high x ≡ true → (low ≤ x) × (x ≤ high)
-within-bounds low high x h =
-    (leb-true low x (left-true (leb low x) (leb x high) h), leb-true x high (right-true (leb low x) (leb x high) h))
 
 -- A test that says whether a number is below another or at most it, however it is written.
 below-is : (t : Bool) (a b : ℕ) → (t ≡ true → a < b) → (t ≡ false → b ≤ a) → t ≡ ltb a b

@@ -11,9 +11,9 @@ use denote.Enum.Declared as declared
 use types.Run.{OneOf}
 use lib.Dec.{eqb, leb, ltb}
 use lib.ListN.{length, take, drop, getD, set, replicate}
-use borrow.Author.Tests.{leb-true, leb-false, le-leb, lt-ltb}
-use Rattle.basics.specs.Lists.{all, cells, cellsFrom}
-use Rattle.basics.proofs.Cells.{cells-none, cells-store}
+use borrow.Author.Tests.{leb-true, leb-false, le-leb}
+use Rattle.basics.specs.Lists.{all, cells}
+use Rattle.basics.proofs.Cells.{cells-none, cells-store, cells-full}
 use Rattle.graph_text.specs.declared.text.Next.{Next}
 use Rattle.graph_text.specs.declared.text.Next.the-variants.{Numeral, Nothing, Fault}
 use Rattle.graph_text.specs.Graph.{Entry, Graph, timeLawful, entryBefore, entriesFrom, graphWith, graphFrom, risingFrom, isRising, noEntry, nodeOf, maskOf, masksOf, timesOf}
@@ -50,14 +50,6 @@ entries-length count v (suc more) (number ∷ time ∷ many ∷ rest) =
     go true h = length-before more e (entriesFrom count (suc v) more (drop many rest)) h
     go false h = tt
 
--- Cells that are all full stay as they are.
-cells-full : {A : Type 0} (f : ℕ → A) (empty : A) (first size c d : ℕ) → first + size ≤ c → first + size ≤ d →
-    cellsFrom first size f empty c ≡ cellsFrom first size f empty d
-unfolding cellsFrom
-cells-full f empty first zero c d h g = refl
-cells-full f empty first (suc size) c d h g =
-    rw (lt-ltb first c (omega arith), lt-ltb first d (omega arith), cells-full f empty (suc first) size c d (omega arith) (omega arith))
-
 -- The entry at a place of a list, and those behind it.
 drop-head : (list : List Entry) (v : ℕ) (e : Entry) (entries : List Entry) → drop v list ≡ e ∷ entries →
     (getD list v noEntry ≡ e) × (drop (suc v) list ≡ entries)
@@ -89,7 +81,7 @@ module _ (count : ℕ) (x : Entry → ℕ) where
       where
         go : Dec (count ≤ u) → cells 32 numberOf 0 (min u count) ≡ cells 32 numberOf 0 (min (suc u) count)
         go (yes few) = let same : min u count ≡ min (suc u) count = omega arith in rw same
-        go (no more) = cells-full numberOf 0 0 32 (min u count) (min (suc u) count) (omega arith) (omega arith)
+        go (no more) = cells-full numberOf 0 0 32 (min u count) (omega arith) ∙ sym (cells-full numberOf 0 0 32 (min (suc u) count) (omega arith))
 
     store-one : (v : ℕ) (e : Entry) → getD whole v noEntry ≡ e →
         storedAt count v (x e) (cells 32 numberOf 0 (min (v - 1) count)) ≡ cells 32 numberOf 0 (min v count)

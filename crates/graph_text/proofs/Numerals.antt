@@ -1,7 +1,7 @@
 -- The numerals of a text, byte by byte: a blank changes nothing, digits say one number more, `#` and the end leave none, and any other
 -- byte leaves a text that is not of the format.
 use Prim.Native.Nat.{ℕ, _+_, _-_, _*_, _≤_, _<_}
-use mathlib.Core.Bool.{Bool, true, false, cond, _&&_, true≢false}
+use mathlib.Core.Bool.{Bool, true, false, cond, _&&_, and-false, true≢false}
 use mathlib.Core.List.{List, [], _∷_, _++_, map}
 use mathlib.Core.Option.{Option, none, some}
 use mathlib.Core.Path.{_≡_, refl, sym, ap, _∙_}
@@ -61,10 +61,6 @@ still-bad (x ∷ word) b bad = go (isDigit x) bad (still-bad word b)
         (t && all isDigit (word ++ b ∷ [])) ≡ false
     go true e rest = rest e
     go false e rest = refl
-
-and-false : (t : Bool) → (t && false) ≡ false
-and-false true = refl
-and-false false = refl
 
 now-bad : (word : List ℕ) (b : ℕ) → isDigit b ≡ false → all isDigit (word ++ b ∷ []) ≡ false
 now-bad [] b bad = rw bad

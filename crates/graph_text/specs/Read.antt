@@ -7,10 +7,13 @@ use lib.ListN.{replicate}
 use Rattle.graph_text.specs.declared.graph.NodeGraph.{NodeGraph}
 use Rattle.graph_text.specs.Graph.{Graph, graphOf, isRising, masksOf, timesOf}
 
+-- What is told of a text that is not of the format.
+abbrev pub noNodes : NodeGraph
+noNodes = record { lawful = false; count = 0; rising = false; times = replicate 32 0; masks = replicate 32 0 }
+
 -- A graph by its nodes.
 abbrev pub nodeGraph : Option Graph → NodeGraph
-nodeGraph none =
-    record { lawful = false; count = 0; rising = false; times = replicate 32 0; masks = replicate 32 0 }
+nodeGraph none = noNodes
 nodeGraph (some g) =
     record { lawful = true; count = g .count; rising = isRising g; times = timesOf g; masks = masksOf g }
 

@@ -1,10 +1,9 @@
 // S14.2 to S14.5: the graph that a text says.
 ghost use mathlib.Core.Path.{_≡_};
 ghost use Prim.Native.Nat.{suc, _-_, _≤_};
-ghost use mathlib.Core.Option.{none};
 ghost use lib.ListN.{length};
 ghost use Rattle.graph_text.specs.Graph.{timeLawful};
-ghost use Rattle.graph_text.specs.Read.{nodeGraph, readOf};
+ghost use Rattle.graph_text.specs.Read.{noNodes, readOf};
 ghost use Rattle.graph_text.specs.means.Scan.{numeralsAt};
 ghost use Rattle.graph_text.specs.means.Entries.{bitNamed, withNamed, namedFrom, entryFrom, Reads, isNode, noneHeld, heldOf, heldGraph};
 use crate::text::Next;
@@ -15,14 +14,14 @@ use basics::numbers::is_within;
 const NODES: u32 = 32;
 
 // An entry as a node: its time, its mask, and whether it names lower numbers only (S14.4).
-pub struct Node {
-    pub time: u32,
-    pub mask: u32,
-    pub rising: bool,
+struct Node {
+    time: u32,
+    mask: u32,
+    rising: bool,
 }
 
 // An entry that was read, with the place behind it; or none of the format.
-pub enum EntryRead {
+enum EntryRead {
     Read(Node, usize),
     Fault,
 }
@@ -120,7 +119,7 @@ fn read_entry(text: &[u8], from: usize, count: u32, v: u32) -> EntryRead
 
 // What is told of a text that is not of the format.
 fn no_graph() -> NodeGraph
-    ensures { λ r. ⌜ r ≡ nodeGraph none ⌝ }
+    ensures { λ r. ⌜ r ≡ noNodes ⌝ }
 {
     NodeGraph {
         times: [0u32; 32],

@@ -12,14 +12,13 @@ use Rattle.sheet.specs.declared.task.Task.{Task}
 use Rattle.sheet.specs.declared.task.TaskSet.{TaskSet}
 use Rattle.sheet.specs.Format.{taskIn}
 use Rattle.sheet.specs.Level.{figureLimit}
-use Rattle.basics.proofs.Cells.{cells-length}
+use Rattle.basics.proofs.Cells.{cells-length, cells-at}
 use Rattle.shares.specs.declared.share.Share.{Share}
 use Rattle.shares.specs.Totals.{shareTotal, shareAt}
 use Rattle.allocation.specs.Lawful.{LawfulSet, LawfulShares}
 use Rattle.allocation.specs.declared.allocate.Allocation.{Allocation}
 use Rattle.allocation.specs.Allocation.{allocationOf, allocationAt}
 use Rattle.allocation.proofs.Lawfulness.{figures-kept}
-use Rattle.allocation.proofs.Lines.{cells-at}
 use Rattle.model.specs.Row.{Row}
 use Rattle.model.specs.Step.{noRow, rowAt}
 use Rattle.model.specs.Plan.{freshRow, freshRows, fresh}

@@ -14,10 +14,11 @@ use Rattle.sheet.specs.Level.{isLow, isHigh}
 use Rattle.shares.specs.Totals.{shareAt}
 use Rattle.shares.proofs.Levels.{has-below}
 use Rattle.allocation.specs.Lawful.{LawfulSet, LawfulTask, LawfulShares}
-use Rattle.allocation.proofs.Lawfulness.{within-from, figures-kept, low-equal, heavy-work}
+use Rattle.allocation.proofs.Lawfulness.{figures-kept, low-equal, heavy-work}
 use Rattle.model.specs.Row.{predecessorsOf}
 use Rattle.model.specs.Plan.{LawfulTask as ModelTask, PassingPair, LowPair, Planned}
 use Rattle.basics.proofs.Below.{all-at}
+use Rattle.basics.proofs.Logic.{within-bounds}
 
 -- One task.
 task-lawful : (t : Task) → LawfulTask t → ModelTask t
@@ -25,7 +26,7 @@ unfolding masksLawful maskLawful predecessorsOf
 task-lawful t lawful =
     let kept = figures-kept (t .level) (t .figures) (lawful .figures) in
     record {
-      nodes = within-from 1 32 (t .nodes) (lawful .nodes);
+      nodes = within-bounds 1 32 (t .nodes) (lawful .nodes) .0;
       figures = record { span = kept .span-from; spans = kept .spans };
       low = λ low. low-equal (t .level) (t .figures) (lawful .figures) low .0;
       heavy = heavy-work (t .figures) (lawful .heavy);

@@ -1,33 +1,39 @@
 -- What an accepted import says of its graph and its terms, since no cause of 17, 18 and 19 holds.
 use Prim.Native.Nat.{ℕ, _≤_}
-use mathlib.Core.Bool.{Bool, true, false, not, _&&_, _||_}
+use mathlib.Core.Bool.{Bool, true, false, not, _&&_, _||_, false≢true}
 use mathlib.Core.List.{List}
 use mathlib.Core.Option.{Option, some}
 use mathlib.Core.Path.{_≡_, refl, sym, ap, _∙_}
-use native.Mathlib.Omega.{arith}
 use lib.Dec.{eqb, leb}
 use borrow.Author.Tests.{leb-true, eqb-true}
 use Rattle.basics.specs.Numbers.{within}
-use Rattle.basics.proofs.Logic.{left-true, right-true}
-use Rattle.sheet.specs.declared.answer.Answer.the-variants.{Accepted}
+use Rattle.basics.proofs.Logic.{left-true, right-true, within-bounds}
+use Rattle.sheet.specs.declared.answer.Answer.{Answer}
+use Rattle.sheet.specs.declared.answer.Answer.the-variants.{Accepted, Refused}
 use Rattle.sheet.specs.Answers.{noTask, refusedIf, _orElse_}
 use Rattle.sheet.specs.Level.{isHigh}
 use Rattle.sheet.specs.Rules.{inRange}
 use Rattle.graph_text.specs.Graph.{Graph, graphOf, isRising}
-use Rattle.graph_text.proofs.Entries.{within-bounds}
 use Rattle.importer.specs.declared.terms.Terms.{Terms}
 use Rattle.importer.specs.Task.{termsLawful, figuresOf}
 use Rattle.importer.specs.Import.{badText, badGraph, figureOutside, roomFor, isAskedWell, graphLawful, answerFor, importAnswer}
 
--- Three rules, none of which is broken.
-three-kept : (first second third : Bool) →
-    (refusedIf (not first) badText noTask orElse refusedIf (not second) badGraph noTask orElse refusedIf (not third) figureOutside noTask)
-    ≡ Accepted →
-    (first ≡ true) × (second ≡ true) × (third ≡ true)
-three-kept true true true e = (refl, refl, refl)
-three-kept true true false e = absurd (let z : _≡_ {A = ℕ} 0 1 = cc in omega arith)
-three-kept true false third e = absurd (let z : _≡_ {A = ℕ} 0 1 = cc in omega arith)
-three-kept false second third e = absurd (let z : _≡_ {A = ℕ} 0 1 = cc in omega arith)
+-- A refusal is no acceptance; a rule whose cause accepts is kept, alone and in front of others.
+pub refused-not : {number task : ℕ} → Refused number task ≡ Accepted → ⊥
+refused-not e = false≢true (ap accepts e)
+  where
+    accepts : Answer → Bool
+    accepts Accepted = true
+    accepts (Refused number task) = false
+
+pub alone-kept : (rule : Bool) (number task : ℕ) → refusedIf (not rule) number task ≡ Accepted → rule ≡ true
+alone-kept true number task e = refl
+alone-kept false number task e = absurd (refused-not e)
+
+pub rule-kept : (rule : Bool) (number task : ℕ) (later : Answer) → (refusedIf (not rule) number task orElse later) ≡ Accepted →
+    (rule ≡ true) × (later ≡ Accepted)
+rule-kept true number task later e = (refl, e)
+rule-kept false number task later e = absurd (refused-not e)
 
 -- Terms that are lawful.
 pub record LawfulTerms (t : Terms) : Type 0 where
@@ -60,14 +66,15 @@ pub record Kept (g : Graph) (t : Terms) : Type 0 where
 graph-kept : (g : Graph) (t : Terms) (room : ℕ) → answerFor (some g) t room ≡ Accepted → Kept g t
 unfolding isAskedWell graphLawful
 graph-kept g t room e =
-    let rules = three-kept (isAskedWell g t room) (graphLawful g) (inRange (t .level) (figuresOf g t)) e in
-    let counted = within-bounds 1 32 (g .count) (left-true (within 1 32 (g .count)) (isRising g) (rules .1)) in
+    let asked = rule-kept (isAskedWell g t room) badText noTask _ e in
+    let lawful = rule-kept (graphLawful g) badGraph noTask _ (asked .1) in
+    let counted = within-bounds 1 32 (g .count) (left-true (within 1 32 (g .count)) (isRising g) (lawful .0)) in
     record {
-      terms = terms-kept t (left-true (termsLawful t) (leb (roomFor (g .count)) room) (rules .0));
+      terms = terms-kept t (left-true (termsLawful t) (leb (roomFor (g .count)) room) (asked .0));
       some-nodes = counted .0;
       few-nodes = counted .1;
-      rising = right-true (within 1 32 (g .count)) (isRising g) (rules .1);
-      ranged = rules .2;
+      rising = right-true (within 1 32 (g .count)) (isRising g) (lawful .0);
+      ranged = alone-kept (inRange (t .level) (figuresOf g t)) figureOutside noTask (lawful .1);
     }
 
 pub accepted-kept : (text : List ℕ) (t : Terms) (room : ℕ) (g : Graph) →

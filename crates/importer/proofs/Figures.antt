@@ -1,14 +1,11 @@
 -- Times by a percentage: each product stays within a word, and one node more is one cell more.
-use Prim.Native.Nat.{ℕ, zero, suc, _+_, _*_, _/_, _≤_, _<_}
-use mathlib.Core.Bool.{Bool, true, false, cond}
+use Prim.Native.Nat.{ℕ, _+_, _*_, _/_, _≤_, _<_}
 use mathlib.Core.List.{List}
 use mathlib.Core.Path.{_≡_, sym}
 use native.Mathlib.Nat.{mul-le-mul}
 use native.Mathlib.Omega.{arith}
-use lib.Dec.{ltb}
-use lib.ListN.{getD, set, replicate}
-use Rattle.basics.specs.Lists.{cellsFrom}
-use Rattle.basics.proofs.Cells.{cells-none, cells-store}
+use lib.ListN.{set, replicate}
+use Rattle.basics.proofs.Cells.{cells-none, cells-store, cells-keep}
 use Rattle.sheet.specs.declared.task.Budget.{Budget}
 use Rattle.chains.specs.Chains.{budgetOf}
 use Rattle.chains.specs.means.Bounds.{timeAt, timeLimit, Small}
@@ -16,17 +13,6 @@ use Rattle.graph_text.specs.declared.graph.NodeGraph.{NodeGraph}
 use Rattle.importer.specs.declared.terms.Terms.{Terms}
 use Rattle.importer.specs.Task.{scaled}
 use Rattle.importer.specs.means.Nodes.{TimesSmall, scaledTimes, nodesTask}
-
--- A cell holds what a function gives, or 0.
-pub cells-at-most : (f : ℕ → ℕ) (limit first size count v : ℕ) → ((u : ℕ) → f u ≤ limit) → getD (cellsFrom first size f 0 count) v 0 ≤ limit
-unfolding cellsFrom
-cells-at-most f limit first zero count v most = omega arith
-cells-at-most f limit first (suc size) count zero most = go (ltb first count)
-  where
-    go : (t : Bool) → cond t (f first) 0 ≤ limit
-    go true = most first
-    go false = omega arith
-cells-at-most f limit first (suc size) count (suc v) most = cells-at-most f limit (suc first) size count v most
 
 pub product-small : (times : List ℕ) (v percentage : ℕ) → TimesSmall times → percentage ≤ 400 → timeAt times v * percentage ≤ 26214000
 unfolding TimesSmall
@@ -56,7 +42,8 @@ pub scaled-small : (k percentage : ℕ) (times overload : List ℕ) → overload
     Small overload
 unfolding Small scaledTimes scaled
 scaled-small k percentage times overload e most small v =
-    rw e (cells-at-most (λ u. scaled percentage (timeAt times u)) timeLimit 0 32 k v (λ u. let p = product-small times u percentage small most in omega arith))
+    let p = product-small times v percentage small most in
+    rw e (cells-keep (λ u. scaled percentage (timeAt times u)) 0 (λ x. x ≤ timeLimit) 32 k v (omega arith) (omega arith))
 
 -- The task by its parts.
 pub task-with : (graph : NodeGraph) (t : Terms) (overload : List ℕ) (nominal more : Budget) →

@@ -9,10 +9,9 @@ use native.Mathlib.Omega.{arith}
 use lib.Dec.{leb}
 use lib.ListN.{length, drop, getD, replicate}
 use lib.Seq.{sets, sets-eq}
-use borrow.Author.Tests.{leb-true, lt-ltb}
-use Rattle.basics.specs.Lists.{cellsFrom}
+use borrow.Author.Tests.{leb-true}
 use Rattle.basics.specs.Numbers.{within}
-use Rattle.basics.proofs.Cells.{cells-length}
+use Rattle.basics.proofs.Cells.{cells-length, cells-at, cells-keep}
 use Rattle.sheet.specs.declared.answer.Answer.{Answer}
 use Rattle.sheet.specs.declared.answer.Answer.the-variants.{Accepted, Refused}
 use Rattle.sheet.specs.declared.task.Task.{Task}
@@ -22,11 +21,11 @@ use Rattle.sheet.specs.Rules.{inRange}
 use Rattle.sheet.proofs.Encoding.{masks-length}
 use Rattle.sheet.proofs.Faults.{after-accepted, after-refused}
 use Rattle.basics.specs.Numbers.{u16Bytes}
+use Rattle.basics.proofs.Logic.{within-bounds}
 use Rattle.graph_text.specs.Text.{numeralLimit}
 use Rattle.graph_text.specs.Graph.{Graph, graphOf, nodeOf, timeOf, maskOf, masksOf, timesOf}
 use Rattle.graph_text.specs.Read.{nodeGraph, readOf}
 use Rattle.graph_text.specs.declared.graph.NodeGraph.{NodeGraph}
-use Rattle.graph_text.proofs.Entries.{within-bounds}
 use Rattle.graph_text.proofs.Bounds.{SmallIfThere, graph-small}
 use Rattle.chains.specs.means.Bounds.{timeAt}
 use Rattle.chains.proofs.Laws.{budget-same}
@@ -34,16 +33,7 @@ use Rattle.importer.specs.declared.terms.Terms.{Terms}
 use Rattle.importer.specs.Task.{termsLawful, scaled, overloadTimeOf, figuresOf, taskFrom}
 use Rattle.importer.specs.Import.{badText, badGraph, figureOutside, roomFor, isAskedWell, graphLawful, answerFor, importAnswer, recordFor, importedRecord, imported}
 use Rattle.importer.specs.means.Nodes.{TimesSmall, ReadSmall, scaledTimes, nodesTask, nodesAnswer}
-use Rattle.importer.proofs.Figures.{cells-at-most}
-
--- A cell that is in use holds what the function gives.
-cells-at : (f : ℕ → ℕ) (first size count v : ℕ) → v < size → first + v < count → getD (cellsFrom first size f 0 count) v 0 ≡ f (first + v)
-unfolding cellsFrom
-cells-at f first zero count v h g = absurd (omega arith)
-cells-at f first (suc size) count zero h g = let e : first + 0 ≡ first = omega arith in rw (e, lt-ltb first count (omega arith))
-cells-at f first (suc size) count (suc v) h g =
-    let e : suc first + v ≡ first + suc v = omega arith in
-    cells-at f (suc first) size count v (omega arith) (omega arith) ∙ ap f e
+use Rattle.importer.proofs.Acceptance.{refused-not, alone-kept, rule-kept}
 
 -- What is read of a text stays within what sums lean on.
 zeros-small : (n : ℕ) (v : ℕ) → getD (replicate n 0) v 0 ≤ numeralLimit
@@ -58,7 +48,7 @@ read-small text = go (graphOf text) (graph-small text)
     go : (found : Option Graph) → SmallIfThere found → ReadSmall (nodeGraph found)
     go none small = record { count = omega arith; times = zeros-small 32 }
     go (some g) small =
-        record { count = small .count; times = λ v. cells-at-most (λ u. nodeOf g u .time) numeralLimit 0 32 (g .count) v (small .times) }
+        record { count = small .count; times = λ v. cells-keep (λ u. nodeOf g u .time) 0 (λ x. x ≤ numeralLimit) 32 (g .count) v (omega arith) (small .times v) }
 
 -- There are 32 masks.
 masks-held : (text : List ℕ) → length (readOf text .masks) ≡ 32
@@ -73,14 +63,12 @@ masks-held text = go (graphOf text)
 module _ (g : Graph) (t : Terms) (few : g .count ≤ 32) where
   time-held : (v : ℕ) → v < g .count → timeAt (timesOf g) v ≡ timeOf g v
   unfolding timesOf timeOf
-  time-held v h = cells-at (λ u. nodeOf g u .time) 0 32 (g .count) v (omega arith) (omega arith) ∙ ap (λ (u : ℕ). nodeOf g u .time) (omega arith)
+  time-held v h = cells-at (λ u. nodeOf g u .time) 0 32 (g .count) v 0 (omega arith) h
 
   overload-held : (v : ℕ) → v < g .count → timeAt (scaledTimes (g .count) (t .percentage) (timesOf g)) v ≡ overloadTimeOf g (t .percentage) v
   unfolding scaledTimes overloadTimeOf
   overload-held v h =
-      let place : 0 + v ≡ v = omega arith in
-      cells-at (λ u. scaled (t .percentage) (timeAt (timesOf g) u)) 0 32 (g .count) v (omega arith) (omega arith)
-      ∙ ap (λ (u : ℕ). scaled (t .percentage) (timeAt (timesOf g) u)) place
+      cells-at (λ u. scaled (t .percentage) (timeAt (timesOf g) u)) 0 32 (g .count) v 0 (omega arith) h
       ∙ ap (scaled (t .percentage)) (time-held v h)
 
   pub task-held : nodesTask (nodeGraph (some g)) t ≡ taskFrom g t
@@ -99,29 +87,16 @@ pub record Fine (graph : NodeGraph) (t : Terms) (room : ℕ) : Type 0 where
   pub count : within 1 32 (graph .count) ≡ true
   pub rising : graph .rising ≡ true
 
-both-true : (a b : Bool) → (a && b) ≡ true → (a ≡ true) × (b ≡ true)
-both-true a b h = and-eq-true-iff a b .0 h
-
--- Causes that accept hold not.
-rule-kept : (rule : Bool) (number task : ℕ) (later : Answer) → (refusedIf (not rule) number task orElse later) ≡ Accepted →
-    (rule ≡ true) × (later ≡ Accepted)
-rule-kept true number task later h = (refl, h)
-rule-kept false number task later h = absurd (false≢true (ap isAccepted h))
-  where
-    isAccepted : Answer → Bool
-    isAccepted Accepted = true
-    isAccepted (Refused n k) = false
-
 pub fine : (graph : NodeGraph) (t : Terms) (room : ℕ) → nodesAnswer graph t room ≡ Accepted → Fine graph t room
 unfolding nodesAnswer
 fine graph t room h =
     let asked-rule = graph .lawful && (termsLawful t && leb (roomFor (graph .count)) room) in
     let graph-rule = within 1 32 (graph .count) && graph .rising in
     let first = rule-kept asked-rule badText noTask (refusedIf (not graph-rule) badGraph noTask) h in
-    let second = rule-kept graph-rule badGraph noTask Accepted (accepted-alone (refusedIf (not graph-rule) badGraph noTask) (first .1)) in
-    let asked = both-true (graph .lawful) (termsLawful t && leb (roomFor (graph .count)) room) (first .0) in
-    let with-room = both-true (termsLawful t) (leb (roomFor (graph .count)) room) (asked .1) in
-    let shape = both-true (within 1 32 (graph .count)) (graph .rising) (second .0) in
+    let second = alone-kept graph-rule badGraph noTask (first .1) in
+    let asked = and-eq-true-iff (graph .lawful) (termsLawful t && leb (roomFor (graph .count)) room) .0 (first .0) in
+    let with-room = and-eq-true-iff (termsLawful t) (leb (roomFor (graph .count)) room) .0 (asked .1) in
+    let shape = and-eq-true-iff (within 1 32 (graph .count)) (graph .rising) .0 second in
     record {
       lawful = asked .0;
       terms = with-room .0;
@@ -129,10 +104,6 @@ fine graph t room h =
       count = shape .0;
       rising = shape .1;
     }
-  where
-    accepted-alone : (a : Answer) → a ≡ Accepted → (a orElse Accepted) ≡ Accepted
-    accepted-alone Accepted e = refl
-    accepted-alone (Refused n k) e = e
 
 -- Two causes and a third: what the two refuse is refused, and past them the third answers.
 two-refused : (a b c : Answer) {number task : ℕ} → (a orElse b) ≡ Refused number task → (a orElse b orElse c) ≡ Refused number task
@@ -142,13 +113,6 @@ two-refused (Refused n k) b c h = h
 two-accepted : (a b c : Answer) → (a orElse b) ≡ Accepted → (a orElse b orElse c) ≡ c
 two-accepted Accepted b c h = after-accepted b c h
 two-accepted (Refused n k) b c h = absurd (refused-not h)
-  where
-    told : Answer → Bool
-    told Accepted = true
-    told (Refused m j) = false
-
-    refused-not : Refused n k ≡ Accepted → ⊥
-    refused-not e = false≢true (ap told e)
 
 -- The first two refusals are those of what was read.
 pub read-refused : (text : List ℕ) (t : Terms) (room : ℕ) {number task : ℕ} → nodesAnswer (readOf text) t room ≡ Refused number task →

@@ -11,6 +11,7 @@ use borrow.Author.Tests.{le-leb, lt-ltb, eq-eqb}
 use Rattle.basics.specs.Lists.{all, isIn, cellsFrom}
 use Rattle.basics.proofs.Below.{all-intro}
 use Rattle.basics.proofs.Cells.{cells-none, cells-length}
+use Rattle.basics.proofs.Logic.{within-bounds}
 use Rattle.nodes.proofs.Members.{setOf-keep-lt}
 use Rattle.sheet.specs.declared.task.Budget.{Budget}
 use Rattle.sheet.specs.declared.task.Figures.{Figures}
@@ -27,7 +28,6 @@ use Rattle.model.specs.Row.{predecessorsOf}
 use Rattle.chains.specs.Laws.{LowerOnly}
 use Rattle.chains.proofs.Laws.{budget-same}
 use Rattle.graph_text.specs.Graph.{Graph, nodeOf, timeOf, maskOf, masksOf}
-use Rattle.graph_text.proofs.Entries.{within-bounds}
 use Rattle.importer.specs.declared.terms.Terms.{Terms}
 use Rattle.importer.specs.Task.{overloadTimeOf, figuresOf, taskFrom}
 use Rattle.importer.specs.Import.{recordFor, importedRecord}

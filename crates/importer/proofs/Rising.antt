@@ -1,14 +1,16 @@
 -- S14.4 and S2.12: where each entry names only lower ones, the mask of node v lies below 2 ^ v.
 use Prim.Native.Nat.{ℕ, zero, suc, _+_, _<_, _^_}
-use mathlib.Core.Bool.{Bool, true, false, cond, _||_, false≢true}
+use mathlib.Core.Bool.{Bool, true, false, _||_, false≢true}
 use mathlib.Core.List.{List, [], _∷_}
 use mathlib.Core.Path.{_≡_, refl, sym, ap, _∙_}
 use native.Mathlib.Omega.{arith}
 use lib.Dec.{eqb, ltb}
 use lib.ListN.{getD}
+use lib.Pow.{pow-pos}
 use borrow.Author.Tests.{eqb-true, ltb-true}
-use Rattle.basics.specs.Lists.{all, isIn, cellsFrom}
+use Rattle.basics.specs.Lists.{all, isIn}
 use Rattle.basics.proofs.Logic.{left-true, right-true}
+use Rattle.basics.proofs.Cells.{cells-keep}
 use Rattle.nodes.proofs.Bits.{below-of-has}
 use Rattle.nodes.proofs.Members.{has-setOf-keep}
 use Rattle.model.specs.Row.{predecessorsOf}
@@ -45,21 +47,8 @@ rising-at (entry ∷ entries) v (suc n) number e h =
     rising-at entries (suc v) n number (omega arith)
     (right-true (all (λ p. ltb p v) (entry .predecessors)) (risingFrom (suc v) entries) h)
 
--- A cell is 0, or what f gives it.
-cell-below : (f bound : ℕ → ℕ) → ((v : ℕ) → f v < bound v) → (size first count d v : ℕ) → v ≡ first + d →
-    getD (cellsFrom first size f 0 count) d 0 < bound v
-unfolding cellsFrom
-cell-below f bound h zero first count d v e = omega (arith, h v)
-cell-below f bound h (suc size) first count zero v e = let same : v ≡ first = omega arith in rw same (go (ltb first count))
-  where
-    go : (t : Bool) → cond t (f first) 0 < bound first
-    go true = h first
-    go false = omega (arith, h first)
-cell-below f bound h (suc size) first count (suc d) v e = cell-below f bound h size (suc first) count d v (omega arith)
-
 pub rising-lower : (g : Graph) → isRising g ≡ true → LowerOnly (masksOf g) (g .count)
 unfolding LowerOnly predecessorsOf masksOf isRising nodeOf
 rising-lower g h v l =
-    cell-below (λ u. maskOf (nodeOf g u .predecessors)) (λ u. 2 ^ u)
-    (λ u. mask-below u (nodeOf g u .predecessors) (rising-at (g .entries) 0 (suc u) (suc u) (omega arith) h))
-    32 0 (g .count) v v (omega arith)
+    let mask = mask-below v (nodeOf g v .predecessors) (rising-at (g .entries) 0 (suc v) (suc v) (omega arith) h) in
+    cells-keep (λ u. maskOf (nodeOf g u .predecessors)) 0 (λ x. x < 2 ^ v) 32 (g .count) v (pow-pos v) mask

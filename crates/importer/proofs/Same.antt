@@ -1,12 +1,13 @@
 -- S14.5: a mask says which nodes are named and nothing else; and a task is known by its count, its times and its masks.
-use Prim.Native.Nat.{ℕ, zero, suc, _<_}
-use mathlib.Core.Bool.{Bool, true, false, cond, _||_}
+use Prim.Native.Nat.{ℕ, suc, _<_}
+use mathlib.Core.Bool.{Bool, true, false, _||_}
 use mathlib.Core.List.{List, _∷_}
 use mathlib.Core.Path.{_≡_, refl, ap, ap₂, sym, _∙_}
-use lib.Dec.{eqb, ltb, eqb·suc-zero}
-use borrow.Author.Tests.{eqb-true, ltb-true}
+use lib.Dec.{eqb, eqb·suc-zero}
+use borrow.Author.Tests.{eqb-true}
 use Rattle.basics.specs.Lists.{isIn, cellsFrom}
 use Rattle.basics.proofs.Lists.{keep-ext-below}
+use Rattle.basics.proofs.Cells.{cells-same}
 use Rattle.nodes.specs.Sets.{setOf}
 use Rattle.chains.specs.Chains.{budgetOf}
 use Rattle.chains.proofs.Laws.{budget-same}
@@ -31,24 +32,13 @@ mask-kept p predecessors =
     go j named true e = sym (ap (λ (i : ℕ). isIn i predecessors) (eqb-true (suc j) p e) ∙ named)
     go j named false e = refl
 
--- Cells whose numbers agree below the count.
-cells-same : (f g : ℕ → ℕ) (first size count : ℕ) → ((v : ℕ) → v < count → f v ≡ g v) →
-    cellsFrom first size f 0 count ≡ cellsFrom first size g 0 count
-unfolding cellsFrom
-cells-same f g first zero count same = refl
-cells-same f g first (suc size) count same = ap₂ _∷_ (go (ltb first count) refl) (cells-same f g (suc first) size count same)
-  where
-    go : (t : Bool) → ltb first count ≡ t → cond t (f first) 0 ≡ cond t (g first) 0
-    go true e = same first (ltb-true first count e)
-    go false e = refl
-
 -- Two graphs of as many nodes, with the same times, whose nodes name the same nodes.
 module _ (g h : Graph) (counts : g .count ≡ h .count) (times : (v : ℕ) → v < g .count → timeOf g v ≡ timeOf h v)
     (names : (v j : ℕ) → v < g .count → isIn (suc j) (nodeOf g v .predecessors) ≡ isIn (suc j) (nodeOf h v .predecessors)) where
   masks-same : masksOf g ≡ masksOf h
   unfolding masksOf
   masks-same =
-      cells-same (λ v. maskOf (nodeOf g v .predecessors)) (λ v. maskOf (nodeOf h v .predecessors)) 0 32 (g .count)
+      cells-same (λ v. maskOf (nodeOf g v .predecessors)) (λ v. maskOf (nodeOf h v .predecessors)) 0 0 32 (g .count)
       (λ v l. mask-same (nodeOf g v .predecessors) (nodeOf h v .predecessors) (λ j. names v j l))
       ∙ ap (cellsFrom 0 32 (λ v. maskOf (nodeOf h v .predecessors)) 0) counts
 

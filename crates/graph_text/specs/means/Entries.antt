@@ -1,6 +1,6 @@
 -- Entries read from numerals one after the other, and what is held of them.
 use Prim.Native.Nat.{ℕ, zero, suc, _-_, _^_, _≤_, min}
-use mathlib.Core.Bool.{Bool, true, false, cond, _&&_}
+use mathlib.Core.Bool.{Bool, true, cond, _&&_}
 use mathlib.Core.List.{List, [], _∷_}
 use mathlib.Core.Option.{Option, none, some}
 use mathlib.Core.Path.{_≡_}
@@ -13,6 +13,7 @@ use Rattle.graph_text.specs.declared.graph.EntryRead.{EntryRead}
 use Rattle.graph_text.specs.declared.graph.EntryRead.the-variants.{Read, Fault}
 use Rattle.graph_text.specs.declared.graph.NodeGraph.{NodeGraph}
 use Rattle.graph_text.specs.Graph.{timeLawful}
+use Rattle.graph_text.specs.Read.{noNodes}
 use Rattle.graph_text.specs.means.Scan.{numeralsAt}
 
 -- What was taken from the front of some numerals, and the numerals behind it.
@@ -109,7 +110,6 @@ heldOf count v more held (some numerals) = heldFrom count v more held numerals
 
 -- The graph by its nodes that is held, or zeros.
 abbrev pub heldGraph : ℕ → Option Held → NodeGraph
-heldGraph count none =
-    record { lawful = false; count = 0; rising = false; times = replicate 32 0; masks = replicate 32 0 }
+heldGraph count none = noNodes
 heldGraph count (some held) =
     record { lawful = true; count = count; rising = held .rising; times = held .times; masks = held .masks }

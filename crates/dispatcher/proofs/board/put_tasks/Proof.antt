@@ -5,11 +5,12 @@ use mathlib.Core.Path.{_≡_, refl, ap, _∙_}
 use native.Mathlib.Omega.{arith}
 use borrow.Author.Needs.{needs}
 use lib.ListN.{length, length-map, getD, take}
+use Rattle.basics.proofs.Logic.{within-bounds}
 use Rattle.nodes.specs.Sets.{members, setOf}
 use Rattle.model.specs.Row.{runningSet}
 use Rattle.entries.specs.Entry.{rowOf}
 use Rattle.entries.proofs.NodeSets.{lowest-ready}
-use Rattle.entries.proofs.Soundness.{within-bounds, few-nodes}
+use Rattle.entries.proofs.Soundness.{few-nodes}
 use Rattle.dispatcher.proofs.Soundness.{state-facts, few-entries}
 use Rattle.dispatcher.proofs.Entries.{noEntry, sound-at}
 use Rattle.dispatcher.proofs.Boards.{Boarding, boarding-none, boarding-room, boarding-fits, boarding-more, boarding-all}

@@ -5,7 +5,8 @@ use mathlib.Core.Path.{_≡_, sym, ap, _∙_}
 use native.Mathlib.Omega.{arith}
 use borrow.Author.Tests.{not-true, not-false}
 use Rattle.basics.specs.Numbers.{within}
-use Rattle.entries.proofs.Soundness.{within-bounds, nodes-broken, entry-by-tests}
+use Rattle.basics.proofs.Logic.{within-bounds}
+use Rattle.entries.proofs.Soundness.{nodes-broken, entry-by-tests}
 use borrow.Author.Needs.{needs}
 use Rattle.entries.proofs.sound.entry_sound.Statement.{statement}
 use Rattle.entries.proofs.sound.entry_sound.Tie as tie

@@ -5,9 +5,9 @@ use mathlib.Core.Path.{_≡_, sym, _∙_}
 use native.Mathlib.Omega.{arith}
 use borrow.Author.Needs.{needs}
 use Rattle.basics.specs.Numbers.{within}
+use Rattle.basics.proofs.Logic.{within-bounds}
 use Rattle.nodes.proofs.Bits.{shl-one}
 use Rattle.graph_text.specs.means.Entries.{bitNamed}
-use Rattle.graph_text.proofs.Entries.{within-bounds}
 use Rattle.graph_text.proofs.graph.bit_named.Statement.{statement}
 use Rattle.graph_text.proofs.graph.bit_named.Tie as tie
 

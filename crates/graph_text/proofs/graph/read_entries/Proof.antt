@@ -181,36 +181,36 @@ enum-told-2 c = search needs
 no-graph-requires-2 : tie.Need-no-graph-requires-2 Inv-loop μ-loop
 no-graph-requires-2 c κs = search needs
 
+-- Behind the loop no entry is left.
+whole-at : (c : tie.After-loop Inv-loop μ-loop) →
+    heldOf (start-at (c .before) .args .count) (c .before .loop .v) 0 (held-at (c .before))
+    (numeralsAt (now (start-at (c .before) .args .text)) (c .before .loop .at))
+    ≡ heldOf (start-at (c .before) .args .count) 0 (suc (suc (start-at (c .before) .args .count))) noneHeld
+    (numeralsAt (now (start-at (c .before) .args .text)) (start-at (c .before) .args .from))
+whole-at c =
+    let loop = c .before .loop in
+    let start = start-at (c .before) in
+    let none : start .args .count + 2 - loop .v ≡ 0 = omega arith in
+    ap (λ (n : ℕ). heldOf (start .args .count) (loop .v) n (held-at (c .before)) (numeralsAt (now (start .args .text)) (loop .at))) (sym none)
+    ∙ loop .inv .2
+
 returns-2 : tie.Need-returns-2 Inv-loop μ-loop
 returns-2 c =
-    let at-loop = c .before .before .before .before in
-    let start = at-loop .before .before in
-    let loop = at-loop .loop in
-    let text = now (start .args .text) in
-    let count = start .args .count in
-    let none : count + 2 - loop .v ≡ 0 = omega arith in
+    let behind = c .before .before .before in
+    let loop = behind .before .loop in
+    let start = start-at (behind .before) in
     let called = c .before .before .next-numeral in
-    let end = held-end count (loop .v) (held-at at-loop) text (loop .at) (called .result) (c .enum-told2 .given .1) (called .ensures) in
-    ap (heldGraph count)
-    (sym end
-    ∙ ap (λ (n : ℕ). heldOf count (loop .v) n (held-at at-loop) (numeralsAt text (loop .at))) (sym none)
-    ∙ loop .inv .2)
+    let end = held-end (start .args .count) (loop .v) (held-at (behind .before)) (now (start .args .text)) (loop .at) (called .result) (c .enum-told2 .given .1) (called .ensures) in
+    ap (heldGraph (start .args .count)) (sym end ∙ whole-at behind)
 
 returns-3 : tie.Need-returns-3 Inv-loop μ-loop
 returns-3 c =
-    let at-loop = c .before .before .before .before in
-    let start = at-loop .before .before in
-    let loop = at-loop .loop in
-    let text = now (start .args .text) in
-    let count = start .args .count in
-    let none : count + 2 - loop .v ≡ 0 = omega arith in
+    let behind = c .before .before .before in
+    let loop = behind .before .loop in
+    let start = start-at (behind .before) in
     let called = c .before .before .next-numeral in
-    let past = held-past count (loop .v) (held-at at-loop) text (loop .at) (called .result) (c .before .match2 .keys2) (called .ensures) in
-    c .no-graph2 .ensures
-    ∙ ap (heldGraph count)
-    (sym past
-    ∙ ap (λ (n : ℕ). heldOf count (loop .v) n (held-at at-loop) (numeralsAt text (loop .at))) (sym none)
-    ∙ loop .inv .2)
+    let past = held-past (start .args .count) (loop .v) (held-at (behind .before)) (now (start .args .text)) (loop .at) (called .result) (c .before .match2 .keys2) (called .ensures) in
+    c .no-graph2 .ensures ∙ ap (heldGraph (start .args .count)) (sym past ∙ whole-at behind)
 
 pub read-entries-spec : {M : Type 1} → statement M
 read-entries-spec =

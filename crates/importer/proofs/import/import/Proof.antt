@@ -5,13 +5,13 @@ use mathlib.Core.Path.{_≡_, sym, ap, _∙_, subst}
 use borrow.Author.Needs.{needs}
 use denote.Ref.{now}
 use lib.ListN.{length}
+use Rattle.basics.proofs.Logic.{within-bounds}
 use Rattle.sheet.specs.declared.answer.Answer.the-variants.{Accepted}
 use Rattle.sheet.specs.declared.task.Task.{Task}
 use Rattle.sheet.specs.Rules.{inRange}
 use Rattle.sheet.proofs.Said.{said}
 use Rattle.graph_text.specs.declared.graph.NodeGraph.{NodeGraph}
 use Rattle.graph_text.specs.Read.{readOf}
-use Rattle.graph_text.proofs.Entries.{within-bounds}
 use Rattle.importer.specs.declared.terms.Terms.{Terms}
 use Rattle.importer.specs.Import.{terms, roomFor}
 use Rattle.importer.specs.means.Nodes.{ReadSmall, nodesTask, nodesAnswer}
