@@ -1,6 +1,6 @@
 // S14.1: the numerals of a text, read one after the other.
 ghost use mathlib.Core.Path.{_≡_};
-ghost use Prim.Native.Nat.{_≤_, _<_};
+ghost use Prim.Native.Nat.{_≤_};
 ghost use lib.ListN.{length};
 ghost use Rattle.basics.specs.Digits.{isDigit};
 ghost use Rattle.graph_text.specs.Text.{isBlank, numeralLimit};
