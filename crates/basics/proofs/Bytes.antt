@@ -7,7 +7,7 @@ use native.Mathlib.Omega.{arith}
 use native.Mathlib.Nat.{mod-add-div, mod-eq-of-lt, div-div-eq-div-mul}
 use lib.ListN.{length, set}
 use lib.Seq.{getD-append-add, set-comm, sets}
-use Rattle.basics.specs.Numbers.{byteAt, u16At, u32At, u16Bytes, u32Bytes}
+use Rattle.basics.specs.Numbers.{byteAt, u16At, u32At, u32Bytes}
 
 -- Bytes in front move each place.
 module _ (front s : List ℕ) where
@@ -53,13 +53,6 @@ u32-stored out at x =
     let two : at + 2 ≡ suc (suc at) = omega arith in
     let three : at + 3 ≡ suc (suc (suc at)) = omega arith in
     rw (one, two, three)
-
--- A number that two bytes hold has no more than these.
-pub u16-small : (x : ℕ) → x < 65536 → u16Bytes x ≡ x % 256 ∷ x / 256 ∷ []
-unfolding u16Bytes
-u16-small x h =
-    let high : x / 256 % 256 ≡ x / 256 = omega arith in
-    rw high
 
 -- A run of stores in two parts.
 pub sets-append : {A : Type 0} (out : List A) (at : ℕ) (xs ys : List A) → sets out at (xs ++ ys) ≡ sets (sets out at xs) (at + length xs) ys

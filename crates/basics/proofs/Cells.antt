@@ -1,13 +1,13 @@
 -- Cells filled one after the other: a store at the count gives the cells of the count plus one. And what each of them holds.
-use Prim.Native.Nat.{ℕ, zero, suc, _≤_, _<_, _+_}
+use Prim.Native.Nat.{ℕ, zero, suc, _≤_, _<_, _+_, _-_}
 use mathlib.Core.Bool.{Bool, true, false, cond}
-use mathlib.Core.List.{_∷_, map}
-use mathlib.Core.Path.{_≡_, refl, ap, ap₂, _∙_}
+use mathlib.Core.List.{List, [], _∷_, map}
+use mathlib.Core.Path.{_≡_, refl, sym, ap, ap₂, _∙_}
 use native.Mathlib.Decide.{decLt}
 use native.Mathlib.Omega.{arith}
 use native.Mathlib.Numerals.{add-one}
 use lib.Dec.{ltb}
-use lib.ListN.{length, getD, set, replicate}
+use lib.ListN.{length, getD, set, take, drop, replicate}
 use borrow.Author.Tests.{lt-ltb, le-ltb}
 use Rattle.basics.specs.Lists.{range, cells, cellsFrom}
 
@@ -109,3 +109,42 @@ cells-same f g none first (suc size) count same =
     go : Dec (first < count) → cond (ltb first count) (f first) none ≡ cond (ltb first count) (g first) none
     go (yes h) = ap (λ x. cond (ltb first count) x none) (same first h)
     go (no h) = rw (le-ltb first count (omega arith))
+
+-- Cells are a list where the filled ones hold its first n members and the others of it are as the empty ones.
+pub cells-whole : {A : Type 0} (f : ℕ → A) (none d : A) (list : List A) (first n count : ℕ) → count ≡ first + n → n ≤ length list →
+    ((v j : ℕ) → v ≡ first + j → j < n → f v ≡ getD list j d) → drop n list ≡ replicate (length list - n) none →
+    cellsFrom first (length list) f none count ≡ list
+unfolding cellsFrom
+cells-whole f none d list first zero count c few same rest =
+    let all : length list - 0 ≡ length list = omega arith in
+    cells-none f none first (length list) count (omega arith) ∙ sym (rest ∙ ap (λ (n : ℕ). replicate n none) all)
+cells-whole f none d [] first (suc n) count c few same rest = absurd (omega arith)
+cells-whole f none d (x ∷ list) first (suc n) count c few same rest =
+    let left : suc (length list) - suc n ≡ length list - n = omega arith in
+    rw (
+      lt-ltb first count (omega arith),
+      same first 0 (omega arith) (omega arith),
+      cells-whole f none d list (suc first) n count (omega arith) (omega arith) (λ v j e h. same v (suc j) (omega arith) (omega arith))
+          (rest ∙ ap (λ (n : ℕ). replicate n none) left),
+    )
+
+-- The cells from the count on are empty.
+pub cells-rest : {A : Type 0} (f : ℕ → A) (none : A) (n first size count : ℕ) → count ≡ first + n → n ≤ size →
+    drop n (cellsFrom first size f none count) ≡ replicate (size - n) none
+unfolding cellsFrom
+cells-rest f none zero first size count e h =
+    let all : size - 0 ≡ size = omega arith in
+    rw all (cells-none f none first size count (omega arith))
+cells-rest f none (suc n) first zero count e h = absurd (omega arith)
+cells-rest f none (suc n) first (suc size) count e h =
+    let left : suc size - suc n ≡ size - n = omega arith in
+    rw left (cells-rest f none n (suc first) size count (omega arith) (omega arith))
+
+-- The cells that are filled, in turn.
+pub cells-taken : {A : Type 0} (f : ℕ → A) (none : A) (first size k count : ℕ) → k ≤ size → first + k ≡ count →
+    take k (cellsFrom first size f none count) ≡ map f (range first k)
+unfolding cellsFrom range
+cells-taken f none first size zero count few end = refl
+cells-taken f none first zero (suc k) count few end = absurd (omega arith)
+cells-taken f none first (suc size) (suc k) count few end =
+    rw (lt-ltb first count (omega arith), cells-taken f none (suc first) size k count (omega arith) (omega arith))

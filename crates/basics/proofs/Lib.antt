@@ -7,3 +7,4 @@ pub mod Counts
 pub mod Cells
 pub mod Bytes
 pub mod Digits
+pub mod Parts

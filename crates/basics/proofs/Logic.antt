@@ -22,6 +22,19 @@ pub right-true : (a b : Bool) → (a && b) ≡ true → b ≡ true
 right-true true b h = h
 right-true false b h = absurd (false≢true h)
 
+-- The parts of four and of five tests that hold together.
+pub all-four : (a b c d : Bool) → (a && b && c && d) ≡ true → (a ≡ true) × (b ≡ true) × (c ≡ true) × (d ≡ true)
+all-four true true true true h = (refl, refl, refl, refl)
+all-four true true true false h = absurd (false≢true h)
+all-four true true false d h = absurd (false≢true h)
+all-four true false c d h = absurd (false≢true h)
+all-four false b c d h = absurd (false≢true h)
+
+pub all-five : (a b c d e : Bool) → (a && b && c && d && e) ≡ true → (a ≡ true) × (b ≡ true) × (c ≡ true) × (d ≡ true) × (e ≡ true)
+all-five a b c d e h =
+    let four = all-four a b c d (left-true (a && b && c && d) e h) in
+    (four .0, four .1, four .2, four .3, right-true (a && b && c && d) e h)
+
 -- A test, however it is written, is another one where its value gives that one's.
 pub test-same : (t s : Bool) → (t ≡ true → s ≡ true) → (t ≡ false → s ≡ false) → t ≡ s
 test-same true s f g = sym (f refl)

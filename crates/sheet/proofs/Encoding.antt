@@ -1,6 +1,6 @@
 -- A record that is written is read back: its figures by their places, and the masks one by one.
 use Prim.Native.Nat.{ℕ, zero, suc, _≤_, _<_, _+_, _*_, _-_, _/_, _%_, _^_}
-use mathlib.Core.Bool.{true}
+use mathlib.Core.Bool.{Bool, true, false, cond}
 use mathlib.Core.List.{List, [], _∷_, _++_}
 use mathlib.Core.Path.{_≡_, refl, sym, ap, _∙_}
 use native.Mathlib.Omega.{arith}
@@ -11,10 +11,10 @@ use borrow.Author.Tests.{ltb-true, lt-ltb}
 use Rattle.basics.specs.Lists.{all, cellsFrom}
 use Rattle.sheet.specs.declared.task.Task.{Task}
 use Rattle.basics.specs.Numbers.{byteAt, u16At, u32At, u16Bytes, u32Bytes}
-use Rattle.sheet.specs.Level.{bytesBeforeMasks}
-use Rattle.sheet.specs.Format.{levelAt, nodesAt, figuresAt, masksAt, taskAt}
-use Rattle.sheet.specs.Encoding.{masksBytes, recordBytes}
-use Rattle.sheet.specs.Laws.{Encodable, RoundTrip, RecordLength, RecordOfBytes}
+use Rattle.sheet.specs.Level.{isWide, bytesBeforeMasks}
+use Rattle.sheet.specs.Format.{levelAt, nodesAt, figureAt, figuresAt, masksAt, taskAt}
+use Rattle.sheet.specs.Encoding.{figureBytes, masksBytes, recordBytes}
+use Rattle.sheet.specs.Laws.{figureRoom, Encodable, RoundTrip, RecordLength, RecordOfBytes}
 use Rattle.basics.proofs.Bytes.{byte-behind, u16-behind, u32-behind, u16-whole, u32-whole}
 use Rattle.basics.proofs.Cells.{cells-none}
 use Rattle.basics.proofs.Logic.{left-true, right-true}
@@ -50,16 +50,63 @@ masks-read (mask ∷ masks) (suc k) first count f back c few fit none reads =
     masks-read masks k (suc first) count f back (omega arith) (omega arith) others (none ∙ ap (λ (n : ℕ). replicate n 0) left) (λ d v e. reads (suc d) v (omega arith) ∙ mask-next mask (masksBytes k masks ++ back) d) in
     rw (lt-ltb first count (omega arith), head, tail)
 
--- The bytes of a record up to its masks.
-abbrev upToMasks : Task → List ℕ
-upToMasks t =
+-- A task's record with figures of the given width, and its bytes up to the masks.
+abbrev upToMasks : Bool → Task → List ℕ
+upToMasks wide t =
     t .level
     ∷ t .nodes
-    ∷ u16Bytes (t .figures .deadline)
-    ++ u16Bytes (t .figures .nominal .work)
-    ++ u16Bytes (t .figures .overload .work)
-    ++ u16Bytes (t .figures .nominal .span)
-    ++ u16Bytes (t .figures .overload .span)
+    ∷ figureBytes wide (t .figures .deadline)
+    ++ figureBytes wide (t .figures .nominal .work)
+    ++ figureBytes wide (t .figures .overload .work)
+    ++ figureBytes wide (t .figures .nominal .span)
+    ++ figureBytes wide (t .figures .overload .span)
+
+abbrev pub recordWith : Bool → Task → List ℕ
+recordWith wide t =
+    t .level
+    ∷ t .nodes
+    ∷ figureBytes wide (t .figures .deadline)
+    ++ figureBytes wide (t .figures .nominal .work)
+    ++ figureBytes wide (t .figures .overload .work)
+    ++ figureBytes wide (t .figures .nominal .span)
+    ++ figureBytes wide (t .figures .overload .span)
+    ++ masksBytes (t .nodes) (t .predecessors)
+
+-- What such a record says: each figure by its place, and the masks behind them.
+record Told (wide : Bool) (t : Task) (back : List ℕ) : Type 0 where
+  deadline : t .figures .deadline < figureRoom wide → figureAt wide (recordWith wide t ++ back) 0 0 ≡ t .figures .deadline
+  nominal-work : t .figures .nominal .work < figureRoom wide → figureAt wide (recordWith wide t ++ back) 0 1 ≡ t .figures .nominal .work
+  overload-work : t .figures .overload .work < figureRoom wide → figureAt wide (recordWith wide t ++ back) 0 2 ≡ t .figures .overload .work
+  nominal-span : t .figures .nominal .span < figureRoom wide → figureAt wide (recordWith wide t ++ back) 0 3 ≡ t .figures .nominal .span
+  overload-span : t .figures .overload .span < figureRoom wide → figureAt wide (recordWith wide t ++ back) 0 4 ≡ t .figures .overload .span
+  masks : (n : ℕ) → u32At (recordWith wide t ++ back) (cond wide 22 12 + n) ≡ u32At (masksBytes (t .nodes) (t .predecessors) ++ back) n
+
+told : (wide : Bool) (t : Task) (back : List ℕ) → Told wide t back
+unfolding figureAt figureBytes u16Bytes u32Bytes u16At u32At byteAt
+told true t back =
+    record {
+      deadline = u32-whole (t .figures .deadline);
+      nominal-work = u32-whole (t .figures .nominal .work);
+      overload-work = u32-whole (t .figures .overload .work);
+      nominal-span = u32-whole (t .figures .nominal .span);
+      overload-span = u32-whole (t .figures .overload .span);
+      masks = λ n. u32-behind (upToMasks true t) (masksBytes (t .nodes) (t .predecessors) ++ back) n (22 + n) refl;
+    }
+told false t back =
+    record {
+      deadline = u16-whole (t .figures .deadline);
+      nominal-work = u16-whole (t .figures .nominal .work);
+      overload-work = u16-whole (t .figures .overload .work);
+      nominal-span = u16-whole (t .figures .nominal .span);
+      overload-span = u16-whole (t .figures .overload .span);
+      masks = λ n. u32-behind (upToMasks false t) (masksBytes (t .nodes) (t .predecessors) ++ back) n (12 + n) refl;
+    }
+
+-- Bytes in front move a figure.
+figure-behind : (wide : Bool) (front s : List ℕ) (i : ℕ) → figureAt wide (front ++ s) (length front) i ≡ figureAt wide s 0 i
+unfolding figureAt
+figure-behind true front s i = u32-behind front s (2 + 4 * i) (length front + 2 + 4 * i) (omega arith)
+figure-behind false front s i = u16-behind front s (2 + 2 * i) (length front + 2 + 2 * i) (omega arith)
 
 -- A task by its parts.
 task-whole : (t : Task) {level nodes d cn co ln lo : ℕ} {masks : List ℕ} → level ≡ t .level → nodes ≡ t .nodes
@@ -73,6 +120,9 @@ module _ (t : Task) (front back : List ℕ) where
   abbrev whole : List ℕ
   whole = recordBytes t ++ back
 
+  abbrev wide : Bool
+  wide = isWide (t .level)
+
   -- Level and number of nodes.
   level-read : levelAt (front ++ whole) (length front) ≡ t .level
   unfolding levelAt byteAt recordBytes
@@ -82,37 +132,51 @@ module _ (t : Task) (front back : List ℕ) where
   unfolding nodesAt byteAt recordBytes
   nodes-read = byte-behind front whole 1 (length front + 1) refl
 
-  -- A figure, by its place in the record.
-  figure-read : (n x : ℕ) → x < 65536 → u16At whole n ≡ x % 256 + 256 * (x / 256 % 256) → u16At (front ++ whole) (length front + n) ≡ x
-  figure-read n x h e = u16-behind front whole n (length front + n) refl ∙ e ∙ u16-whole x h
+  -- What the record says, by itself.
+  whole-told : Told wide t back
+  whole-told = told wide t back
+
+  -- A figure, where the level that is read gives the width.
+  figure-read : (i : ℕ) {x : ℕ} → figureAt wide whole 0 i ≡ x →
+      figureAt (isWide (levelAt (front ++ whole) (length front))) (front ++ whole) (length front) i ≡ x
+  figure-read i e =
+      ap (λ (level : ℕ). figureAt (isWide level) (front ++ whole) (length front) i) level-read
+      ∙ figure-behind wide front whole i
+      ∙ e
 
   -- A mask, by its node.
-  mask-read : (level d v : ℕ) → v ≡ 0 + d → u32At (front ++ whole) (length front + bytesBeforeMasks level + 4 * v) ≡ u32At (masksBytes (t .nodes) (t .predecessors) ++ back) (4 * d)
-  unfolding recordBytes u16Bytes bytesBeforeMasks
-  mask-read level d v e =
-      u32-behind front whole (12 + 4 * d) (length front + 12 + 4 * v) (omega arith)
-      ∙ u32-behind (upToMasks t) (masksBytes (t .nodes) (t .predecessors) ++ back) (4 * d) (12 + 4 * d) refl
+  mask-read : (d v : ℕ) → v ≡ 0 + d →
+      u32At (front ++ whole) (length front + bytesBeforeMasks (levelAt (front ++ whole) (length front)) + 4 * v)
+      ≡ u32At (masksBytes (t .nodes) (t .predecessors) ++ back) (4 * d)
+  unfolding recordBytes bytesBeforeMasks
+  mask-read d v e =
+      ap (λ (level : ℕ). u32At (front ++ whole) (length front + bytesBeforeMasks level + 4 * v)) level-read
+      ∙ u32-behind front whole (bytesBeforeMasks (t .level) + 4 * d) (length front + bytesBeforeMasks (t .level) + 4 * v) (omega arith)
+      ∙ whole-told .masks (4 * d)
 
-  masks-whole : (level : ℕ) → Encodable t →
-      masksAt (front ++ whole) (length front + bytesBeforeMasks level) (nodesAt (front ++ whole) (length front)) ≡ t .predecessors
+  masks-whole : Encodable t →
+      masksAt (front ++ whole) (length front + bytesBeforeMasks (levelAt (front ++ whole) (length front))) (nodesAt (front ++ whole) (length front))
+      ≡ t .predecessors
   unfolding masksAt
-  masks-whole level fits =
+  masks-whole fits =
+      let at = length front + bytesBeforeMasks (levelAt (front ++ whole) (length front)) in
       let few : t .nodes ≤ length (t .predecessors) = omega (arith, fits .nodes, fits .masks) in
       let none : drop (t .nodes) (t .predecessors) ≡ replicate (length (t .predecessors) - t .nodes) 0 = fits .masks-none ∙ ap (λ (n : ℕ). replicate (n - t .nodes) 0) (sym (fits .masks)) in
-      ap (λ (n : ℕ). cellsFrom 0 n (λ v. u32At (front ++ whole) (length front + bytesBeforeMasks level + 4 * v)) 0 (nodesAt (front ++ whole) (length front))) (sym (fits .masks))
-      ∙ masks-read (t .predecessors) (t .nodes) 0 (nodesAt (front ++ whole) (length front)) (λ v. u32At (front ++ whole) (length front + bytesBeforeMasks level + 4 * v)) back
-      (omega (arith, nodes-read)) few (fits .masks-fit) none (mask-read level)
+      ap (λ (n : ℕ). cellsFrom 0 n (λ v. u32At (front ++ whole) (at + 4 * v)) 0 (nodesAt (front ++ whole) (length front))) (sym (fits .masks))
+      ∙ masks-read (t .predecessors) (t .nodes) 0 (nodesAt (front ++ whole) (length front)) (λ v. u32At (front ++ whole) (at + 4 * v)) back
+      (omega (arith, nodes-read)) few (fits .masks-fit) none mask-read
 
 pub round-trip : RoundTrip
-unfolding RoundTrip taskAt figuresAt recordBytes u16Bytes u16At byteAt
+unfolding RoundTrip taskAt figuresAt recordBytes
 round-trip t front back fits =
+    let says = whole-told t front back in
     task-whole t (level-read t front back) (nodes-read t front back)
-    (figure-read t front back 2 (t .figures .deadline) (fits .deadline) refl)
-    (figure-read t front back 4 (t .figures .nominal .work) (fits .nominal-work) refl)
-    (figure-read t front back 6 (t .figures .overload .work) (fits .overload-work) refl)
-    (figure-read t front back 8 (t .figures .nominal .span) (fits .nominal-span) refl)
-    (figure-read t front back 10 (t .figures .overload .span) (fits .overload-span) refl)
-    (masks-whole t front back (levelAt (front ++ (recordBytes t ++ back)) (length front)) fits)
+    (figure-read t front back 0 (says .deadline (fits .deadline)))
+    (figure-read t front back 1 (says .nominal-work (fits .nominal-work)))
+    (figure-read t front back 2 (says .overload-work (fits .overload-work)))
+    (figure-read t front back 3 (says .nominal-span (fits .nominal-span)))
+    (figure-read t front back 4 (says .overload-span (fits .overload-span)))
+    (masks-whole t front back fits)
 
 pub masks-length : (k : ℕ) (masks : List ℕ) → k ≤ length masks → length (masksBytes k masks) ≡ 4 * k
 unfolding masksBytes u32Bytes
@@ -120,10 +184,21 @@ masks-length zero masks h = refl
 masks-length (suc k) [] h = absurd (omega arith)
 masks-length (suc k) (mask ∷ masks) h = omega (arith, masks-length k masks (omega arith))
 
+length-with : (wide : Bool) (t : Task) → length (masksBytes (t .nodes) (t .predecessors)) ≡ 4 * t .nodes →
+    length (recordWith wide t) ≡ cond wide 22 12 + 4 * t .nodes
+unfolding figureBytes u16Bytes u32Bytes
+length-with true t e = omega (arith, e)
+length-with false t e = omega (arith, e)
+
 pub record-length : RecordLength
-unfolding RecordLength recordBytes u16Bytes bytesBeforeMasks
+unfolding RecordLength recordBytes bytesBeforeMasks
 record-length t fits =
-    omega (arith, masks-length (t .nodes) (t .predecessors) (omega (arith, fits .nodes, fits .masks)))
+    length-with (isWide (t .level)) t (masks-length (t .nodes) (t .predecessors) (omega (arith, fits .nodes, fits .masks)))
+
+-- A record that is not wide, byte by byte.
+pub narrow-record : (t : Task) → isWide (t .level) ≡ false → recordBytes t ≡ recordWith false t
+unfolding recordBytes
+narrow-record t e = ap (λ (wide : Bool). recordWith wide t) e
 
 -- A list of bytes, one in front of the other.
 record Bytes (xs : List ℕ) : Type 0 where
@@ -145,6 +220,15 @@ low-byte x = mod-lt x (omega arith)
 u16-bytes : (x : ℕ) {xs : List ℕ} → Bytes xs → Bytes (x % 256 ∷ x / 256 % 256 ∷ xs)
 u16-bytes x rest = bytes-cons (low-byte x) (bytes-cons (low-byte (x / 256)) rest)
 
+bytes-both : (xs : List ℕ) {ys : List ℕ} → Bytes xs → Bytes ys → Bytes (xs ++ ys)
+bytes-both [] front back = back
+bytes-both (x ∷ xs) front back = bytes-cons (front .each 0) (bytes-both xs (record { each = λ i. front .each (suc i) }) back)
+
+figure-bytes : (wide : Bool) (x : ℕ) → Bytes (figureBytes wide x)
+unfolding figureBytes u16Bytes u32Bytes
+figure-bytes true x = u16-bytes x (bytes-cons (low-byte (x / 65536)) (bytes-cons (low-byte (x / 16777216)) bytes-none))
+figure-bytes false x = u16-bytes x bytes-none
+
 masks-bytes : (k : ℕ) (masks : List ℕ) → Bytes (masksBytes k masks)
 unfolding masksBytes u32Bytes
 masks-bytes zero masks = bytes-none
@@ -153,14 +237,18 @@ masks-bytes (suc k) (mask ∷ masks) =
     u16-bytes mask (bytes-cons (low-byte (mask / 65536)) (bytes-cons (low-byte (mask / 16777216)) (masks-bytes k masks)))
 
 pub record-of-bytes : RecordOfBytes
-unfolding RecordOfBytes recordBytes u16Bytes byteAt
+unfolding RecordOfBytes recordBytes byteAt
 record-of-bytes t i fits =
     let nodes : t .nodes < 256 = omega (arith, fits .nodes) in
+    let wide = isWide (t .level) in
     (bytes-cons (fits .level)
     (bytes-cons nodes
-    (u16-bytes (t .figures .deadline)
-    (u16-bytes (t .figures .nominal .work)
-    (u16-bytes (t .figures .overload .work)
-    (u16-bytes (t .figures .nominal .span)
-    (u16-bytes (t .figures .overload .span)
-    (masks-bytes (t .nodes) (t .predecessors))))))))) .each i
+    (bytes-both _
+    (bytes-both _
+    (bytes-both _
+    (bytes-both _
+    (bytes-both _ (figure-bytes wide (t .figures .deadline)) (figure-bytes wide (t .figures .nominal .work)))
+    (figure-bytes wide (t .figures .overload .work)))
+    (figure-bytes wide (t .figures .nominal .span)))
+    (figure-bytes wide (t .figures .overload .span)))
+    (masks-bytes (t .nodes) (t .predecessors))))) .each i

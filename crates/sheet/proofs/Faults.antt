@@ -1,7 +1,7 @@
 -- S3.2, causes in order: where a rule is kept the next cause speaks, and the first refusal is the answer.
-use Prim.Native.Nat.{ℕ, suc, _≤_, _<_, _+_, _-_}
+use Prim.Native.Nat.{ℕ, zero, suc, _≤_, _<_, _+_, _-_}
 use mathlib.Core.Bool.{Bool, true, false, not}
-use mathlib.Core.Path.{_≡_}
+use mathlib.Core.Path.{_≡_, refl}
 use native.Mathlib.Omega.{arith}
 use native.Mathlib.Numerals.{add-one}
 use lib.Dec.{eqb}
@@ -55,3 +55,19 @@ module _ (cause : ℕ → Answer) where
   over-all n =
       let all : n - 0 ≡ n = omega arith in
       rw all
+
+-- A cause that lets each task pass lets all pass.
+pub all-pass : (cause : ℕ → Answer) (first count : ℕ) → ((i : ℕ) → first ≤ i → i < first + count → cause i ≡ Accepted) →
+    firstOver cause first count ≡ Accepted
+unfolding firstOver
+all-pass cause first zero h = refl
+all-pass cause first (suc count) h =
+    rw (h first (omega arith) (omega arith), all-pass cause (suc first) count (λ i from to. h i (omega arith) (omega arith)))
+
+-- A cause put to tasks on which two causes agree.
+pub over-same : (f g : ℕ → Answer) (first count : ℕ) → ((i : ℕ) → first ≤ i → i < first + count → f i ≡ g i) →
+    firstOver f first count ≡ firstOver g first count
+unfolding firstOver
+over-same f g first zero same = refl
+over-same f g first (suc count) same =
+    rw (same first (omega arith) (omega arith), over-same f g (suc first) count (λ i from to. same i (omega arith) (omega arith)))

@@ -1,6 +1,6 @@
 -- The code's tests beside those of the rules: a mask shifted, sums for differences, a record too short for its length.
 use Prim.Native.Nat.{ℕ, suc, _≤_, _<_, _+_, _-_, _*_, _/_, _^_}
-use mathlib.Core.Bool.{Bool, true, false, _&&_, and-false}
+use mathlib.Core.Bool.{Bool, true, false, cond, _&&_, and-false}
 use mathlib.Core.List.{List}
 use mathlib.Core.Path.{_≡_, ap}
 use native.Mathlib.Omega.{arith}
@@ -11,7 +11,7 @@ use lib.ListN.{getD}
 use lib.Pow.{pow-pos}
 use borrow.Author.Tests.{lt-ltb, le-ltb, leb-true, ne-eqb}
 use Rattle.basics.proofs.Logic.{under, left-true, right-true, leb-same}
-use Rattle.sheet.specs.Level.{bytesBeforeMasks}
+use Rattle.sheet.specs.Level.{isWide, bytesBeforeMasks}
 use Rattle.sheet.specs.Rules.{maskLawful}
 
 -- The code shifts a mask by its node's number: what is left is zero just where the mask keeps the rule.
@@ -39,7 +39,20 @@ order-by-sums g ln cn lo co x y ex ey =
     let span : ln ≤ lo = leb-true ln lo (right-true (g && leb cn co) (leb ln lo) e) in
     leb-same x y (lo - ln) (co - cn) (λ h. omega arith) (λ h. omega arith))
 
+-- From 2 to 22 bytes stand before the masks, whatever the level.
+before-range : (wide : Bool) → (2 ≤ cond wide 22 12) × (cond wide 22 12 ≤ 22)
+before-range true = (omega arith, omega arith)
+before-range false = (omega arith, omega arith)
+
+before-some : (level : ℕ) → 2 ≤ bytesBeforeMasks level
+unfolding bytesBeforeMasks
+before-some level = before-range (isWide level) .0
+
+pub before-most : (level : ℕ) → bytesBeforeMasks level ≤ 22
+unfolding bytesBeforeMasks
+before-most level = before-range (isWide level) .1
+
 -- A record of fewer than two bytes does not have the length of a record.
 pub length-broken : (g : Bool) (level nodes bytes : ℕ) → bytes < 2 → (g && eqb bytes (bytesBeforeMasks level + 4 * nodes)) ≡ false
-unfolding bytesBeforeMasks
-length-broken g level nodes bytes h = rw (ne-eqb bytes (12 + 4 * nodes) (λ e. omega arith)) (and-false g)
+length-broken g level nodes bytes h =
+    rw (ne-eqb bytes (bytesBeforeMasks level + 4 * nodes) (λ e. omega (arith, before-some level))) (and-false g)

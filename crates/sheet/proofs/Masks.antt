@@ -14,7 +14,7 @@ use Rattle.basics.proofs.Below.{all-at, all-intro}
 
 -- A lawful mask as a bound.
 module _ (masks : List ℕ) (v : ℕ) where
-  mask-below : maskLawful masks v ≡ true → getD masks v 0 < 2 ^ v
+  pub mask-below : maskLawful masks v ≡ true → getD masks v 0 < 2 ^ v
   unfolding maskLawful
   mask-below e = ltb-true (getD masks v 0) (2 ^ v) e
 

@@ -11,10 +11,10 @@ use Rattle.sheet.specs.declared.task.Task.{Task}
 use Rattle.sheet.specs.Answers.{numberOf, taskOf}
 use Rattle.basics.specs.Numbers.{byteAt, u16At, u32At, u16Bytes, u32Bytes}
 use Rattle.basics.specs.Lists.{cellsFrom, allBelow}
-use Rattle.sheet.specs.Format.{levelAt, nodesAt, figuresAt, masksAt, taskAt}
-use Rattle.sheet.specs.Encoding.{masksBytes, recordBytes}
+use Rattle.sheet.specs.Format.{levelAt, nodesAt, figureAt, figuresAt, masksAt, taskAt}
+use Rattle.sheet.specs.Encoding.{figureBytes, masksBytes, recordBytes}
 use Rattle.sheet.specs.Laws.{Encodable}
-use Rattle.sheet.specs.Level.{levelLawful, bytesBeforeMasks, figureLimit, isHigh}
+use Rattle.sheet.specs.Level.{levelLawful, bytesBeforeMasks, figureLimit, isHigh, isWide}
 use Rattle.sheet.specs.Rules.{shapeLawful, inRange, inOrder, lowLawful, figuresLawful, maskLawful, masksLawful, isHeavy, taskAnswer}
 
 -- Figures in the order of a record: D, CN, CO, LN, LO.
@@ -51,9 +51,35 @@ threeNodes =
 abbrev taskE : Task
 taskE = record { level = 0; nodes = 3; figures = figures 18 66 66 6 6; predecessors = 0 ∷ 1 ∷ 3 ∷ replicate 29 0 }
 
--- A task that a record can hold.
+-- The task of a dye line with a node, in the wide form: figures above 65,535, which need more than two bytes.
+abbrev dyeLine : Task
+dyeLine = record { level = 17; nodes = 1; figures = figures 400000 300000 800000 70000 200000; predecessors = replicate 32 0 }
+
+-- Its record: five figures of four bytes, and the mask behind them.
+abbrev wideNode : List ℕ
+wideNode =
+    17 ∷ 1 ∷ 128 ∷ 26 ∷ 6 ∷ 0 ∷ 224 ∷ 147 ∷ 4 ∷ 0 ∷ 0 ∷ 53 ∷ 12 ∷ 0 ∷ 112 ∷ 17 ∷ 1 ∷ 0 ∷ 64 ∷ 13 ∷ 3 ∷ 0 ∷ 0 ∷ 0 ∷ 0 ∷ 0 ∷ []
+
+-- Tasks that a record can hold.
 encodable : Encodable taskE
+unfolding isWide
 encodable =
+    record {
+      level = omega arith;
+      nodes = omega arith;
+      deadline = omega arith;
+      nominal-work = omega arith;
+      overload-work = omega arith;
+      nominal-span = omega arith;
+      overload-span = omega arith;
+      masks = refl;
+      masks-fit = refl;
+      masks-none = refl;
+    }
+
+wide-encodable : Encodable dyeLine
+unfolding isWide
+wide-encodable =
     record {
       level = omega arith;
       nodes = omega arith;
@@ -88,12 +114,26 @@ pub record Worked : Type 0 where
   pub written : recordBytes taskE ≡ threeNodes
   pub written-length : length (recordBytes taskE) ≡ 24
   pub written-read : taskAt (5 ∷ 5 ∷ (recordBytes taskE ++ 5 ∷ [])) 2 ≡ taskE
+  -- S2.6: the same in the wide form.
+  pub wide-places : taskAt wideNode 0 ≡ dyeLine
+  pub wide-later : taskAt (9 ∷ 9 ∷ 9 ∷ wideNode ++ 9 ∷ []) 3 ≡ dyeLine
+  pub wide-written : recordBytes dyeLine ≡ wideNode
+  pub wide-length : length (recordBytes dyeLine) ≡ 26
   pub written-two : u16Bytes 513 ≡ 1 ∷ 2 ∷ []
   pub written-four : u32Bytes 67305985 ≡ 1 ∷ 2 ∷ 3 ∷ 4 ∷ []
   -- S2.7: the level.
   pub level-low : levelLawful 0 ≡ true
   pub level-high : levelLawful 1 ≡ true
   pub level-two : levelLawful 2 ≡ false
+  pub level-fifteen : levelLawful 15 ≡ false
+  pub level-wide-low : levelLawful 16 ≡ true
+  pub level-wide-high : levelLawful 17 ≡ true
+  pub level-eighteen : levelLawful 18 ≡ false
+  -- S2.6: high and low, in both forms.
+  pub low : isHigh 0 ≡ false
+  pub high : isHigh 1 ≡ true
+  pub wide-low : isHigh 16 ≡ false
+  pub wide-high : isHigh 17 ≡ true
   pub level-refused : shapeLawful 2 1 16 ≡ false
   -- S2.7: the number of nodes, each with the length that goes with it.
   pub one-node : shapeLawful 0 1 16 ≡ true
@@ -105,6 +145,12 @@ pub record Worked : Type 0 where
   pub length-right : shapeLawful 1 3 24 ≡ true
   pub length-long : shapeLawful 1 3 25 ≡ false
   pub one-byte : shapeLawful 0 1 1 ≡ false
+  -- S2.7: each form has its own length.
+  pub wide-length-right : shapeLawful 17 3 34 ≡ true
+  pub wide-length-short : shapeLawful 17 3 33 ≡ false
+  pub narrow-length-wide : shapeLawful 17 3 24 ≡ false
+  pub wide-length-narrow : shapeLawful 1 3 34 ≡ false
+  pub wide-most-nodes : shapeLawful 16 32 150 ≡ true
   -- S2.9: each figure from 1 to 10,000.
   pub least : inRange 1 (figures 1 1 1 1 1) ≡ true
   pub greatest : inRange 1 (figures 10000 10000 10000 10000 10000) ≡ true
@@ -118,6 +164,14 @@ pub record Worked : Type 0 where
   pub nominal-span-above : inRange 1 (figures 1 1 1 10001 1) ≡ false
   pub overload-span-zero : inRange 1 (figures 1 1 1 1 0) ≡ false
   pub overload-span-above : inRange 1 (figures 1 1 1 1 10001) ≡ false
+  -- S2.9: each figure from 1 to 1,000,000 in the wide form.
+  pub wide-least : inRange 17 (figures 1 1 1 1 1) ≡ true
+  pub wide-above-narrow : inRange 17 (figures 10001 10001 10001 10001 10001) ≡ true
+  pub wide-greatest : inRange 17 (figures 1000000 1000000 1000000 1000000 1000000) ≡ true
+  pub wide-low-greatest : inRange 16 (figures 1000000 1000000 1000000 1000000 1000000) ≡ true
+  pub wide-deadline-zero : inRange 17 (figures 0 1 1 1 1) ≡ false
+  pub wide-deadline-above : inRange 17 (figures 1000001 1 1 1 1) ≡ false
+  pub wide-overload-span-above : inRange 16 (figures 1 1 1 1 1000001) ≡ false
   -- S2.10: each order, with equality and one past it.
   pub order-equal : inOrder (figures 1 8 8 8 8) ≡ true
   pub order-growth : inOrder (figures 1 8 12 4 8) ≡ true
@@ -155,7 +209,7 @@ pub record Worked : Type 0 where
   pub refused-task : taskOf (Refused 4 7) ≡ 7
 
 worked : Worked
-unfolding u16Bytes u32Bytes masksBytes recordBytes byteAt u16At u32At cellsFrom levelAt nodesAt figuresAt masksAt taskAt levelLawful shapeLawful inRange inOrder lowLawful figuresLawful maskLawful allBelow masksLawful isHeavy taskAnswer isHigh figureLimit bytesBeforeMasks
+unfolding u16Bytes u32Bytes masksBytes recordBytes byteAt u16At u32At cellsFrom levelAt nodesAt figuresAt masksAt taskAt levelLawful shapeLawful inRange inOrder lowLawful figuresLawful maskLawful allBelow masksLawful isHeavy taskAnswer isHigh figureLimit bytesBeforeMasks isWide figureAt figureBytes
 worked =
     record {
       two-bytes = refl;
@@ -168,11 +222,23 @@ worked =
       written = refl;
       written-length = refl;
       written-read = refl;
+      wide-places = refl;
+      wide-later = refl;
+      wide-written = refl;
+      wide-length = refl;
       written-two = refl;
       written-four = refl;
       level-low = refl;
       level-high = refl;
       level-two = refl;
+      level-fifteen = refl;
+      level-wide-low = refl;
+      level-wide-high = refl;
+      level-eighteen = refl;
+      low = refl;
+      high = refl;
+      wide-low = refl;
+      wide-high = refl;
       level-refused = refl;
       one-node = refl;
       most-nodes = refl;
@@ -182,6 +248,11 @@ worked =
       length-right = refl;
       length-long = refl;
       one-byte = refl;
+      wide-length-right = refl;
+      wide-length-short = refl;
+      narrow-length-wide = refl;
+      wide-length-narrow = refl;
+      wide-most-nodes = refl;
       least = refl;
       greatest = refl;
       deadline-zero = refl;
@@ -194,6 +265,13 @@ worked =
       nominal-span-above = refl;
       overload-span-zero = refl;
       overload-span-above = refl;
+      wide-least = refl;
+      wide-above-narrow = refl;
+      wide-greatest = refl;
+      wide-low-greatest = refl;
+      wide-deadline-zero = refl;
+      wide-deadline-above = refl;
+      wide-overload-span-above = refl;
       order-equal = refl;
       order-growth = refl;
       nominal-span-over = refl;

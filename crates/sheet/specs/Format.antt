@@ -1,5 +1,6 @@
 -- S2.1 to S2.6: where each number of a sheet stands, over the list of its bytes.
 use Prim.Native.Nat.{ℕ, zero, suc, _+_, _*_}
+use mathlib.Core.Bool.{Bool, cond}
 use mathlib.Core.List.{List, []}
 use lib.ListN.{getD, replicate}
 use Rattle.basics.specs.Lists.{cells}
@@ -7,7 +8,7 @@ use Rattle.basics.specs.Numbers.{byteAt, u16At, u32At}
 use Rattle.sheet.specs.declared.task.Figures.{Figures}
 use Rattle.sheet.specs.declared.task.Task.{Task}
 use Rattle.sheet.specs.declared.task.TaskSet.{TaskSet}
-use Rattle.sheet.specs.Level.{bytesBeforeMasks}
+use Rattle.sheet.specs.Level.{isWide, bytesBeforeMasks}
 
 -- S2.1: M, the number of processors.
 unfoldable pub processorsOf : List ℕ → ℕ
@@ -39,13 +40,18 @@ levelAt s at = byteAt s at
 unfoldable pub nodesAt : List ℕ → ℕ → ℕ
 nodesAt s at = byteAt s (at + 1)
 
+-- S2.6: figure i of the five, four bytes in the wide form and two in the other, in the record that begins at a place.
+unfoldable pub figureAt : Bool → List ℕ → ℕ → ℕ → ℕ
+figureAt wide s at i = cond wide (u32At s (at + 2 + 4 * i)) (u16At s (at + 2 + 2 * i))
+
 -- S2.6: the five figures. Works stand before spans, and of each the nominal one first.
 unfoldable pub figuresAt : List ℕ → ℕ → Figures
 figuresAt s at =
+    let wide = isWide (levelAt s at) in
     record {
-      deadline = u16At s (at + 2);
-      nominal = record { work = u16At s (at + 4); span = u16At s (at + 8) };
-      overload = record { work = u16At s (at + 6); span = u16At s (at + 10) };
+      deadline = figureAt wide s at 0;
+      nominal = record { work = figureAt wide s at 1; span = figureAt wide s at 3 };
+      overload = record { work = figureAt wide s at 2; span = figureAt wide s at 4 };
     }
 
 -- S2.6: the masks that begin at a place, one of each of k nodes, and 0 for the nodes from k on.

@@ -1,6 +1,6 @@
 -- What the rules and the format come to, put another way. Each law is proved in proofs/.
 use Prim.Native.Nat.{ℕ, _≤_, _<_, _+_, _*_, _-_, _^_}
-use mathlib.Core.Bool.{true, false}
+use mathlib.Core.Bool.{Bool, true, false, cond}
 use mathlib.Core.List.{List, _++_}
 use mathlib.Core.Logic.{_↔_}
 use mathlib.Core.Path.{_≡_}
@@ -10,7 +10,7 @@ use Rattle.basics.specs.Lists.{all}
 use Rattle.nodes.specs.Sets.{has}
 use Rattle.sheet.specs.declared.task.Task.{Task}
 use Rattle.basics.specs.Numbers.{byteAt}
-use Rattle.sheet.specs.Level.{bytesBeforeMasks}
+use Rattle.sheet.specs.Level.{isWide, bytesBeforeMasks}
 use Rattle.sheet.specs.Format.{taskAt}
 use Rattle.sheet.specs.Rules.{maskLawful, masksLawful}
 use Rattle.sheet.specs.Encoding.{recordBytes}
@@ -24,15 +24,19 @@ unfoldable pub MasksLaw : Type 0
 MasksLaw =
     (masks : List ℕ) (k : ℕ) → (masksLawful masks k ≡ true) ↔ ((v j : ℕ) → v < k → has (getD masks v 0) j ≡ true → j < v)
 
+-- The numbers that a figure's bytes can hold lie below this.
+abbrev pub figureRoom : Bool → ℕ
+figureRoom wide = cond wide (2 ^ 32) (2 ^ 16)
+
 -- A task that a record can hold: each part fits its bytes, and there are 32 masks, those from k on 0.
 pub record Encodable (t : Task) : Type 0 where
   pub level : t .level < 256
   pub nodes : t .nodes ≤ 32
-  pub deadline : t .figures .deadline < 65536
-  pub nominal-work : t .figures .nominal .work < 65536
-  pub overload-work : t .figures .overload .work < 65536
-  pub nominal-span : t .figures .nominal .span < 65536
-  pub overload-span : t .figures .overload .span < 65536
+  pub deadline : t .figures .deadline < figureRoom (isWide (t .level))
+  pub nominal-work : t .figures .nominal .work < figureRoom (isWide (t .level))
+  pub overload-work : t .figures .overload .work < figureRoom (isWide (t .level))
+  pub nominal-span : t .figures .nominal .span < figureRoom (isWide (t .level))
+  pub overload-span : t .figures .overload .span < figureRoom (isWide (t .level))
   pub masks : length (t .predecessors) ≡ 32
   pub masks-fit : all (λ mask. ltb mask (2 ^ 32)) (t .predecessors) ≡ true
   pub masks-none : drop (t .nodes) (t .predecessors) ≡ replicate (32 - t .nodes) 0

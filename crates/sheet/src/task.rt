@@ -15,7 +15,7 @@ pub struct Figures {
     pub overload: Budget,
 }
 
-// S2.6: a task: its figures, for each node the set of its predecessors, its level (0 is low, 1 is high) and the number of its
+// S2.6: a task: its figures, for each node the set of its predecessors, its level (`level.rt` says what it means) and the number of its
 // nodes, k. The bytes stand last, so that there is no gap between the fields.
 pub struct Task {
     pub figures: Figures,
