@@ -8,8 +8,8 @@ use Rattle.sheet.specs.declared.task.Task.{Task}
 use Rattle.sheet.specs.Answers.{firstOver}
 use Rattle.basics.specs.Numbers.{byteAt, u16At, u32At}
 use Rattle.basics.specs.Lists.{cellsFrom, allBelow}
-use Rattle.sheet.specs.Format.{processorsOf, countOf, offsetOf, lengthOf, levelAt, nodesAt, figuresAt, masksAt, taskAt, zeroTask, tasksBelow, taskSetOf, zeroTaskSet, placeOf}
-use Rattle.sheet.specs.Level.{levelLawful, bytesBeforeMasks, figureLimit, isHigh}
+use Rattle.sheet.specs.Format.{processorsOf, countOf, offsetOf, lengthOf, levelAt, nodesAt, figureAt, figuresAt, masksAt, taskAt, zeroTask, tasksBelow, taskSetOf, zeroTaskSet, placeOf}
+use Rattle.sheet.specs.Level.{levelLawful, bytesBeforeMasks, figureLimit, isHigh, isWide}
 use Rattle.sheet.specs.Rules.{shapeLawful, inRange, inOrder, lowLawful, figuresLawful, maskLawful, masksLawful, isHeavy, taskAnswer}
 use Rattle.sheet.proofs.Worked.{figures}
 use Rattle.reader.specs.Reading.{headerLawful, headerAnswer, placeAnswer, endAnswer, shapeAnswer, recordAnswer, readOf, readAnswer}
@@ -18,6 +18,15 @@ use Rattle.reader.specs.Reading.{headerLawful, headerAnswer, placeAnswer
 abbrev small : ℕ → ℕ → ℕ → ℕ → ℕ → ℕ → ℕ → List ℕ
 small level d cn co ln lo mask =
     level ∷ 1 ∷ d ∷ 0 ∷ cn ∷ 0 ∷ co ∷ 0 ∷ ln ∷ 0 ∷ lo ∷ 0 ∷ mask ∷ 0 ∷ 0 ∷ 0 ∷ []
+
+-- A wide record of one node: level, the figures as four bytes each, and a mask of 0.
+abbrev wide : ℕ → List ℕ → List ℕ
+wide level figures = level ∷ 1 ∷ figures ++ 0 ∷ 0 ∷ 0 ∷ 0 ∷ []
+
+-- Figures of four bytes: D 400,000, CN 300,000, CO by its three lower bytes, LN 70,000 and LO 200,000.
+abbrev dyeing : ℕ → ℕ → ℕ → List ℕ
+dyeing x y z =
+    128 ∷ 26 ∷ 6 ∷ 0 ∷ 224 ∷ 147 ∷ 4 ∷ 0 ∷ x ∷ y ∷ z ∷ 0 ∷ 112 ∷ 17 ∷ 1 ∷ 0 ∷ 64 ∷ 13 ∷ 3 ∷ 0 ∷ []
 
 -- The tasks of S11, with a node each.
 abbrev taskA : List ℕ
@@ -85,6 +94,15 @@ pub record Worked : Type 0 where
   pub nodes-above : readAnswer (alone 144 (1 ∷ 33 ∷ 45 ∷ 0 ∷ 9 ∷ 0 ∷ 52 ∷ 0 ∷ 4 ∷ 0 ∷ 20 ∷ 0 ∷ replicate 132 0)) ≡ Refused 3 0
   pub length-long : readAnswer (alone 17 (taskA ++ 0 ∷ [])) ≡ Refused 3 0
   pub record-of-one-byte : readAnswer (alone 1 (1 ∷ [])) ≡ Refused 3 0
+  -- S9.3: each form has its own length; a level of 18, and a wide level on a record that is not wide.
+  pub wide-shape : readAnswer (alone 26 (wide 17 (dyeing 0 53 12))) ≡ Accepted
+  pub wide-short : readAnswer (alone 16 (small 17 45 9 52 4 20 0)) ≡ Refused 3 0
+  pub narrow-long : readAnswer (alone 26 (wide 1 (dyeing 0 53 12))) ≡ Refused 3 0
+  pub level-eighteen : readAnswer (alone 26 (wide 18 (dyeing 0 53 12))) ≡ Refused 3 0
+  -- S9.4: in the wide form CO of 1,000,000 is the greatest, 1,000,001 is not lawful; a low task with CN below CO.
+  pub wide-greatest : readAnswer (alone 26 (wide 17 (dyeing 64 66 15))) ≡ Accepted
+  pub wide-above : readAnswer (alone 26 (wide 17 (dyeing 65 66 15))) ≡ Refused 4 0
+  pub wide-low-figures : readAnswer (alone 26 (wide 16 (dyeing 0 53 12))) ≡ Refused 4 0
   -- S9.4: CO of 10,000 is the greatest, 10,001 is not lawful; D of 0; CN above CO; a low task with CN below CO.
   pub figure-greatest : readAnswer (alone 16 (1 ∷ 1 ∷ 15 ∷ 39 ∷ 9 ∷ 0 ∷ 16 ∷ 39 ∷ 4 ∷ 0 ∷ 20 ∷ 0 ∷ 0 ∷ 0 ∷ 0 ∷ 0 ∷ [])) ≡ Accepted
   pub figure-above : readAnswer (alone 16 (1 ∷ 1 ∷ 15 ∷ 39 ∷ 9 ∷ 0 ∷ 17 ∷ 39 ∷ 4 ∷ 0 ∷ 20 ∷ 0 ∷ 0 ∷ 0 ∷ 0 ∷ 0 ∷ [])) ≡ Refused 4 0
@@ -118,7 +136,7 @@ pub record Worked : Type 0 where
       ≡ record { answer = Refused 6 1; set = record { processors = 0; count = 0; tasks = replicate 16 zeroTask } }
 
 worked : Worked
-unfolding firstOver byteAt u16At u32At processorsOf countOf offsetOf lengthOf placeOf cellsFrom levelAt nodesAt figuresAt masksAt taskAt tasksBelow taskSetOf zeroTaskSet levelLawful shapeLawful inRange inOrder lowLawful figuresLawful maskLawful allBelow masksLawful isHeavy taskAnswer headerLawful headerAnswer placeAnswer endAnswer shapeAnswer recordAnswer readAnswer readOf entries copies isHigh figureLimit bytesBeforeMasks
+unfolding firstOver byteAt u16At u32At processorsOf countOf offsetOf lengthOf placeOf cellsFrom levelAt nodesAt figureAt figuresAt masksAt taskAt tasksBelow taskSetOf zeroTaskSet levelLawful shapeLawful inRange inOrder lowLawful figuresLawful maskLawful allBelow masksLawful isHeavy taskAnswer headerLawful headerAnswer placeAnswer endAnswer shapeAnswer recordAnswer readAnswer readOf entries copies isHigh figureLimit bytesBeforeMasks isWide
 worked =
     record {
       empty = refl;
@@ -142,6 +160,13 @@ worked =
       nodes-above = refl;
       length-long = refl;
       record-of-one-byte = refl;
+      wide-shape = refl;
+      wide-short = refl;
+      narrow-long = refl;
+      level-eighteen = refl;
+      wide-greatest = refl;
+      wide-above = refl;
+      wide-low-figures = refl;
       figure-greatest = refl;
       figure-above = refl;
       figure-zero = refl;

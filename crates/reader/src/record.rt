@@ -1,7 +1,7 @@
 // Refusals 3 to 6: one task's record.
 ghost use mathlib.Core.Path.{_≡_};
 ghost use Prim.Native.Nat.{_<_, _≤_};
-ghost use Rattle.sheet.specs.Format.{offsetOf, levelAt, nodesAt, figuresAt, masksAt, taskAt};
+ghost use Rattle.sheet.specs.Format.{offsetOf, levelAt, nodesAt, figureAt, figuresAt, masksAt, taskAt};
 ghost use Rattle.sheet.specs.Rules.{shapeLawful};
 ghost use Rattle.reader.specs.Reading.{recordAnswer};
 ghost use Rattle.sheet.specs.declared.answer.Answer.the-variants.{Accepted};
@@ -10,6 +10,7 @@ use basics::numbers::u16_at;
 use basics::numbers::u32_at;
 use sheet::answer::Answer;
 use sheet::level::bytes_before_masks;
+use sheet::level::is_wide;
 use sheet::rules::shape_lawful;
 use sheet::rules::task_answer;
 use sheet::task::Budget;
@@ -37,20 +38,33 @@ fn shape_at(s: &[u8], at: usize, bytes: u32) -> bool
     shape_lawful(byte_at(s, at), byte_at(s, at + 1), bytes)
 }
 
+// S2.6: figure i of the five, in the wide form or in the other.
+fn figure_at(s: &[u8], at: usize, wide: bool, i: usize) -> u32
+    requires { ⌜ (at < 65536) × (i < 5) ⌝ }
+    ensures { λ r. ⌜ r ≡ figureAt wide (now (s .entry)) at i ⌝ }
+{
+    if wide {
+        u32_at(s, at + 2 + 4 * i)
+    } else {
+        u16_at(s, at + 2 + 2 * i)
+    }
+}
+
 // S2.6: the five figures.
 fn figures_at(s: &[u8], at: usize) -> Figures
     requires { ⌜ at < 65536 ⌝ }
     ensures { λ r. ⌜ r ≡ figuresAt (now (s .entry)) at ⌝ }
 {
+    let wide = is_wide(byte_at(s, at));
     Figures {
-        deadline: u16_at(s, at + 2),
+        deadline: figure_at(s, at, wide, 0),
         nominal: Budget {
-            work: u16_at(s, at + 4),
-            span: u16_at(s, at + 8),
+            work: figure_at(s, at, wide, 1),
+            span: figure_at(s, at, wide, 3),
         },
         overload: Budget {
-            work: u16_at(s, at + 6),
-            span: u16_at(s, at + 10),
+            work: figure_at(s, at, wide, 2),
+            span: figure_at(s, at, wide, 4),
         },
     }
 }

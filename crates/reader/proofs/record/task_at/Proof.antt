@@ -1,6 +1,11 @@
 -- `reader::record::task_at` meets its contract: each part is what its callee ensures. Assumes nothing.
+use Prim.Native.Nat.{ℕ, _+_}
+use mathlib.Core.List.{List}
+use mathlib.Core.Path.{_≡_, ap, _∙_}
 use native.Mathlib.Omega.{arith}
-use Rattle.sheet.specs.Format.{taskAt, levelAt, nodesAt}
+use denote.Ref.{now}
+use Rattle.sheet.specs.Level.{bytesBeforeMasks}
+use Rattle.sheet.specs.Format.{levelAt, nodesAt, masksAt, taskAt}
 use borrow.Author.Needs.{needs}
 use Rattle.reader.proofs.record.task_at.Statement.{statement}
 use Rattle.reader.proofs.record.task_at.Tie as tie
@@ -31,15 +36,28 @@ unfolding nodesAt
 masks-at-requires c κs =
     (omega (arith, c .before .bytes-before-masks .ensures .1), rw (c .before .before .byte-at2 .ensures) (c .before .before .before .before .before .pre .1))
 
+-- The bytes before the masks, by the level that is read, and the masks behind them.
+before-read : (s : List ℕ) (at : ℕ) {bytes level : ℕ} → bytes ≡ bytesBeforeMasks level → level ≡ levelAt s at → bytes ≡ bytesBeforeMasks (levelAt s at)
+before-read s at e same = e ∙ ap bytesBeforeMasks same
+
+masks-read : (s : List ℕ) (at place nodes : ℕ) {masks : List ℕ} → masks ≡ masksAt s place nodes → place ≡ at + bytesBeforeMasks (levelAt s at) →
+    masks ≡ masksAt s (at + bytesBeforeMasks (levelAt s at)) nodes
+masks-read s at place nodes e same = e ∙ ap (λ (from : ℕ). masksAt s from nodes) same
+
 returns : tie.Need-returns
 unfolding taskAt levelAt nodesAt
 returns c =
+    let first = c .before .before .before .before in
+    let start = first .before .before in
+    let s = now (start .args .s) in
+    let at = start .args .at in
+    let level = first .byte-at .ensures in
+    let before = before-read s at (c .before .before .bytes-before-masks .ensures .0) (omega (arith, level)) in
     rw (
-      c .masks-at .ensures,
+      masks-read s at _ _ (c .masks-at .ensures) (omega (arith, before)),
       c .before .figures-at .ensures,
-      c .before .before .bytes-before-masks .ensures .0,
       c .before .before .before .byte-at2 .ensures,
-      c .before .before .before .before .byte-at .ensures,
+      level,
     )
 
 pub task-at-spec : {M : Type 1} → statement M
