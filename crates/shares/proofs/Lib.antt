@@ -10,3 +10,4 @@ pub mod Walk
 pub mod Offers
 pub mod Levels
 pub mod Totals
+pub mod Bounds

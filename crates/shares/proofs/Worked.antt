@@ -1,7 +1,7 @@
 -- Worked facts by computation: searches, offers and low shares of the tasks of the cases, and what stands for none.
 use Prim.Native.Nat.{ℕ}
 use mathlib.Core.Path.{_≡_, refl}
-use mathlib.Core.Bool.{false}
+use mathlib.Core.Bool.{true, false}
 use mathlib.Core.List.{[], _∷_}
 use Rattle.sheet.specs.declared.task.Task.{Task}
 use Rattle.sheet.specs.declared.task.Figures.{Figures}
@@ -16,6 +16,13 @@ use Rattle.shares.specs.Cases.{figures, taskA, taskB, lowTask}
 -- A task of a level, with these figures and one node.
 abbrev ofLevel : ℕ → Figures → Task
 ofLevel level f = record { level = level; nodes = 1; figures = f; predecessors = 0 ∷ [] }
+
+-- A dye line: D 400,000, CN 300,000, LN 70,000, CO 800,000, LO 200,000; and every figure at 1,000,000.
+abbrev dyeLine : Figures
+dyeLine = figures 400000 300000 70000 800000 200000
+
+abbrev most : Figures
+most = figures 1000000 1000000 1000000 1000000 1000000
 
 pub record Worked : Type 0 where
   -- S4.3: the search begins at the typical share itself: A (2, 2) passes.
@@ -42,6 +49,15 @@ pub record Worked : Type 0 where
   pub none-left : divisionOf taskB 7 ≡ record { quotient = 1; remainder = 0 }
   pub high-remainder : remainderOf (ofLevel 1 taskB) 4 ≡ 3
   pub low-remainder : remainderOf (ofLevel 0 (lowTask 31)) 3 ≡ 0
+  -- The same rules for figures that need four bytes: the least critical shares, V, and 230,000 over 3.
+  pub wide-two : leastCritical 16 dyeLine 2 ≡ 16
+  pub wide-three : leastCritical 16 dyeLine 3 ≡ 3
+  pub wide-virtual : virtualDeadlineOf (ofLevel 17 dyeLine) 3 ≡ 146666
+  pub wide-remainder : remainderOf (ofLevel 17 dyeLine) 3 ≡ 2
+  pub wide-low-virtual : virtualDeadlineOf (ofLevel 16 dyeLine) 3 ≡ 0
+  -- S4.2: the greatest sides of all, 1,000,000·64·64 on both, below 2 ^ 32.
+  pub most-asked : demand most 64 64 ≡ 4096000000
+  pub most-passes : passes most 64 64 ≡ true
 
 pub worked : Worked
 unfolding excess demand passes divisionOf virtualDeadline isLow ceilDiv lowShare hasLowShare first leastCritical lowCritical criticalAt tabulate virtualDeadlineOf remainderOf isHigh
@@ -64,4 +80,11 @@ worked =
       none-left = refl;
       high-remainder = refl;
       low-remainder = refl;
+      wide-two = refl;
+      wide-three = refl;
+      wide-virtual = refl;
+      wide-remainder = refl;
+      wide-low-virtual = refl;
+      most-asked = refl;
+      most-passes = refl;
     }
