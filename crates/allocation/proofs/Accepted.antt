@@ -15,23 +15,22 @@ use Rattle.sheet.specs.declared.task.TaskSet.{TaskSet}
 use Rattle.sheet.specs.Answers.{refusedIf, _orElse_, firstOver, badHeader, badRecord, badFigure, badMask, notHeavy, noTask}
 use Rattle.sheet.specs.Format.{processorsOf, countOf, offsetOf, lengthOf, levelAt, nodesAt, taskAt, tasksBelow, taskSetOf, taskIn, missingTask, zeroTask}
 use Rattle.basics.specs.Numbers.{within}
-use Rattle.sheet.specs.Level.{levelLawful, bytesBeforeMasks}
+use Rattle.sheet.specs.Level.{levelLawful}
 use Rattle.sheet.specs.Rules.{shapeLawful, figuresLawful, masksLawful, isHeavy, taskAnswer}
 use Rattle.reader.specs.Reading.{headerLawful, headerAnswer, placeAnswer, endAnswer, shapeAnswer, recordAnswer, readingOf, readOf, readAnswer}
 use Rattle.basics.proofs.Cells.{cells-length, cells-at}
-use Rattle.basics.proofs.Logic.{left-true, right-true, within-bounds}
+use Rattle.basics.proofs.Logic.{left-true, right-true, all-four, within-bounds}
 use Rattle.shares.specs.declared.share.Share.{Share}
 use Rattle.basics.specs.Lists.{isNone}
 use Rattle.allocation.specs.Allocation.{noFit, chosenFor, shareAnswer, choiceAnswer, sharesChosen}
 use Rattle.allocation.specs.Lawful.{LawfulTask, LawfulSet}
-use Rattle.allocation.proofs.Lawfulness.{all-four}
 
 -- Two causes that let pass.
 pub both-accepted : (first later : Answer) → (first orElse later) ≡ Accepted → (first ≡ Accepted) × (later ≡ Accepted)
 both-accepted Accepted later e = (refl, e)
 both-accepted (Refused number task) later e = absurd (let z : _≡_ {A = ℕ} 0 1 = cc in omega arith)
 
-rule-kept : (rule : Bool) (number task : ℕ) → refusedIf (not rule) number task ≡ Accepted → rule ≡ true
+pub rule-kept : (rule : Bool) (number task : ℕ) → refusedIf (not rule) number task ≡ Accepted → rule ≡ true
 rule-kept true number task e = refl
 rule-kept false number task e = absurd (let z : _≡_ {A = ℕ} 0 1 = cc in omega arith)
 
@@ -65,7 +64,7 @@ module _ (s : List ℕ) where
     unfolding readOf
     accepted-set = ap (λ (a : Answer). readingOf a s .set) answer-accepted
 
-    header-kept : headerLawful s ≡ true
+    pub header-kept : headerLawful s ≡ true
     unfolding readAnswer headerAnswer
     header-kept = rule-kept (headerLawful s) badHeader noTask (both-accepted (headerAnswer s) _ answer-accepted .0)
 
@@ -75,18 +74,22 @@ module _ (s : List ℕ) where
         let all = all-four (leb 2 (length s)) (within 1 64 (processorsOf s)) (within 1 16 (countOf s)) _ header-kept in
         (all .1, all .2)
 
-    records-accepted : firstOver (recordAnswer s) 0 (countOf s) ≡ Accepted
+    -- The places, the end and the records pass.
+    pub behind-header : (firstOver (placeAnswer s) 0 (countOf s) ≡ Accepted)
+        × (endAnswer s ≡ Accepted)
+        × (firstOver (recordAnswer s) 0 (countOf s) ≡ Accepted)
     unfolding readAnswer
-    records-accepted =
+    behind-header =
         let later = both-accepted (headerAnswer s) _ answer-accepted .1 in
-        let last = both-accepted (firstOver (placeAnswer s) 0 (countOf s)) _ later .1 in
-        both-accepted (endAnswer s) _ last .1
+        let places = both-accepted (firstOver (placeAnswer s) 0 (countOf s)) _ later in
+        let last = both-accepted (endAnswer s) _ (places .1) in
+        (places .0, last .0, last .1)
 
     module _ (i : ℕ) (inside : i < countOf s) where
       record-accepted : recordAnswer s i ≡ Accepted
-      record-accepted = over-accepted (recordAnswer s) 0 (countOf s) i records-accepted (omega arith) (omega arith)
+      record-accepted = over-accepted (recordAnswer s) 0 (countOf s) i (behind-header .2) (omega arith) (omega arith)
 
-      shape-kept : shapeLawful (levelAt s (offsetOf s i)) (nodesAt s (offsetOf s i)) (lengthOf s i) ≡ true
+      pub shape-kept : shapeLawful (levelAt s (offsetOf s i)) (nodesAt s (offsetOf s i)) (lengthOf s i) ≡ true
       unfolding recordAnswer shapeAnswer
       shape-kept = rule-kept _ badRecord i (both-accepted (shapeAnswer s i) _ record-accepted .0)
 
@@ -103,7 +106,7 @@ module _ (s : List ℕ) where
           (rule-kept _ badFigure i (first .0), rule-kept _ badMask i (second .0), rule-kept _ notHeavy i (second .1))
 
       task-lawful : LawfulTask (taskAt s (offsetOf s i))
-      unfolding taskAt shapeLawful bytesBeforeMasks
+      unfolding taskAt shapeLawful
       task-lawful =
           let rules = rules-kept (taskAt s (offsetOf s i)) task-accepted in
           let level = levelLawful (levelAt s (offsetOf s i)) in
@@ -117,13 +120,13 @@ module _ (s : List ℕ) where
             heavy = rules .2;
           }
 
-      task-in : taskIn (taskSetOf s) i ≡ taskAt s (offsetOf s i)
+      pub task-in : taskIn (taskSetOf s) i ≡ taskAt s (offsetOf s i)
       unfolding taskIn taskSetOf tasksBelow
       task-in =
           let few = within-bounds 1 16 (countOf s) (ranges .1) .1 in
           cells-at (λ j. taskAt s (offsetOf s j)) zeroTask 16 (countOf s) i missingTask (omega arith) inside
 
-    sheet-lawful : LawfulSet (taskSetOf s)
+    pub sheet-lawful : LawfulSet (taskSetOf s)
     unfolding taskSetOf tasksBelow
     sheet-lawful =
         record {

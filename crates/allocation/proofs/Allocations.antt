@@ -10,7 +10,6 @@ use Rattle.sheet.specs.declared.answer.Answer.{Answer}
 use Rattle.sheet.specs.declared.answer.Answer.the-variants.{Accepted, Refused}
 use Rattle.sheet.specs.declared.task.TaskSet.{TaskSet}
 use Rattle.sheet.specs.Format.{taskIn}
-use Rattle.sheet.specs.Level.{figureLimit}
 use Rattle.basics.specs.Lists.{cells}
 use Rattle.basics.proofs.Cells.{cells-none, cells-store, cells-length, cells-at, cells-same}
 use Rattle.reader.specs.Reading.{readOf}
@@ -26,6 +25,7 @@ use Rattle.allocation.proofs.KeptLine.{accepted-shares}
 use Rattle.shares.proofs.Division.{remainder-less}
 use Rattle.shares.proofs.Totals.{total-part}
 use Rattle.allocation.proofs.Blocks.{shares-blocks}
+use Rattle.sheet.proofs.Limits.{limit-most}
 use Rattle.allocation.proofs.Lawfulness.{figures-kept}
 use Rattle.allocation.proofs.Sixteen.{share-same, sixteen-take, offset-same}
 
@@ -82,7 +82,7 @@ module _ (tasks : TaskSet) (lawful : LawfulSet tasks) (shares : List Share) (giv
   allocations-same = cells-same (allocationOf tasks (sixteen shares)) (allocationOf tasks shares) noAllocation 0 16 (tasks .count) allocation-same
 
   pub allocation-bounded : (i : ℕ) → i < tasks .count → Bounded (allocationOf tasks shares i)
-  unfolding allocationOf lengthIn shareAt figureLimit
+  unfolding allocationOf lengthIn shareAt
   allocation-bounded i inside =
       let small = lawful .few-processors in
       let blocks = shares-blocks tasks shares given in
@@ -90,7 +90,7 @@ module _ (tasks : TaskSet) (lawful : LawfulSet tasks) (shares : List Share) (giv
       record {
         typical = let ends = blocks .inside false i (omega (arith, given .each)) in omega arith;
         critical = let ends = blocks .inside true i (omega (arith, given .each)) in omega arith;
-        two-bytes = omega (arith, given .virtual i inside, kept .deadline-to);
+        virtual = omega (arith, given .virtual i inside, kept .deadline-to, limit-most (taskIn tasks i .level));
         remainder =
             let ends = blocks .inside false i (omega (arith, given .each)) in
             omega (arith, remainder-less (taskIn tasks i) (shareAt shares i .typical) (given .some-share i inside));

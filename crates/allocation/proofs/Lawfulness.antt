@@ -1,6 +1,6 @@
 -- The rules of a record, taken apart: the figures' ranges and order, and what a low and a heavy task have.
 use Prim.Native.Nat.{ℕ, _≤_, _<_}
-use mathlib.Core.Path.{_≡_, refl}
+use mathlib.Core.Path.{_≡_}
 use mathlib.Core.Bool.{Bool, true, false, _&&_, _||_, not, false≢true}
 use lib.Dec.{leb, eqb}
 use borrow.Author.Tests.{leb-true, ltb-true, eqb-true}
@@ -8,15 +8,7 @@ use Rattle.sheet.specs.declared.task.Figures.{Figures}
 use Rattle.basics.specs.Numbers.{within}
 use Rattle.sheet.specs.Level.{isHigh, isLow, figureLimit}
 use Rattle.sheet.specs.Rules.{inRange, inOrder, lowLawful, figuresLawful, isHeavy}
-use Rattle.basics.proofs.Logic.{left-true, right-true, within-bounds}
-
--- The parts of four tests that hold together.
-pub all-four : (p q r s : Bool) → p && q && r && s ≡ true → (p ≡ true) × (q ≡ true) × (r ≡ true) × (s ≡ true)
-all-four true true true true e = (refl, refl, refl, refl)
-all-four true true true false e = absurd (false≢true e)
-all-four true true false s e = absurd (false≢true e)
-all-four true false r s e = absurd (false≢true e)
-all-four false q r s e = absurd (false≢true e)
+use Rattle.basics.proofs.Logic.{left-true, right-true, all-four, within-bounds}
 
 -- What the figures of a lawful task keep.
 pub record Kept (level : ℕ) (f : Figures) : Type 0 where

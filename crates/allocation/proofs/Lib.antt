@@ -13,6 +13,11 @@ pub mod Walk
 pub mod Sets
 pub mod Held
 pub mod Accepted
+pub mod Records
+pub mod Directory
+pub mod Sheets
+pub mod Again
+pub mod Wide
 pub mod Allocations
 pub mod Rounding
 pub mod Laws

@@ -20,6 +20,7 @@ use Rattle.sheet.specs.Answers.{refusedIf, _orElse_, firstOver}
 use Rattle.basics.specs.Lists.{isEmpty, range}
 use Rattle.sheet.specs.Format.{taskIn, missingTask}
 use Rattle.basics.proofs.Cells.{cells-length, cells-at}
+use Rattle.sheet.proofs.Faults.{over-same}
 use Rattle.shares.specs.declared.share.Share.{Share}
 use Rattle.shares.specs.Offer.{tabulate, criticalAt, offerOf}
 use Rattle.shares.proofs.Levels.{critical-within, critical-bound, critical-past}
@@ -99,14 +100,6 @@ module _ (M : ℕ) (t : Task) (small : M ≤ 64) (lawful : LawfulTask t) where
       go (s ∷ rest) e true h =
           absurd (offers-something s (subst (λ (o : List Share). List·Memᴰ s o) (sym e) (List·Memᴰ·head refl)) h)
       go (s ∷ rest) e false h = refl
-
--- A cause put to tasks on which two causes agree.
-over-same : (f g : ℕ → Answer) (first count : ℕ) → ((i : ℕ) → first ≤ i → i < first + count → f i ≡ g i) →
-    firstOver f first count ≡ firstOver g first count
-unfolding firstOver
-over-same f g first zero same = refl
-over-same f g first (suc count) same =
-    rw (same first (omega arith) (omega arith), over-same f g (suc first) count (λ i from to. same i (omega arith) (omega arith)))
 
 -- A refusal over the tasks is that of the first task that is refused.
 pub over-first : (offer : ℕ → Answer) (first count number task : ℕ) → firstOver offer first count ≡ Refused number task →

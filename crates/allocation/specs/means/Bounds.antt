@@ -14,11 +14,11 @@ pub record SharesFit (set : TaskSet) (shares : List Share) : Type 0 where
   pub some-share : (i : ℕ) → i < set .count → 1 ≤ lengthIn false shares i
   pub ends : (mode : Bool) (i : ℕ) → i ≤ set .count → offsetIn mode shares i < 256
 
--- A task's blocks end within 64 processors, its V has two bytes, and its remainder is less than 64.
+-- A task's blocks end within 64 processors, its V is at most 1,000,000, and its remainder is less than 64.
 pub record Bounded (a : Allocation) : Type 0 where
   pub typical : a .offset .typical + a .share .typical ≤ 64
   pub critical : a .offset .critical + a .share .critical ≤ 64
-  pub two-bytes : a .«virtual_deadline» < 65536
+  pub virtual : a .«virtual_deadline» ≤ 1000000
   pub remainder : a .remainder < 64
 
 -- The same of each of the first n tasks.
