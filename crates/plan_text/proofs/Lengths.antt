@@ -33,18 +33,18 @@ field-length k n rest h =
     let digits = decimal-length k n h in
     rw (length-append (decimal n) (mark (length rest) ∷ line rest)) (omega arith)
 
--- The line of seven numbers: five of at most three digits, one of at most five, and one of at most three.
-seven-length : (a b c d e v r : ℕ) → a < 10 ^ 3 → b < 10 ^ 3 → c < 10 ^ 3 → d < 10 ^ 3 → e < 10 ^ 3 → v < 10 ^ 5 → r < 10 ^ 3 →
-    length (line (a ∷ b ∷ c ∷ d ∷ e ∷ v ∷ r ∷ [])) ≤ 30
+-- The line of seven numbers: five of at most two digits, one of at most seven, and one of at most two.
+seven-length : (a b c d e v r : ℕ) → a < 10 ^ 2 → b < 10 ^ 2 → c < 10 ^ 2 → d < 10 ^ 2 → e < 10 ^ 2 → v < 10 ^ 7 → r < 10 ^ 2 →
+    length (line (a ∷ b ∷ c ∷ d ∷ e ∷ v ∷ r ∷ [])) ≤ 26
 seven-length a b c d e v r ha hb hc hd he hv hr = omega (
   arith,
-  field-length 2 a (b ∷ c ∷ d ∷ e ∷ v ∷ r ∷ []) ha,
-  field-length 2 b (c ∷ d ∷ e ∷ v ∷ r ∷ []) hb,
-  field-length 2 c (d ∷ e ∷ v ∷ r ∷ []) hc,
-  field-length 2 d (e ∷ v ∷ r ∷ []) hd,
-  field-length 2 e (v ∷ r ∷ []) he,
-  field-length 4 v (r ∷ []) hv,
-  field-length 2 r [] hr,
+  field-length 1 a (b ∷ c ∷ d ∷ e ∷ v ∷ r ∷ []) ha,
+  field-length 1 b (c ∷ d ∷ e ∷ v ∷ r ∷ []) hb,
+  field-length 1 c (d ∷ e ∷ v ∷ r ∷ []) hc,
+  field-length 1 d (e ∷ v ∷ r ∷ []) hd,
+  field-length 1 e (v ∷ r ∷ []) he,
+  field-length 6 v (r ∷ []) hv,
+  field-length 1 r [] hr,
 )
 
 -- What f gives for the numbers of a range, each of at most b bytes.
@@ -58,14 +58,14 @@ each-length f b first (suc n) h =
 
 -- The lines of tasks whose blocks, V and remainders are small.
 module _ (n : ℕ) (allocations : List Allocation) (small : AllBounded allocations n) where
-  fields-length : (i : ℕ) → i < n → length (line (fieldsOf i (allocationAt allocations i))) ≤ 30
+  fields-length : (i : ℕ) → i < n → length (line (fieldsOf i (allocationAt allocations i))) ≤ 26
   unfolding fieldsOf
   fields-length i h =
       let few = small .few in
       let here = small .each i h in
       let typical = here .typical in
       let critical = here .critical in
-      let word = here .two-bytes in
+      let virtual = here .virtual in
       let left = here .remainder in
       seven-length i _ _ _ _ _ _ (omega arith) (omega arith) (omega arith) (omega arith) (omega arith) (omega arith) (omega arith)
 
@@ -73,7 +73,7 @@ module _ (n : ℕ) (allocations : List Allocation) (small : AllBounded allocatio
   unfolding planLines
   lines-length =
       let few = small .few in
-      let all = each-length (λ i. line (fieldsOf i (allocationAt allocations i))) 30 0 n (λ i h. fields-length i (omega arith)) in
+      let all = each-length (λ i. line (fieldsOf i (allocationAt allocations i))) 26 0 n (λ i h. fields-length i (omega arith)) in
       omega arith
 
 -- The line of a refusal whose number and task are bytes.

@@ -4,8 +4,8 @@ use mathlib.Core.List.{[], _∷_, _++_}
 use Rattle.sheet.specs.Answers.{firstOver}
 use Rattle.basics.specs.Numbers.{byteAt, u16At, u32At}
 use Rattle.basics.specs.Lists.{cellsFrom, allBelow, range}
-use Rattle.sheet.specs.Format.{processorsOf, countOf, offsetOf, lengthOf, levelAt, nodesAt, figuresAt, masksAt, taskAt, zeroTask, tasksBelow, taskSetOf, zeroTaskSet, taskIn, placeOf}
-use Rattle.sheet.specs.Level.{levelLawful, isLow, bytesBeforeMasks, figureLimit, isHigh}
+use Rattle.sheet.specs.Format.{processorsOf, countOf, offsetOf, lengthOf, levelAt, nodesAt, figureAt, figuresAt, masksAt, taskAt, zeroTask, tasksBelow, taskSetOf, zeroTaskSet, taskIn, placeOf}
+use Rattle.sheet.specs.Level.{levelLawful, isLow, bytesBeforeMasks, figureLimit, isHigh, isWide}
 use Rattle.sheet.specs.Rules.{shapeLawful, inRange, inOrder, lowLawful, figuresLawful, maskLawful, masksLawful, isHeavy, taskAnswer}
 use Rattle.reader.proofs.Worked.{sheetABE}
 use Rattle.reader.specs.Reading.{headerLawful, headerAnswer, placeAnswer, endAnswer, shapeAnswer, recordAnswer, readOf, readAnswer}
@@ -37,5 +37,5 @@ pub record Sheets : Type 0 where
   pub too-long : textOf (sheetABE 8 ++ 0 ∷ []) ≡ 114 ∷ 101 ∷ 102 ∷ 117 ∷ 115 ∷ 101 ∷ 100 ∷ 32 ∷ 50 ∷ 32 ∷ 50 ∷ 10 ∷ []
 
 sheets : Sheets
-unfolding firstOver byteAt u16At u32At processorsOf countOf offsetOf lengthOf placeOf cellsFrom levelAt nodesAt figuresAt masksAt taskAt zeroTask tasksBelow taskSetOf zeroTaskSet taskIn levelLawful shapeLawful inRange inOrder lowLawful figuresLawful maskLawful allBelow masksLawful isHeavy taskAnswer headerLawful headerAnswer placeAnswer endAnswer shapeAnswer recordAnswer readAnswer readOf excess demand passes divisionOf virtualDeadline isLow ceilDiv lowShare hasLowShare virtualDeadlineOf remainderOf range lowOptions pairsWithin highOptions optionsOf fits leastBy fitting chosen offsetIn chosenFor shareAnswer choiceAnswer lowNumbers holdable firstHeld typicalShareAt leftOver keptTasks keptShare withKept sharesWith sharesOf shareAt allocationOf allocationsOf allocationAt allocationAnswer allocatedOf digitsWithin decimal fieldsOf planLines refusalLine textOf isHigh figureLimit bytesBeforeMasks
+unfolding firstOver byteAt u16At u32At processorsOf countOf offsetOf lengthOf placeOf cellsFrom levelAt nodesAt figureAt figuresAt masksAt taskAt zeroTask tasksBelow taskSetOf zeroTaskSet taskIn levelLawful shapeLawful inRange inOrder lowLawful figuresLawful maskLawful allBelow masksLawful isHeavy taskAnswer headerLawful headerAnswer placeAnswer endAnswer shapeAnswer recordAnswer readAnswer readOf excess demand passes divisionOf virtualDeadline isLow ceilDiv lowShare hasLowShare virtualDeadlineOf remainderOf range lowOptions pairsWithin highOptions optionsOf fits leastBy fitting chosen offsetIn chosenFor shareAnswer choiceAnswer lowNumbers holdable firstHeld typicalShareAt leftOver keptTasks keptShare withKept sharesWith sharesOf shareAt allocationOf allocationsOf allocationAt allocationAnswer allocatedOf digitsWithin decimal fieldsOf planLines refusalLine textOf isHigh figureLimit bytesBeforeMasks isWide
 sheets = record { no-bytes = refl; printed = refl; no-fit = refl; no-share = refl; too-long = refl }

@@ -26,12 +26,12 @@ abbrev three : List Allocation
 three = fixed 3 6 0 0 5 2 ∷ fixed 1 1 3 6 0 0 ∷ fixed 5 8 4 7 276 4 ∷ []
 
 pub record Worked : Type 0 where
-  -- S6.3: decimals of one digit, of more, and of the largest figure; no zero stands in front.
+  -- S6.3: decimals of one digit and of more; no zero stands in front.
   pub zero : decimal 0 ≡ 48 ∷ []
   pub nine : decimal 9 ≡ 57 ∷ []
   pub ten : decimal 10 ≡ 49 ∷ 48 ∷ []
   pub byte : decimal 255 ≡ 50 ∷ 53 ∷ 53 ∷ []
-  pub largest : decimal 10000 ≡ 49 ∷ 48 ∷ 48 ∷ 48 ∷ 48 ∷ []
+  pub five-digits : decimal 10000 ≡ 49 ∷ 48 ∷ 48 ∷ 48 ∷ 48 ∷ []
   -- S6.3: the highest digit stands first.
   pub read : valueOf (50 ∷ 53 ∷ 48 ∷ []) ≡ 250
   -- S6.3: one blank between two numbers, and a newline behind the last.
@@ -55,7 +55,7 @@ worked =
       nine = refl;
       ten = refl;
       byte = refl;
-      largest = refl;
+      five-digits = refl;
       read = refl;
       of-two = refl;
       fields = refl;

@@ -4,7 +4,7 @@ ghost use mathlib.Core.List.{[]};
 ghost use Rattle.plan_text.specs.Decimal.{decimal};
 ghost use Rattle.plan_text.specs.means.Growth.{holding, withByte, withBytes};
 
-// Sixteen lines of 30 bytes.
+// Room for sixteen lines of 26 bytes.
 const ROOM: usize = 480;
 
 // The bytes of a text, and how many of them it has.

@@ -3,3 +3,4 @@ pub mod Worked
 pub mod Bytes
 pub mod Parts
 pub mod Plans
+pub mod Wide

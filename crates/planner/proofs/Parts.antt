@@ -6,7 +6,7 @@ use mathlib.Core.List.{List, [], _∷_}
 use native.Mathlib.Omega.{arith}
 use lib.ListN.{length}
 use lib.Seq.{sets}
-use Rattle.basics.specs.Numbers.{u16Bytes}
+use Rattle.basics.specs.Numbers.{u32Bytes}
 use Rattle.basics.specs.Lists.{range, each}
 use Rattle.basics.proofs.Bytes.{sets-append}
 use Rattle.allocation.specs.declared.allocate.Allocation.{Allocation}
@@ -33,15 +33,15 @@ module _ (allocations : List Allocation) where
     unfolding blockBytes
     blocks-more = part-more (λ j. blockOf mode (allocationAt allocations j)) 2 (λ j. refl)
 
-  pub virtuals-length : (n : ℕ) → length (virtualBytes n allocations) ≡ 2 * n
-  unfolding virtualBytes u16Bytes
-  virtuals-length = part-length (λ j. u16Bytes (allocationAt allocations j .«virtual_deadline»)) 2 (λ j. refl)
+  pub virtuals-length : (n : ℕ) → length (virtualBytes n allocations) ≡ 4 * n
+  unfolding virtualBytes u32Bytes
+  virtuals-length = part-length (λ j. u32Bytes (allocationAt allocations j .«virtual_deadline»)) 4 (λ j. refl)
 
-  pub virtuals-more : (old : List ℕ) (from i place : ℕ) → place ≡ from + 2 * i →
-      sets (sets old from (virtualBytes i allocations)) place (u16Bytes (allocationAt allocations i .«virtual_deadline»))
+  pub virtuals-more : (old : List ℕ) (from i place : ℕ) → place ≡ from + 4 * i →
+      sets (sets old from (virtualBytes i allocations)) place (u32Bytes (allocationAt allocations i .«virtual_deadline»))
       ≡ sets old from (virtualBytes (i + 1) allocations)
-  unfolding virtualBytes u16Bytes
-  virtuals-more = part-more (λ j. u16Bytes (allocationAt allocations j .«virtual_deadline»)) 2 (λ j. refl)
+  unfolding virtualBytes u32Bytes
+  virtuals-more = part-more (λ j. u32Bytes (allocationAt allocations j .«virtual_deadline»)) 4 (λ j. refl)
 
   pub remainders-length : (n : ℕ) → length (remainderBytes n allocations) ≡ n
   unfolding remainderBytes

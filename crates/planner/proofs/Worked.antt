@@ -7,10 +7,10 @@ use native.Mathlib.Omega.{arith}
 use lib.ListN.{replicate}
 use Rattle.sheet.specs.declared.answer.Answer.the-variants.{Accepted, Refused}
 use Rattle.sheet.specs.Answers.{firstOver}
-use Rattle.basics.specs.Numbers.{byteAt, u16At, u32At, u16Bytes}
+use Rattle.basics.specs.Numbers.{byteAt, u16At, u32At, u32Bytes}
 use Rattle.basics.specs.Lists.{cellsFrom, allBelow, range}
-use Rattle.sheet.specs.Format.{processorsOf, countOf, offsetOf, lengthOf, levelAt, nodesAt, figuresAt, masksAt, taskAt, zeroTask, tasksBelow, taskSetOf, taskIn, placeOf}
-use Rattle.sheet.specs.Level.{levelLawful, isLow, bytesBeforeMasks, figureLimit, isHigh}
+use Rattle.sheet.specs.Format.{processorsOf, countOf, offsetOf, lengthOf, levelAt, nodesAt, figureAt, figuresAt, masksAt, taskAt, zeroTask, tasksBelow, taskSetOf, taskIn, placeOf}
+use Rattle.sheet.specs.Level.{levelLawful, isLow, bytesBeforeMasks, figureLimit, isHigh, isWide}
 use Rattle.sheet.specs.Rules.{shapeLawful, inRange, inOrder, lowLawful, figuresLawful, maskLawful, masksLawful, isHeavy, taskAnswer}
 use Rattle.reader.proofs.Worked.{sheetABE}
 use Rattle.reader.specs.Reading.{headerLawful, headerAnswer, placeAnswer, endAnswer, shapeAnswer, recordAnswer, readOf, readAnswer}
@@ -40,6 +40,16 @@ sheetOn M =
     ∷ 1 ∷ 1 ∷ 132 ∷ 3 ∷ 88 ∷ 2 ∷ 232 ∷ 3 ∷ 200 ∷ 0 ∷ 200 ∷ 0 ∷ 0 ∷ 0 ∷ 0 ∷ 0
     ∷ 0 ∷ 1 ∷ 18 ∷ 0 ∷ 30 ∷ 0 ∷ 30 ∷ 0 ∷ 6 ∷ 0 ∷ 6 ∷ 0 ∷ 0 ∷ 0 ∷ 0 ∷ 0 ∷ []
 
+-- A dye line on 5 processors: a high task in the wide form, with D 400,000, CN 300,000, CO 800,000, LN 70,000 and LO 200,000, and the
+-- low task of the sheet above.
+abbrev dyeSheet : List ℕ
+dyeSheet =
+    5
+    ∷ 2
+    ∷ 10 ∷ 0 ∷ 26 ∷ 0 ∷ 36 ∷ 0 ∷ 16 ∷ 0
+    ∷ 17 ∷ 1 ∷ 128 ∷ 26 ∷ 6 ∷ 0 ∷ 224 ∷ 147 ∷ 4 ∷ 0 ∷ 0 ∷ 53 ∷ 12 ∷ 0 ∷ 112 ∷ 17 ∷ 1 ∷ 0 ∷ 64 ∷ 13 ∷ 3 ∷ 0 ∷ 0 ∷ 0 ∷ 0 ∷ 0
+    ∷ 0 ∷ 1 ∷ 18 ∷ 0 ∷ 30 ∷ 0 ∷ 30 ∷ 0 ∷ 6 ∷ 0 ∷ 6 ∷ 0 ∷ 0 ∷ 0 ∷ 0 ∷ 0 ∷ []
+
 -- Their plan: A has (1, 2) and V 9, with nothing left; B has (3, 4) and V 6, with 1 left.
 abbrev pub planAB : List ℕ
 planAB = typical ++ (critical ++ (virtuals ++ remainders))
@@ -51,7 +61,7 @@ planAB = typical ++ (critical ++ (virtuals ++ remainders))
     critical = 0 ∷ 2 ∷ 2 ∷ 4 ∷ []
 
     virtuals : List ℕ
-    virtuals = 9 ∷ 0 ∷ 6 ∷ 0 ∷ []
+    virtuals = 9 ∷ 0 ∷ 0 ∷ 0 ∷ 6 ∷ 0 ∷ 0 ∷ 0 ∷ []
 
     remainders : List ℕ
     remainders = 0 ∷ 1 ∷ []
@@ -68,22 +78,23 @@ pub record Worked : Type 0 where
   -- S5.4: the blocks of three tasks, the last of which has none in critical mode.
   pub typical-blocks : blockBytes false 3 three ≡ 0 ∷ 1 ∷ 1 ∷ 2 ∷ 3 ∷ 2 ∷ []
   pub critical-blocks : blockBytes true 3 three ≡ 0 ∷ 3 ∷ 3 ∷ 2 ∷ 5 ∷ 0 ∷ []
-  -- S1.1: a number of two bytes has its low byte first.
-  pub word : u16Bytes 600 ≡ 88 ∷ 2 ∷ []
-  pub word-low : u16Bytes 255 ≡ 255 ∷ 0 ∷ []
-  pub word-high : u16Bytes 256 ≡ 0 ∷ 1 ∷ []
+  -- S1.1: a number of four bytes has its lowest byte first.
+  pub word : u32Bytes 600 ≡ 88 ∷ 2 ∷ 0 ∷ 0 ∷ []
+  pub word-low : u32Bytes 65535 ≡ 255 ∷ 255 ∷ 0 ∷ 0 ∷ []
+  pub word-high : u32Bytes 65536 ≡ 0 ∷ 0 ∷ 1 ∷ 0 ∷ []
+  pub word-most : u32Bytes 1000000 ≡ 64 ∷ 66 ∷ 15 ∷ 0 ∷ []
   -- S3.3: a sheet's refusals come in the order 7, 8, 9, also where the buffer has no byte.
   pub first-seven : planAnswer (sheetOn 1) 0 ≡ Refused 7 0
   pub then-eight : planAnswer (sheetOn 2) 0 ≡ Refused 8 255
-  pub then-nine : planAnswer (sheetOn 3) 13 ≡ Refused 9 255
-  pub room-enough : planAnswer (sheetOn 3) 14 ≡ Accepted
+  pub then-nine : planAnswer (sheetOn 3) 17 ≡ Refused 9 255
+  pub room-enough : planAnswer (sheetOn 3) 18 ≡ Accepted
   -- S5.5: typical blocks, critical blocks, V, remainders; the byte behind them stays. A refusal leaves the buffer as it was.
-  pub plan-bytes : planned (sheetOn 3) (replicate 15 7)
-      ≡ 0 ∷ 1 ∷ 1 ∷ 2 ∷ 0 ∷ 2 ∷ 2 ∷ 0 ∷ 88 ∷ 2 ∷ 0 ∷ 0 ∷ 0 ∷ 0 ∷ 7 ∷ []
+  pub plan-bytes : planned (sheetOn 3) (replicate 19 7)
+      ≡ 0 ∷ 1 ∷ 1 ∷ 2 ∷ 0 ∷ 2 ∷ 2 ∷ 0 ∷ 88 ∷ 2 ∷ 0 ∷ 0 ∷ 0 ∷ 0 ∷ 0 ∷ 0 ∷ 0 ∷ 0 ∷ 7 ∷ []
   -- S5.6: on 4 processors the high task leaves two over, and the low one is kept.
-  pub plan-kept : planned (sheetOn 4) (replicate 15 7)
-      ≡ 0 ∷ 1 ∷ 1 ∷ 2 ∷ 0 ∷ 2 ∷ 2 ∷ 2 ∷ 88 ∷ 2 ∷ 0 ∷ 0 ∷ 0 ∷ 0 ∷ 7 ∷ []
-  pub left-alone : planned (sheetOn 4) (replicate 13 7) ≡ replicate 13 7
+  pub plan-kept : planned (sheetOn 4) (replicate 19 7)
+      ≡ 0 ∷ 1 ∷ 1 ∷ 2 ∷ 0 ∷ 2 ∷ 2 ∷ 2 ∷ 88 ∷ 2 ∷ 0 ∷ 0 ∷ 0 ∷ 0 ∷ 0 ∷ 0 ∷ 0 ∷ 0 ∷ 7 ∷ []
+  pub left-alone : planned (sheetOn 4) (replicate 17 7) ≡ replicate 17 7
   -- S11.11: A and B on 8 and on 6 processors.
   pub on-eight : planFor (on 8 ab) ≡ planAB
   pub on-six : planFor (on 6 ab) ≡ planAB
@@ -91,12 +102,16 @@ pub record Worked : Type 0 where
   pub sheet-accepted : allocationAnswer (sheetABE 8) ≡ Accepted
   pub sheet-count : readOf (sheetABE 8) .set .count ≡ 3
   pub sheet-high : isLow (taskIn (readOf (sheetABE 8) .set) 1 .level) ≡ false
-  pub sheet-plan : planned (sheetABE 8) (replicate 21 255)
-      ≡ 0 ∷ 1 ∷ 1 ∷ 2 ∷ 3 ∷ 5 ∷ 0 ∷ 2 ∷ 2 ∷ 6 ∷ 8 ∷ 0 ∷ 9 ∷ 0 ∷ 7 ∷ 0 ∷ 0 ∷ 0 ∷ 0 ∷ 1 ∷ 0 ∷ []
-  pub sheet-room : planAnswer (sheetABE 8) 20 ≡ Refused 9 255
+  pub sheet-plan : planned (sheetABE 8) (replicate 27 255)
+      ≡ 0 ∷ 1 ∷ 1 ∷ 2 ∷ 3 ∷ 5 ∷ 0 ∷ 2 ∷ 2 ∷ 6 ∷ 8 ∷ 0 ∷ 9 ∷ 0 ∷ 0 ∷ 0 ∷ 7 ∷ 0 ∷ 0 ∷ 0 ∷ 0 ∷ 0 ∷ 0 ∷ 0 ∷ 0 ∷ 1 ∷ 0 ∷ []
+  pub sheet-room : planAnswer (sheetABE 8) 26 ≡ Refused 9 255
+  -- S2.6: a wide record beside one that is not. V is 146,666, which takes three of its four bytes, and 2 is left.
+  pub dye-plan : planned dyeSheet (replicate 18 255)
+      ≡ 0 ∷ 3 ∷ 3 ∷ 2 ∷ 0 ∷ 3 ∷ 3 ∷ 2 ∷ 234 ∷ 60 ∷ 2 ∷ 0 ∷ 0 ∷ 0 ∷ 0 ∷ 0 ∷ 2 ∷ 0 ∷ []
+  pub dye-room : planAnswer dyeSheet 17 ≡ Refused 9 255
 
 pub worked : Worked
-unfolding byteAt u16At u32At processorsOf countOf offsetOf lengthOf placeOf cellsFrom levelAt nodesAt figuresAt masksAt taskAt zeroTask tasksBelow taskSetOf taskIn levelLawful shapeLawful inRange inOrder lowLawful figuresLawful maskLawful allBelow masksLawful isHeavy taskAnswer firstOver headerLawful headerAnswer placeAnswer endAnswer shapeAnswer recordAnswer readAnswer readOf virtualDeadlineOf remainderOf isLow ceilDiv lowShare hasLowShare excess demand passes divisionOf virtualDeadline range lowOptions pairsWithin highOptions optionsOf fits leastBy fitting chosen offsetIn chosenFor shareAnswer choiceAnswer lowNumbers holdable firstHeld typicalShareAt leftOver keptTasks keptShare withKept sharesWith sharesOf shareAt allocationOf allocationsOf allocationAt allocationAnswer allocatedOf blockBytes virtualBytes remainderBytes planBytes planAnswer planned isHigh figureLimit bytesBeforeMasks u16Bytes
+unfolding byteAt u16At u32At processorsOf countOf offsetOf lengthOf placeOf cellsFrom levelAt nodesAt figureAt figuresAt masksAt taskAt zeroTask tasksBelow taskSetOf taskIn levelLawful shapeLawful inRange inOrder lowLawful figuresLawful maskLawful allBelow masksLawful isHeavy taskAnswer firstOver headerLawful headerAnswer placeAnswer endAnswer shapeAnswer recordAnswer readAnswer readOf virtualDeadlineOf remainderOf isLow ceilDiv lowShare hasLowShare excess demand passes divisionOf virtualDeadline range lowOptions pairsWithin highOptions optionsOf fits leastBy fitting chosen offsetIn chosenFor shareAnswer choiceAnswer lowNumbers holdable firstHeld typicalShareAt leftOver keptTasks keptShare withKept sharesWith sharesOf shareAt allocationOf allocationsOf allocationAt allocationAnswer allocatedOf blockBytes virtualBytes remainderBytes planBytes planAnswer planned isHigh figureLimit bytesBeforeMasks u32Bytes isWide
 worked =
     record {
       typical-blocks = refl;
@@ -104,6 +119,7 @@ worked =
       word = refl;
       word-low = refl;
       word-high = refl;
+      word-most = refl;
       first-seven = refl;
       then-eight = refl;
       then-nine = refl;
@@ -118,6 +134,8 @@ worked =
       sheet-high = refl;
       sheet-plan = refl;
       sheet-room = refl;
+      dye-plan = refl;
+      dye-room = refl;
     }
 
 -- There is a sheet with a high task for which `sheet-rounded` holds: B of S11.14, with 2·(7 − 4) + 1 = 11 − 4.

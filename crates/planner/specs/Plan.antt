@@ -7,7 +7,7 @@ use lib.ListN.{length}
 use Rattle.sheet.specs.declared.answer.Answer.{Answer}
 use Rattle.sheet.specs.Answers.{noTask, refusedIf, _orElse_, writtenIf}
 use Rattle.shares.specs.Totals.{shareIn}
-use Rattle.basics.specs.Numbers.{u16Bytes}
+use Rattle.basics.specs.Numbers.{u32Bytes}
 use Rattle.basics.specs.Lists.{range, each}
 use Rattle.allocation.specs.declared.allocate.Offset.{Offset}
 use Rattle.allocation.specs.declared.allocate.Allocation.{Allocation}
@@ -29,15 +29,15 @@ blockOf mode a = beginIn mode (a .offset) ∷ shareIn mode (a .share) ∷ []
 unfoldable pub blockBytes : Bool → ℕ → List Allocation → List ℕ
 blockBytes mode n allocations = each (range 0 n) (λ i. blockOf mode (allocationAt allocations i))
 
--- S5.5: V of n tasks, two bytes for each.
+-- S5.5: V of n tasks, four bytes for each.
 unfoldable pub virtualBytes : ℕ → List Allocation → List ℕ
-virtualBytes n allocations = each (range 0 n) (λ i. u16Bytes (allocationAt allocations i .«virtual_deadline»))
+virtualBytes n allocations = each (range 0 n) (λ i. u32Bytes (allocationAt allocations i .«virtual_deadline»))
 
 -- S5.5: the remainders of n tasks, a byte for each.
 unfoldable pub remainderBytes : ℕ → List Allocation → List ℕ
 remainderBytes n allocations = each (range 0 n) (λ i. allocationAt allocations i .remainder ∷ [])
 
--- S5.5: the typical blocks, the critical blocks, the virtual deadlines and the remainders of n tasks, one behind the other: 7n bytes.
+-- S5.5: the typical blocks, the critical blocks, the virtual deadlines and the remainders of n tasks, one behind the other: 9n bytes.
 unfoldable pub planBytes : ℕ → List Allocation → List ℕ
 planBytes n allocations =
     blockBytes false n allocations
@@ -49,7 +49,7 @@ planBytes n allocations =
 unfoldable pub planAnswer : List ℕ → ℕ → Answer
 planAnswer s room =
     allocationAnswer s
-    orElse refusedIf (ltb room (7 * allocatedOf s .count)) shortBuffer noTask
+    orElse refusedIf (ltb room (9 * allocatedOf s .count)) shortBuffer noTask
 
 -- S5.5: the buffer after the call.
 unfoldable pub planned : List ℕ → List ℕ → List ℕ

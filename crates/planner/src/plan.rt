@@ -10,6 +10,7 @@ ghost use Rattle.planner.specs.Plan.{planBytes, planAnswer, planned};
 ghost use Rattle.planner.specs.means.Writing.{TaskFits, withTask};
 use allocation::allocate::Allocation;
 use allocation::allocate::allocate;
+use basics::numbers::put_u32;
 use sheet::answer::Answer;
 use sheet::answer::NO_TASK;
 
@@ -23,23 +24,21 @@ fn put_pair(buffer: &mut [u8], at: usize, x: u8, y: u8)
     buffer[at + 1] = y;
 }
 
-// Task i's bytes in the four parts of a plan of n tasks: the typical blocks, the critical blocks, the virtual deadlines, low byte first,
-// and the remainders.
+// Task i's bytes in the four parts of a plan of n tasks: the typical blocks, the critical blocks, the virtual deadlines and the remainders.
 fn write_task(buffer: &mut [u8], n: usize, i: usize, a: Allocation)
     requires { ⌜ TaskFits n i (length (now buffer)) ⌝ }
     requires { ⌜ Bounded a ⌝ }
     ensures { λ _. ⌜ now (buffer .exit) ≡ withTask n i a (now (buffer .entry)) ⌝ }
 {
-    let v = a.virtual_deadline;
     put_pair(buffer, 2 * i, a.offset.typical, a.share.typical);
     put_pair(buffer, 2 * n + 2 * i, a.offset.critical, a.share.critical);
-    put_pair(buffer, 4 * n + 2 * i, (v % 256) as u8, (v / 256) as u8);
-    buffer[6 * n + i] = a.remainder as u8;
+    put_u32(buffer, 4 * n + 4 * i, a.virtual_deadline);
+    buffer[8 * n + i] = a.remainder as u8;
 }
 
-// The plan's 7n bytes, at the front of the buffer.
+// The plan's 9n bytes, at the front of the buffer.
 fn write_plan(buffer: &mut [u8], allocations: [Allocation; 16], n: u8)
-    requires { ⌜ 7 * n ≤ length (now buffer) ⌝ }
+    requires { ⌜ 9 * n ≤ length (now buffer) ⌝ }
     requires { ⌜ AllBounded allocations n ⌝ }
     ensures { λ _. ⌜ now (buffer .exit) ≡ sets (now (buffer .entry)) 0 (planBytes n allocations) ⌝ }
 {
@@ -52,7 +51,7 @@ fn write_plan(buffer: &mut [u8], allocations: [Allocation; 16], n: u8)
     }
 }
 
-// Plan: the allocation's refusals, then 9, and then the plan's 7n bytes; a refusal writes nothing.
+// Plan: the allocation's refusals, then 9, and then the plan's 9n bytes; a refusal writes nothing.
 pub fn plan(sheet: &[u8], buffer: &mut [u8]) -> Answer
     ensures answered { λ r. ⌜ r ≡ planAnswer (now (sheet .entry)) (length (now (buffer .entry))) ⌝ }
     ensures says { λ r. ⌜ Says r (numberOf (planAnswer (now (sheet .entry)) (length (now (buffer .entry))))) (taskOf (planAnswer (now (sheet .entry)) (length (now (buffer .entry))))) ⌝ }
@@ -64,7 +63,7 @@ pub fn plan(sheet: &[u8], buffer: &mut [u8]) -> Answer
         return answer;
     }
     let n = allocated.count;
-    if buffer.len() < 7 * (n as usize) {
+    if buffer.len() < 9 * (n as usize) {
         return Answer::Refused(SHORT_BUFFER, NO_TASK);
     }
     let allocations = allocated.allocations;

@@ -1,5 +1,5 @@
--- A text that grows at its end, in an array of 480 bytes. That is sixteen lines (S2.2) of seven numbers, six of at most three
--- digits and one of at most five, each with a byte behind it: 30 bytes.
+-- A text that grows at its end, in an array of 480 bytes. It has room for sixteen lines (S2.2) of seven numbers, six of at most two
+-- digits and one of at most seven, each with a byte behind it: 26 bytes.
 use Prim.Native.Nat.{ℕ, _+_, _-_, _≤_}
 use mathlib.Core.Path.{_≡_}
 use mathlib.Core.Bool.{cond}

@@ -55,9 +55,9 @@ returns-2 c =
     (sym answer, (said (sym answer), sym (planned-refused s buffer answer)))
 
 -- Past the second test the plan has room.
-room-enough : (c : tie.Else1) → 7 * allocatedOf (now (c .before .before .before .before .before .before .args .sheet)) .count ≤ length (now (c .before .before .before .before .before .before .args .buffer))
+room-enough : (c : tie.Else1) → 9 * allocatedOf (now (c .before .before .before .before .before .before .args .sheet)) .count ≤ length (now (c .before .before .before .before .before .before .args .buffer))
 room-enough c =
-    subst (λ (r : Allocated). 7 * r .count ≤ length (now (c .before .before .before .before .before .before .args .buffer))) (c .before .before .before .allocate .ensures .0) (omega (arith, c .if1 .left))
+    subst (λ (r : Allocated). 9 * r .count ≤ length (now (c .before .before .before .before .before .before .args .buffer))) (c .before .before .before .allocate .ensures .0) (omega (arith, c .if1 .left))
 
 write-plan-requires : tie.Need-write-plan-requires
 write-plan-requires c κs =

@@ -26,23 +26,17 @@ add-put-pair c = search needs
 put-pair-requires-2 : tie.Need-put-pair-requires-2
 put-pair-requires-2 c κs = search needs
 
-mul-put-pair-4 : tie.Need-mul-put-pair-4
-mul-put-pair-4 c = search needs
+mul-put-u32 : tie.Need-mul-put-u32
+mul-put-u32 c = search needs
 
-mul-put-pair-5 : tie.Need-mul-put-pair-5
-mul-put-pair-5 c = search needs
+mul-put-u32-2 : tie.Need-mul-put-u32-2
+mul-put-u32-2 c = search needs
 
-add-put-pair-2 : tie.Need-add-put-pair-2
-add-put-pair-2 c = search needs
+add-put-u32 : tie.Need-add-put-u32
+add-put-u32 c = search needs
 
-cast-put-pair : tie.Need-cast-put-pair
-cast-put-pair c = search needs
-
-cast-put-pair-2 : tie.Need-cast-put-pair-2
-cast-put-pair-2 c = search needs
-
-put-pair-requires-3 : tie.Need-put-pair-requires-3
-put-pair-requires-3 c κs = search needs
+put-u32-requires : tie.Need-put-u32-requires
+put-u32-requires c κs = search needs
 
 cast-buffer : tie.Need-cast-buffer
 cast-buffer c = search needs
@@ -57,7 +51,7 @@ slice-write-buffer : tie.Need-slice-write-buffer
 slice-write-buffer c = search needs
 
 -- From each part to the one before it, and from the first to the start.
-abbrev critical-at : tie.After-put-pair3 → tie.After-put-pair2
+abbrev critical-at : tie.After-put-u32 → tie.After-put-pair2
 critical-at c = c .before .before .before .before
 
 abbrev typical-at : tie.After-put-pair2 → tie.After-put-pair
@@ -70,7 +64,7 @@ same-length : tie.Need-same-length
 same-length c =
     let virtuals = c .before .before .before in
     let critical = critical-at virtuals in
-    simp length-set (virtuals .put-pair3 .kept .0 ∙ critical .put-pair2 .kept .0 ∙ typical-at critical .put-pair .kept .0)
+    simp length-set (virtuals .put-u32 .kept .0 ∙ critical .put-pair2 .kept .0 ∙ typical-at critical .put-pair .kept .0)
 
 returns : tie.Need-returns
 returns c =
@@ -78,10 +72,10 @@ returns c =
     let critical = critical-at virtuals in
     let typical = typical-at critical in
     let start = start-at typical in
-    task-set (start .args .n) (start .args .i) (start .args .a) (now (start .args .buffer)) _ _ _ _ (start .pre .1 .two-bytes)
+    task-set (start .args .n) (start .args .i) (start .args .a) (now (start .args .buffer)) _ _ _ _
     (typical .put-pair .ensures) (omega arith)
     (critical .put-pair2 .ensures) (omega arith)
-    (virtuals .put-pair3 .ensures) (omega arith)
+    (virtuals .put-u32 .ensures) (omega arith) (omega arith)
     refl (omega arith)
 
 pub write-task-spec : {M : Type 1} → statement M
@@ -94,12 +88,10 @@ write-task-spec =
     mul-put-pair-3
     add-put-pair
     put-pair-requires-2
-    mul-put-pair-4
-    mul-put-pair-5
-    add-put-pair-2
-    cast-put-pair
-    cast-put-pair-2
-    put-pair-requires-3
+    mul-put-u32
+    mul-put-u32-2
+    add-put-u32
+    put-u32-requires
     cast-buffer
     mul-buffer
     add-buffer
