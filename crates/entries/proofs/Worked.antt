@@ -6,7 +6,7 @@ use mathlib.Core.Path.{_≡_, refl}
 use lib.ListN.{replicate}
 use Rattle.basics.specs.Lists.{range, allBelow}
 use Rattle.nodes.specs.Sets.{has}
-use Rattle.sheet.specs.Level.{levelLawful, isHigh, isLow, figureLimit}
+use Rattle.sheet.specs.Level.{levelLawful, isHigh, isLow, figureLimit, isWide}
 use Rattle.sheet.specs.Rules.{maskLawful, masksLawful}
 use Rattle.shares.specs.declared.share.Share.{Share}
 use Rattle.shares.specs.Low.{isKept}
@@ -54,9 +54,18 @@ pub record Worked : Type 0 where
   pub deadline-above : entrySound (entry 1 2 chain 10001 9 45 0 false) ≡ false
   pub deadline-lowest : entrySound (entry 1 2 chain 1 0 1 0 false) ≡ true
   pub deadline-zero : entrySound (entry 1 2 chain 0 0 0 0 false) ≡ false
-  -- S2.7: the level is 0 or 1.
+  -- S7.2: D is from 1 to 1,000,000 in the wide form, and V and the age go with it.
+  pub wide-deadline-highest : entrySound (entry 17 2 chain 1000000 1000000 1000000 0 false) ≡ true
+  pub wide-low-highest : entrySound (entry 16 2 chain 1000000 0 1000000 0 false) ≡ true
+  pub wide-deadline-above : entrySound (entry 17 2 chain 1000001 9 45 0 false) ≡ false
+  pub wide-virtual-above : entrySound (entry 17 2 chain 400000 400001 45 0 false) ≡ false
+  pub wide-age-above : entrySound (entry 17 2 chain 400000 9 400001 0 false) ≡ false
+  -- S2.7: the level is 0, 1, 16 or 17.
   pub level-low : entrySound (entry 0 2 chain 45 0 45 0 false) ≡ true
   pub level-two : entrySound (entry 2 2 chain 45 9 45 0 false) ≡ false
+  pub level-fifteen : entrySound (entry 15 2 chain 45 9 45 0 false) ≡ false
+  pub level-wide : entrySound (entry 16 2 chain 45 0 45 0 false) ≡ true
+  pub level-eighteen : entrySound (entry 18 2 chain 45 9 45 0 false) ≡ false
   -- S2.7: k is from 1 to 32.
   pub nodes-none : entrySound (entry 1 0 chain 45 9 45 0 false) ≡ false
   pub nodes-most : entrySound (entry 1 32 (replicate 32 0) 45 9 45 0 false) ≡ true
@@ -77,9 +86,11 @@ pub record Worked : Type 0 where
   pub stays-kept : survives (sharing 0 2 2) ≡ true
   pub stays-least : survives (sharing 0 2 1) ≡ true
   pub dropped-low : survives (sharing 0 2 0) ≡ false
+  pub stays-wide-high : survives (sharing 17 2 0) ≡ true
+  pub dropped-wide-low : survives (sharing 16 2 0) ≡ false
 
 worked : Worked
-unfolding has range levelLawful maskLawful allBelow masksLawful allEnded entrySound figureLimit isHigh isLow isKept survives fixedOf
+unfolding has range levelLawful maskLawful allBelow masksLawful allEnded entrySound figureLimit isHigh isLow isKept survives fixedOf isWide
 worked =
     record {
       virtual-below = refl;
@@ -91,8 +102,16 @@ worked =
       deadline-above = refl;
       deadline-lowest = refl;
       deadline-zero = refl;
+      wide-deadline-highest = refl;
+      wide-low-highest = refl;
+      wide-deadline-above = refl;
+      wide-virtual-above = refl;
+      wide-age-above = refl;
       level-low = refl;
       level-two = refl;
+      level-fifteen = refl;
+      level-wide = refl;
+      level-eighteen = refl;
       nodes-none = refl;
       nodes-most = refl;
       nodes-above = refl;
@@ -108,4 +127,6 @@ worked =
       stays-kept = refl;
       stays-least = refl;
       dropped-low = refl;
+      stays-wide-high = refl;
+      dropped-wide-low = refl;
     }

@@ -17,9 +17,10 @@ pub fn entry_sound(e: TaskState) -> bool
         return false;
     }
     let predecessors = e.predecessors;
-    is_lawful(e.level)
+    let level = e.level;
+    is_lawful(level)
         & masks_lawful(predecessors, nodes)
-        & is_within(1, figure_limit(e.level), e.deadline)
+        & is_within(1, figure_limit(level), e.deadline)
         & (e.virtual_deadline <= e.deadline)
         & (e.age <= e.deadline)
         & (e.job.ended <= nodes::full(nodes as u32))

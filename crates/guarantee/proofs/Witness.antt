@@ -15,8 +15,8 @@ use Rattle.sheet.specs.declared.task.TaskSet.{TaskSet}
 use Rattle.sheet.specs.Answers.{_orElse_, firstOver}
 use Rattle.basics.specs.Numbers.{byteAt, u16At, u32At}
 use Rattle.basics.specs.Lists.{cellsFrom, allBelow, range}
-use Rattle.sheet.specs.Format.{processorsOf, countOf, offsetOf, lengthOf, levelAt, nodesAt, figuresAt, masksAt, taskAt, zeroTask, tasksBelow, taskSetOf, taskIn, placeOf}
-use Rattle.sheet.specs.Level.{levelLawful, isLow, isHigh, bytesBeforeMasks, figureLimit}
+use Rattle.sheet.specs.Format.{processorsOf, countOf, offsetOf, lengthOf, levelAt, nodesAt, figureAt, figuresAt, masksAt, taskAt, zeroTask, tasksBelow, taskSetOf, taskIn, placeOf}
+use Rattle.sheet.specs.Level.{levelLawful, isLow, isHigh, bytesBeforeMasks, figureLimit, isWide}
 use Rattle.sheet.specs.Rules.{shapeLawful, inRange, inOrder, lowLawful, figuresLawful, maskLawful, masksLawful, isHeavy, taskAnswer}
 use Rattle.reader.specs.declared.Reading.{Reading}
 use Rattle.reader.specs.Reading.{headerLawful, headerAnswer, placeAnswer, endAnswer, shapeAnswer, recordAnswer, readOf, readAnswer}
@@ -91,7 +91,7 @@ keptPairs = record { typical = 1; critical = 2 } ∷ record { typical = 2; criti
 
 -- S2, S5: the sheets give these tasks and shares.
 sheets-read : (readOf twoTasks ≡ record { answer = Accepted; set = both }) × (readOf oneKept ≡ record { answer = Accepted; set = withOneKept })
-unfolding firstOver byteAt u16At u32At processorsOf countOf offsetOf lengthOf placeOf cellsFrom levelAt nodesAt figuresAt masksAt taskAt zeroTask tasksBelow taskSetOf levelLawful shapeLawful inRange inOrder lowLawful figuresLawful maskLawful allBelow masksLawful isHeavy taskAnswer headerLawful headerAnswer placeAnswer endAnswer shapeAnswer recordAnswer readAnswer readOf isHigh figureLimit bytesBeforeMasks
+unfolding firstOver byteAt u16At u32At processorsOf countOf offsetOf lengthOf placeOf cellsFrom levelAt nodesAt figureAt figuresAt masksAt taskAt zeroTask tasksBelow taskSetOf levelLawful shapeLawful inRange inOrder lowLawful figuresLawful maskLawful allBelow masksLawful isHeavy taskAnswer headerLawful headerAnswer placeAnswer endAnswer shapeAnswer recordAnswer readAnswer readOf isHigh figureLimit bytesBeforeMasks isWide
 sheets-read = (refl, refl)
 
 read-both : readOf twoTasks ≡ record { answer = Accepted; set = both }

@@ -1,11 +1,13 @@
 -- `entries::sound::entry_sound` meets its contract: k is tested first, and each other test is the definition's. Assumes nothing.
 use Prim.Native.Nat.{ℕ}
-use mathlib.Core.Bool.{true}
-use mathlib.Core.Path.{_≡_, sym, ap, _∙_}
+use mathlib.Core.Bool.{Bool, true}
+use mathlib.Core.Path.{_≡_, sym, _∙_}
 use native.Mathlib.Omega.{arith}
 use borrow.Author.Tests.{not-true, not-false}
 use Rattle.basics.specs.Numbers.{within}
 use Rattle.basics.proofs.Logic.{within-bounds}
+use Rattle.sheet.specs.Level.{figureLimit}
+use Rattle.entries.specs.declared.state.TaskState.{TaskState}
 use Rattle.entries.proofs.Soundness.{nodes-broken, entry-by-tests}
 use borrow.Author.Needs.{needs}
 use Rattle.entries.proofs.sound.entry_sound.Statement.{statement}
@@ -53,6 +55,11 @@ past-nodes c =
 all-ended-requires : tie.Need-all-ended-requires
 all-ended-requires c κs = within-bounds 1 32 _ (nodes-kept (past-nodes c)) .1
 
+-- D within a limit that is the limit of the entry's level.
+within-limit : (e : TaskState) {test : Bool} {limit level : ℕ} → test ≡ within 1 limit (e .deadline) → limit ≡ figureLimit level → level ≡ e .level →
+    test ≡ within 1 (figureLimit (e .level)) (e .deadline)
+within-limit e tested limits same = rw (tested, limits, same)
+
 returns-2 : tie.Need-returns-2
 returns-2 c =
     let ended = c .before in
@@ -64,7 +71,7 @@ returns-2 c =
     let kept = past-nodes (ended .before) in
     let e = kept .before .before .args .e in
     entry-by-tests e _ _ _ _ _ (nodes-kept kept) (lawful .is-lawful .ensures) (masks .masks-lawful .ensures)
-    (range .is-within2 .ensures ∙ ap (λ (n : ℕ). within 1 n (e .deadline)) (limit .figure-limit .ensures))
+    (within-limit e (range .is-within2 .ensures) (limit .figure-limit .ensures) (omega arith))
     (full .full .ensures) (ended .all-ended .ensures)
 
 pub entry-sound-spec : {M : Type 1} → statement M
