@@ -16,9 +16,10 @@ use Rattle.sheet.specs.declared.answer.Answer.{Answer}
 use Rattle.sheet.specs.declared.answer.Answer.the-variants.{Accepted, Refused}
 use Rattle.sheet.specs.declared.task.Task.{Task}
 use Rattle.sheet.specs.Answers.{noTask, refusedIf, _orElse_, writtenIf}
-use Rattle.sheet.specs.Encoding.{recordBytes}
+use Rattle.sheet.specs.Encoding.{figureBytes, recordBytes}
 use Rattle.sheet.specs.Rules.{inRange}
-use Rattle.sheet.proofs.Encoding.{masks-length}
+use Rattle.sheet.proofs.Encoding.{masks-length, narrow-record}
+use Rattle.sheet.proofs.Wide.{first-narrow}
 use Rattle.sheet.proofs.Faults.{after-accepted, after-refused}
 use Rattle.basics.specs.Numbers.{u16Bytes}
 use Rattle.basics.proofs.Logic.{within-bounds}
@@ -33,7 +34,7 @@ use Rattle.importer.specs.declared.terms.Terms.{Terms}
 use Rattle.importer.specs.Task.{termsLawful, scaled, overloadTimeOf, figuresOf, taskFrom}
 use Rattle.importer.specs.Import.{badText, badGraph, figureOutside, roomFor, isAskedWell, graphLawful, answerFor, importAnswer, recordFor, importedRecord, imported}
 use Rattle.importer.specs.means.Nodes.{TimesSmall, ReadSmall, scaledTimes, nodesTask, nodesAnswer}
-use Rattle.importer.proofs.Acceptance.{refused-not, alone-kept, rule-kept}
+use Rattle.importer.proofs.Acceptance.{refused-not, alone-kept, rule-kept, terms-kept}
 
 -- What is read of a text stays within what sums lean on.
 zeros-small : (n : ℕ) (v : ℕ) → getD (replicate n 0) v 0 ≤ numeralLimit
@@ -151,9 +152,11 @@ found text t room h = go (graphOf text) refl h (fine (readOf text) t room h)
         }
 
 -- Past 17 and 18, 19 and what is left.
-record-room : (t : Task) (room : ℕ) → t .nodes ≤ length (t .predecessors) → 12 + 4 * t .nodes ≤ room → 0 + length (recordBytes t) ≤ room
-unfolding recordBytes u16Bytes
-record-room t room masks enough = omega (arith, masks-length (t .nodes) (t .predecessors) masks)
+record-room : (t : Task) (room : ℕ) → t .level ≤ 1 → t .nodes ≤ length (t .predecessors) → 12 + 4 * t .nodes ≤ room →
+    0 + length (recordBytes t) ≤ room
+unfolding figureBytes u16Bytes
+record-room t room low masks enough =
+    rw (narrow-record t (first-narrow (t .level) low)) (omega (arith, masks-length (t .nodes) (t .predecessors) masks))
 
 module _ (text : List ℕ) (t : Terms) (buffer : List ℕ) (h : nodesAnswer (readOf text) t (length buffer) ≡ Accepted) where
   record-fits : 0 + length (recordBytes (nodesTask (readOf text) t)) ≤ length buffer
@@ -161,7 +164,7 @@ module _ (text : List ℕ) (t : Terms) (buffer : List ℕ) (h : nodesAnswer (rea
   record-fits =
       let f = fine (readOf text) t (length buffer) h in
       let few = within-bounds 1 32 (readOf text .count) (f .count) .1 in
-      record-room (nodesTask (readOf text) t) (length buffer) (omega (arith, masks-held text)) (f .enough)
+      record-room (nodesTask (readOf text) t) (length buffer) (terms-kept t (f .terms) .level) (omega (arith, masks-held text)) (f .enough)
 
   -- Whether the figures are in their range decides both.
   pub answer-by : (inside : Bool) → inside ≡ inRange (t .level) (nodesTask (readOf text) t .figures) →

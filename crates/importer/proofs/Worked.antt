@@ -13,10 +13,10 @@ use Rattle.basics.specs.Digits.{isDigit}
 use Rattle.nodes.specs.Sets.{has, members}
 use Rattle.sheet.specs.declared.answer.Answer.the-variants.{Accepted, Refused}
 use Rattle.sheet.specs.Answers.{firstOver}
-use Rattle.sheet.specs.Level.{isHigh, figureLimit}
+use Rattle.sheet.specs.Level.{isHigh, figureLimit, isWide}
 use Rattle.sheet.specs.Format.{processorsOf, countOf, offsetOf, lengthOf, placeOf}
 use Rattle.sheet.specs.Rules.{inRange, inOrder, isHeavy}
-use Rattle.sheet.specs.Encoding.{masksBytes, recordBytes}
+use Rattle.sheet.specs.Encoding.{figureBytes, masksBytes, recordBytes}
 use Rattle.sheet.proofs.Worked.{figures}
 use Rattle.reader.specs.Reading.{headerLawful, headerAnswer, placeAnswer, endAnswer, recordAnswer, readAnswer}
 use Rattle.model.specs.Row.{predecessorsOf}
@@ -162,7 +162,7 @@ pub record Worked : Type 0 where
   pub graph-first : importAnswer one-itself (terms 1 0 100) 16 ≡ Refused 18 255
 
 pub worked : Worked
-unfolding range cellsFrom u16Bytes u32Bytes isDigit has members isHigh figureLimit inRange masksBytes recordBytes predecessorsOf sumBelow longestAmong chainAt chainsBelow spanOf budgetOf isBlank isNumeral numbersOf numeralsOf timeLawful entriesFrom graphOf isRising nodeOf timeOf maskOf masksOf termsLawful scaled overloadTimeOf figuresOf taskFrom roomFor isAskedWell graphLawful importAnswer importedRecord imported
+unfolding range cellsFrom u16Bytes u32Bytes isDigit has members isHigh figureLimit inRange figureBytes masksBytes recordBytes predecessorsOf sumBelow longestAmong chainAt chainsBelow spanOf budgetOf isBlank isNumeral numbersOf numeralsOf timeLawful entriesFrom graphOf isRising nodeOf timeOf maskOf masksOf termsLawful scaled overloadTimeOf figuresOf taskFrom roomFor isAskedWell graphLawful importAnswer importedRecord imported isWide
 worked =
     record {
       rounded-half = refl;

@@ -1,5 +1,5 @@
 -- A record written part by part: the masks one behind the other, behind the bytes before them.
-use Prim.Native.Nat.{ℕ, suc, _+_, _*_, _-_, _<_}
+use Prim.Native.Nat.{ℕ, suc, _+_, _*_, _-_, _≤_, _<_}
 use mathlib.Core.List.{List}
 use mathlib.Core.Path.{_≡_, sym, ap, _∙_}
 use native.Mathlib.Numerals.{add-one}
@@ -9,7 +9,9 @@ use lib.Seq.{drop-cons, sets}
 use Rattle.basics.specs.Numbers.{u16Bytes, u32Bytes}
 use Rattle.basics.proofs.Bytes.{sets-append}
 use Rattle.sheet.specs.declared.task.Task.{Task}
-use Rattle.sheet.specs.Encoding.{masksBytes, recordBytes}
+use Rattle.sheet.specs.Encoding.{figureBytes, masksBytes, recordBytes}
+use Rattle.sheet.proofs.Encoding.{narrow-record}
+use Rattle.sheet.proofs.Wide.{first-narrow}
 
 -- The masks from node v on begin with that of v.
 masks-open : (masks : List ℕ) (v left : ℕ) (out : List ℕ) (at : ℕ) → v < length masks →
@@ -37,8 +39,8 @@ pub masks-all : (masks : List ℕ) (k v : ℕ) (out start : List ℕ) → k - v 
 unfolding masksBytes
 masks-all masks k v out start none whole = rw none at whole
 
--- The parts of a record, stored one behind the other, are its bytes.
-pub record-stored : (t : Task) (out o₁ o₂ o₃ o₄ o₅ o₆ : List ℕ) →
+-- The parts of a record of level 0 or 1, stored one behind the other, are its bytes.
+pub record-stored : (t : Task) → t .level ≤ 1 → (out o₁ o₂ o₃ o₄ o₅ o₆ : List ℕ) →
     o₁ ≡ sets (set (set out 0 (t .level)) 1 (t .nodes)) 2 (u16Bytes (t .figures .deadline)) →
     o₂ ≡ sets o₁ 4 (u16Bytes (t .figures .nominal .work)) →
     o₃ ≡ sets o₂ 6 (u16Bytes (t .figures .overload .work)) →
@@ -46,5 +48,6 @@ pub record-stored : (t : Task) (out o₁ o₂ o₃ o₄ o₅ o₆ : List ℕ) �
     o₅ ≡ sets o₄ 10 (u16Bytes (t .figures .overload .span)) →
     o₆ ≡ sets o₅ 12 (masksBytes (t .nodes) (t .predecessors)) →
     o₆ ≡ sets out 0 (recordBytes t)
-unfolding recordBytes u16Bytes
-record-stored t out o₁ o₂ o₃ o₄ o₅ o₆ e₁ e₂ e₃ e₄ e₅ e₆ = rw (e₆, e₅, e₄, e₃, e₂, e₁)
+unfolding figureBytes u16Bytes
+record-stored t low out o₁ o₂ o₃ o₄ o₅ o₆ e₁ e₂ e₃ e₄ e₅ e₆ =
+    rw (narrow-record t (first-narrow (t .level) low), e₆, e₅, e₄, e₃, e₂, e₁)

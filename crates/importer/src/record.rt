@@ -1,4 +1,4 @@
-// S2.6: a task's record, written to the front of a lent buffer.
+// S2.6: the record of a task of level 0 or 1, written to the front of a lent buffer.
 ghost use mathlib.Core.Path.{_≡_};
 ghost use mathlib.Core.Bool.{cond};
 ghost use Prim.Native.Nat.{_+_, _*_, _≤_};
@@ -23,7 +23,7 @@ fn put_masks(out: &mut [u8], k: usize, masks: [u32; 32])
 
 // S2.6: the whole record.
 fn write_record(out: &mut [u8], t: Task)
-    requires { ⌜ (t .nodes ≤ 32) × (12 + 4 * t .nodes ≤ length (now out)) ⌝ }
+    requires { ⌜ (t .nodes ≤ 32) × (12 + 4 * t .nodes ≤ length (now out)) × (t .level ≤ 1) ⌝ }
     ensures { λ _. ⌜ now (out .exit) ≡ sets (now (out .entry)) 0 (recordBytes t) ⌝ }
 {
     let figures = t.figures;
@@ -40,7 +40,7 @@ fn write_record(out: &mut [u8], t: Task)
 
 // The record, where it may be written.
 pub fn write_if(lawful: bool, out: &mut [u8], t: Task)
-    requires { ⌜ (t .nodes ≤ 32) × (12 + 4 * t .nodes ≤ length (now out)) ⌝ }
+    requires { ⌜ (t .nodes ≤ 32) × (12 + 4 * t .nodes ≤ length (now out)) × (t .level ≤ 1) ⌝ }
     ensures { λ _. ⌜ now (out .exit) ≡ cond lawful (sets (now (out .entry)) 0 (recordBytes t)) (now (out .entry)) ⌝ }
 {
     if lawful {

@@ -99,8 +99,8 @@ write-if-requires c κs =
     let ranged = c .before in
     let start = start-at (ranged .before .before .before .before) in
     let f = fine (readOf (text-of start)) (terms-of start) (length (buffer-of start)) (accepted-at (ranged .before .before)) in
-    subst (λ (task : Task). (task .nodes ≤ 32) × (12 + 4 * task .nodes ≤ length (buffer-of start))) (sym (task-at (ranged .before)))
-    (within-bounds 1 32 (readOf (text-of start) .count) (f .count) .1, f .enough)
+    subst (λ (task : Task). (task .nodes ≤ 32) × (12 + 4 * task .nodes ≤ length (buffer-of start)) × (task .level ≤ 1)) (sym (task-at (ranged .before)))
+    (within-bounds 1 32 (readOf (text-of start) .count) (f .count) .1, f .enough, terms-kept (terms-of start) (f .terms) .level)
 
 refused-unless-requires : tie.Need-refused-unless-requires
 refused-unless-requires c κs = search needs

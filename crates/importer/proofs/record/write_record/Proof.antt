@@ -90,7 +90,7 @@ returns c =
     let nominal-work = nominal-work-at overload-work in
     let deadline = deadline-at nominal-work in
     let start = start-at deadline in
-    record-stored (start .args .t) (now (start .args .out)) _ _ _ _ _ _ (deadline .put-u16 .ensures) (nominal-work .put-u162 .ensures)
+    record-stored (start .args .t) (start .pre .2) (now (start .args .out)) _ _ _ _ _ _ (deadline .put-u16 .ensures) (nominal-work .put-u162 .ensures)
     (overload-work .put-u163 .ensures) (nominal-span .put-u164 .ensures) (overload-span .put-u165 .ensures) (masks .put-masks .ensures)
 
 pub write-record-spec : {M : Type 1} → statement M
