@@ -1,7 +1,9 @@
 //! How the comparison is made: the proved calls, the form in which a state crosses to them, and what holds and counts.
 pub mod agreement;
 pub mod boundary;
+pub mod comparison;
 pub mod counts;
+pub mod long;
 pub mod proved;
 pub mod replay;
 pub mod suites;

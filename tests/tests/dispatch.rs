@@ -1,95 +1,14 @@
 //! The proved dispatcher beside the independent one on random states, sound and not, and on lines that are none: answers,
 //! whole lines and boards agree, and a refused call leaves the line and the buffer.
-use dibwunek_tests::harness::boundary::{bounded, of_words, start_on, to_words, Dispatcher, Independent, STATE};
-use dibwunek_tests::harness::counts::{hold, Counts};
+use dibwunek_tests::harness::boundary::{bounded, of_words, start_on, to_words, STATE};
+use dibwunek_tests::harness::comparison::{each_on, one_of_each, reports, walk, Comparison};
+use dibwunek_tests::harness::counts::hold;
 use dibwunek_tests::harness::proved::calls::state_words;
-use dibwunek_tests::harness::proved::dispatching::Proved;
 use dibwunek_tests::harness::proved::starting;
 use dibwunek_tests::makers::random::Random;
 use dibwunek_tests::makers::sheets::CASE_14;
-use dibwunek_tests::makers::states::{keeping, not_running, report, sound, unsound, with_ones, FAULTS};
+use dibwunek_tests::makers::states::{keeping, sound, unsound, with_ones, FAULTS};
 use dibwunek_tests::reference::answers::Reply;
-use dibwunek_tests::reference::dispatcher::{Mode, State, HIGH};
-
-/// Compares the two dispatchers call by call, and counts the answers.
-struct Comparison {
-    counts: Counts,
-}
-
-impl Comparison {
-    fn new(test: &'static str) -> Comparison {
-        Comparison { counts: Counts::new(test) }
-    }
-
-    fn release(&mut self, line: &[u32], task: usize) -> (Reply, Vec<u32>) {
-        let on = || format!("Release({task}) of {:?}", of_words(line));
-        let step = Proved.release(line, task);
-        hold(&step, &Independent.release(line, task), on);
-        if step.0 == Reply::Done && low_when_critical(line).contains(&task) {
-            self.counts.add("kept tasks released when critical");
-        }
-        self.count("released", line, step)
-    }
-
-    fn tick(&mut self, line: &[u32], reports: &[u32]) -> (Reply, Vec<u32>) {
-        let on = || format!("Tick({reports:?}) of {:?}", of_words(line));
-        let step = Proved.tick(line, reports);
-        hold(&step, &Independent.tick(line, reports), on);
-        if let Reply::Switched(_) = step.0 {
-            self.count_switch(line, &step.1);
-        }
-        self.count("ran", line, step)
-    }
-
-    fn board(&mut self, line: &[u32], before: &[u8]) -> Reply {
-        let on = || format!("Board with {} bytes of {:?}", before.len(), of_words(line));
-        let (mut buffer, mut expected) = (before.to_vec(), before.to_vec());
-        let proved = Proved.board(line, &mut buffer);
-        let reply = Independent.board(line, &mut expected);
-        hold(&(proved, &buffer), &(reply, &expected), on);
-        assert!(reply.number() == 0 || buffer == before);
-        let shows = |task: usize| buffer.chunks_exact(2).any(|pair| usize::from(pair[0]) == task);
-        if reply == Reply::Done && low_when_critical(line).into_iter().any(shows) {
-            self.counts.add("boards with a kept task's nodes");
-        }
-        self.count("board", line, (reply, line.to_vec())).0
-    }
-
-    /// Counts what a switch did to the alive jobs of low tasks.
-    fn count_switch(&mut self, before: &[u32], after: &[u32]) {
-        let [before, after] = [before, after].map(|line| of_words(line).expect("a switch leaves a state"));
-        for task in (0..usize::from(before.count)).filter(|&task| before.entries[task].alive) {
-            let entry = &after.entries[task];
-            let same = entry.critical == entry.typical;
-            match (entry.level, entry.alive) {
-                (HIGH, _) => {}
-                (_, true) if same => self.counts.add("jobs kept over a switch on as many processors"),
-                (_, true) => self.counts.add("jobs kept over a switch on more or fewer"),
-                (_, false) if entry.all_ended() => self.counts.add("low jobs that ended with a switch"),
-                (_, false) => self.counts.add("jobs dropped by a switch"),
-            }
-        }
-    }
-
-    fn count(&mut self, done: &str, before: &[u32], (reply, after): (Reply, Vec<u32>)) -> (Reply, Vec<u32>) {
-        match reply {
-            Reply::Done => self.counts.add(done),
-            Reply::Switched(_) => self.counts.add("switched"),
-            Reply::Refused(number, _) => {
-                assert!(before == after, "a refused call changed the line {before:?}");
-                self.counts.add(number);
-            }
-        }
-        (reply, after)
-    }
-}
-
-/// The low tasks of a critical state: those of them that are released or run are kept.
-fn low_when_critical(line: &[u32]) -> Vec<usize> {
-    let state = of_words(line).expect("an accepted call is on a state");
-    let low = (0..usize::from(state.count)).filter(|&task| state.entries[task].level != HIGH);
-    low.filter(|_| state.mode == Mode::Critical).collect()
-}
 
 const OF_KEPT: [&str; 5] = [
     "kept tasks released when critical",
@@ -98,59 +17,6 @@ const OF_KEPT: [&str; 5] = [
     "jobs kept over a switch on more or fewer",
     "jobs dropped by a switch",
 ];
-
-/// Reports of a tick: mostly of running nodes alone, else with a node that doesn't run, or not one for each task.
-fn reports(random: &mut Random, state: &State) -> Vec<u32> {
-    let count = usize::from(state.count).min(16);
-    let mut reports: Vec<u32> = (0..count).map(|task| report(random, state, task)).collect();
-    if random.once_in(4) && count > 0 {
-        let task = random.within(0..=count - 1);
-        reports[task] |= not_running(random, state, task).unwrap_or(0);
-        if random.once_in(3) {
-            let task = random.within(0..=count - 1);
-            reports[task] = random.word() as u32;
-        }
-    }
-    if random.once_in(8) {
-        let length = *random.pick(&[0, count.saturating_sub(1), count + 1, 16, 17, 100]);
-        reports.resize(length, 0);
-    }
-    reports
-}
-
-/// A task number: mostly one of the state's.
-fn task_number(random: &mut Random, state: &State) -> usize {
-    let count = usize::from(state.count);
-    if random.once_in(5) {
-        *random.pick(&[count, count + 1, 15, 16, 17, 255, 256, 1 << 16, 1 << 32, usize::MAX])
-    } else {
-        random.within(0..=count.saturating_sub(1))
-    }
-}
-
-/// A board's length: mostly the right one.
-fn board_length(random: &mut Random, state: &State) -> usize {
-    let needed = 2 * usize::from(state.processors);
-    if random.once_in(4) {
-        *random.pick(&[0, 1, needed.saturating_sub(1), needed + 1, needed / 2, 2 * needed, 128, 129, 512])
-    } else {
-        needed
-    }
-}
-
-/// A random call of each kind on a state.
-fn one_of_each(random: &mut Random, state: &State, comparison: &mut Comparison) {
-    each_on(random, &to_words(state), state, comparison);
-}
-
-/// A random call of each kind on a line, with arguments for a state.
-fn each_on(random: &mut Random, line: &[u32], state: &State, comparison: &mut Comparison) {
-    let task = task_number(random, state);
-    comparison.release(line, task);
-    comparison.tick(line, &reports(random, state));
-    let length = board_length(random, state);
-    comparison.board(line, &random.bytes(length));
-}
 
 #[test]
 fn sound_states() {
@@ -323,17 +189,7 @@ fn walks() {
     let mut comparison = Comparison::new("walks");
     for _ in 0..400 {
         let state = if random.once_in(2) { sound(&mut random) } else { keeping(&mut random) };
-        let mut line = to_words(&state);
-        for _ in 0..60 {
-            let seen = of_words(&line).expect("a line stays a state");
-            let task = task_number(&mut random, &seen);
-            line = match random.within(0..=3) {
-                0 => comparison.release(&line, task).1,
-                _ => comparison.tick(&line, &reports(&mut random, &seen)).1,
-            };
-            let length = board_length(&mut random, &seen);
-            comparison.board(&line, &random.bytes(length));
-        }
+        walk(&mut random, to_words(&state), 60, &mut comparison);
     }
     assert_eq!(comparison.counts.of("10"), 0);
     comparison.counts.ask(OF_KEPT, 20);

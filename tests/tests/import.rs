@@ -1,9 +1,9 @@
 //! The proved import beside the independent one: the answer and every byte of the buffer agree, and what is imported is
 //! read, planned and run.
-use dibwunek_tests::harness::boundary;
+use dibwunek_tests::harness::agreement::{plans_agree, starts_agree};
 use dibwunek_tests::harness::counts::{hold, Counts};
 use dibwunek_tests::harness::proved::dispatching::Proved;
-use dibwunek_tests::harness::proved::{self, importing, planning, starting, FIRST_MASK};
+use dibwunek_tests::harness::proved::{self, importing, starting, FIRST_MASK};
 use dibwunek_tests::harness::replay;
 use dibwunek_tests::makers::crafts::{Crafted, Kind};
 use dibwunek_tests::makers::graphs::{
@@ -12,20 +12,23 @@ use dibwunek_tests::makers::graphs::{
 };
 use dibwunek_tests::makers::lengths::Budget;
 use dibwunek_tests::makers::random::Random;
-use dibwunek_tests::makers::sheets::{Draft, LIMIT};
+use dibwunek_tests::makers::sheets::Draft;
 use dibwunek_tests::makers::world::{story, Manner};
 use dibwunek_tests::reference::answers::Reply;
 use dibwunek_tests::reference::import::{import, import_into, Imported, Terms, HEAD};
-use dibwunek_tests::reference::planner::{self, least_deadline, plan_into, Pair};
-use dibwunek_tests::reference::reader::{Figures, Level, Sheet, NODES};
+use dibwunek_tests::reference::planner::{self, least_deadline, Pair, TASK_BYTES};
+use dibwunek_tests::reference::reader::{Figures, Form, Level, Sheet, NODES};
 
 /// Levels, percentages and deadlines, right and wrong, some of which are right in their low bytes only.
 const LEVELS: [u32; 10] = [0, 1, 2, 3, 16, 17, 255, 256, 257, u32::MAX];
 const WRONG_PERCENTAGES: [u32; 8] = [0, 1, 99, 401, 500, 65_636, 65_736, u32::MAX];
 const DEADLINES: [u32; 9] = [0, 1, 2, 10_000, 10_001, 65_535, 65_536, 65_537, u32::MAX];
 
+/// The largest figure of a record that import writes.
+const LIMIT: usize = Form::Narrow.limit() as usize;
+
 /// A buffer with room for every record of up to 32 nodes.
-const WIDE: usize = HEAD + 4 * NODES;
+const ROOMY: usize = HEAD + 4 * NODES;
 
 fn high(percentage: u32) -> Terms {
     Terms { level: 1, deadline: 150, percentage }
@@ -102,7 +105,7 @@ fn count_imported(imported: &Imported, terms: Terms, counts: &mut Counts) {
         counts.add("work grew by more than the span");
     }
     for (name, figure) in [("D", d), ("CN", cn), ("CO", co), ("LN", ln), ("LO", lo)] {
-        if usize::from(figure) == LIMIT {
+        if figure as usize == LIMIT {
             counts.add(format!("{name} of 10,000"));
         }
     }
@@ -155,7 +158,7 @@ fn near(random: &mut Random, graph: &Graph) -> usize {
         0 => needed - 1,
         1 => random.within(0..=needed),
         2..=4 => needed + random.within(1..=40),
-        5 => WIDE,
+        5 => ROOMY,
         _ => needed,
     }
 }
@@ -349,8 +352,8 @@ fn texts_cut_at_every_length() {
             let graph = random_graph(&mut random, nodes, SMALL);
             let text = laid_out(&mut random, &graph);
             for length in 0..=text.len() {
-                comparison.check(&text[..length], high(400), WIDE);
-                comparison.check(&text[text.len() - length..], high(400), WIDE);
+                comparison.check(&text[..length], high(400), ROOMY);
+                comparison.check(&text[text.len() - length..], high(400), ROOMY);
             }
         }
     }
@@ -419,7 +422,7 @@ fn the_longest_texts() {
     let text = in_lines(&longest);
     comparison.expect(18, &text, high(100), needed);
     comparison.expect(17, &text, high(100), needed - 1);
-    comparison.expect(17, &text, high(100), WIDE);
+    comparison.expect(17, &text, high(100), ROOMY);
     comparison.expect(17, &text[..text.len() - 6], high(100), needed);
     let longer = in_lines(&Graph::side_by_side(&vec![1; LARGEST]));
     comparison.expect(17, &longer, high(100), needed + 4);
@@ -510,18 +513,18 @@ fn for_sheet(random: &mut Random, most: usize, largest: usize) -> (Graph, Terms,
     let graph = random_graph(random, nodes, largest);
     let percentage = random.skewed(100..=400) as u32;
     let terms = *random.pick(&[LOW, high(percentage), high(percentage)]);
-    let task = import(&in_lines(&graph), terms, WIDE).expect("its times are small").task;
+    let task = import(&in_lines(&graph), terms, ROOMY).expect("its times are small").task;
     let Figures { cn, co, ln, .. } = task.figures;
     let critical = random.within(1..=most);
     let pair = Pair { typical: random.within(1..=critical), critical };
     let least = match task.level {
-        Level::Low => usize::from(ln + (cn - ln).div_ceil(critical as u16)),
+        Level::Low => (ln + (cn - ln).div_ceil(critical as u32)) as usize,
         Level::High => least_deadline(task.figures, pair),
     };
     let near = *random.pick(&[least, least, least, least - 1, least + 1, least + 5]);
-    let most = if random.once_in(4) { LIMIT } else { usize::from(co) - 1 };
+    let most = if random.once_in(4) { LIMIT } else { co as usize - 1 };
     let terms = Terms { deadline: near.min(most).max(1) as u32, ..terms };
-    let imported = import(&in_lines(&graph), terms, WIDE).expect("D is within its range");
+    let imported = import(&in_lines(&graph), terms, ROOMY).expect("D is within its range");
     (graph, terms, imported)
 }
 
@@ -537,7 +540,7 @@ fn record_of(random: &mut Random, graph: &Graph, terms: Terms) -> Vec<u8> {
 fn fields_of(imported: &Imported) -> Vec<u32> {
     let Figures { d, cn, co, ln, lo } = imported.task.figures;
     let level = u32::from(imported.task.level == Level::High);
-    let head = [level, imported.task.masks.len() as u32, d.into(), cn.into(), ln.into(), co.into(), lo.into()];
+    let head = [level, imported.task.masks.len() as u32, d, cn, ln, co, lo];
     [&head[..], &imported.task.masks].concat()
 }
 
@@ -555,14 +558,9 @@ fn imported_records_are_read_planned_and_started() {
         let sheet = Draft { processors: processors as u8, records }.bytes();
         let (number, _) = proved::read(&sheet);
         assert!(matches!(number, 0 | 6), "{number}: {made:?}");
-        let before = random.bytes(7 * count);
-        let mut plan = before.clone();
-        let reply = planning::plan(&sheet, &mut plan);
+        let reply = plans_agree(&sheet, TASK_BYTES * count, &mut random);
         assert!(matches!(reply.number(), 0 | 6..=8), "{reply:?}: {made:?}");
-        hold(&(reply, plan), &plan_into(&sheet, &before), || format!("{made:?}"));
-        let started = starting::start(&sheet);
-        assert_eq!(started.0, reply, "{made:?}");
-        hold(&started, &boundary::start(&sheet), || format!("{made:?}"));
+        assert_eq!(starts_agree(&sheet), reply, "{made:?}");
         counts.add(format!("{} for {}", reply.number(), if count == 1 { "one task" } else { "some tasks" }));
         if number == 0 {
             let set = proved::task_set(&sheet);
@@ -591,7 +589,7 @@ fn for_job(random: &mut Random) -> (Graph, Terms, Imported) {
     let processors = random.within(2..=5);
     let (graph, ends) = rounds_then_row(random, processors);
     let terms = Terms { deadline: ends as u32, ..*random.pick(&[LOW, high(100)]) };
-    let imported = import(&in_lines(&graph), terms, WIDE).expect("its times are small");
+    let imported = import(&in_lines(&graph), terms, ROOMY).expect("its times are small");
     (graph, terms, imported)
 }
 
@@ -609,9 +607,8 @@ fn imported_jobs_end_by_their_deadlines() {
         run += 1;
         let Imported { task, nominal, overload } = imported;
         let Figures { d, cn, co, ln, lo } = task.figures;
-        let budget = |work: u16, span: u16| Budget { work: work.into(), span: span.into() };
-        assert_eq!(Budget::of(&task.masks, &nominal), budget(cn, ln), "{graph:?}");
-        assert_eq!(Budget::of(&task.masks, &overload), budget(co, lo), "{graph:?}");
+        assert_eq!(Budget::of(&task.masks, &nominal), Budget { work: cn, span: ln }, "{graph:?}");
+        assert_eq!(Budget::of(&task.masks, &overload), Budget { work: co, span: lo }, "{graph:?}");
         let record = record_of(&mut random, &graph, terms);
         let bytes = Draft { processors: sheet.processors, records: vec![record] }.bytes();
         let (reply, fresh) = starting::start(&bytes);
@@ -620,7 +617,7 @@ fn imported_jobs_end_by_their_deadlines() {
         let crafted = [Crafted::of(task, nominal.clone(), overload.clone(), shares)];
         for (lengths, counts) in [(nominal, &mut nominal_counts), (overload, &mut overload_counts)] {
             let manner = Manner {
-                ticks: d.into(),
+                ticks: d as usize,
                 eager: true,
                 kinds: vec![vec![Kind::Given(lengths)]],
                 first: vec![0],

@@ -1,25 +1,22 @@
 //! The proved planner beside the independent one: the answer and every byte of the buffer agree.
-use dibwunek_tests::harness::counts::{hold, Counts};
+use dibwunek_tests::harness::agreement::plans_agree;
+use dibwunek_tests::harness::counts::Counts;
 use dibwunek_tests::harness::proved::planning;
 use dibwunek_tests::makers::random::Random;
 use dibwunek_tests::makers::sheets::{plausible, valid, Draft, CASE_14};
 use dibwunek_tests::makers::tight;
 use dibwunek_tests::reference::answers::Reply;
-use dibwunek_tests::reference::planner::{self, plan_into, Pair, TASK_BYTES};
-use dibwunek_tests::reference::reader::{Level, Sheet, Task};
+use dibwunek_tests::reference::planner::{self, Pair, TASK_BYTES};
+use dibwunek_tests::reference::reader::{numbers, Level, Sheet, Task};
 
-/// Compares the two planners on a sheet and a buffer of random bytes, and gives their answer.
+/// Compares the two planners on a sheet and a buffer of random bytes, and counts their answer.
 fn check(sheet: &[u8], length: usize, random: &mut Random, counts: &mut Counts) -> Reply {
-    let before = random.bytes(length);
-    let (reply, after) = plan_into(sheet, &before);
-    let mut buffer = before;
-    let proved = planning::plan(sheet, &mut buffer);
-    hold(&(proved, buffer), &(reply, after), || format!("the sheet {sheet:?} and {length} bytes of buffer"));
+    let reply = plans_agree(sheet, length, random);
     counts.add(format!("{:2}", reply.number()));
     reply
 }
 
-/// A buffer's length near the 7n bytes of a plan.
+/// A buffer's length near the 9n bytes of a plan.
 fn near(random: &mut Random, count: usize) -> usize {
     let needed = TASK_BYTES * count;
     match random.within(0..=9) {
@@ -105,7 +102,7 @@ fn totals_beyond_a_byte() {
     let mut random = Random::of_test("totals beyond a byte");
     let mut counts = Counts::new("totals beyond a byte");
     for _ in 0..1_500 {
-        let sheet = tight::wide(&mut random);
+        let sheet = tight::crowded(&mut random);
         let most = usize::from(sheet.processors);
         let reply = check(&Draft::of(&sheet).bytes(), TASK_BYTES * sheet.tasks.len(), &mut random, &mut counts);
         if reply.number() == 7 {
@@ -189,8 +186,8 @@ fn every_length_of_buffer() {
 
 /// What the bytes of a plan of n tasks give task i: its typical share, V and the remainder.
 fn rounded_in(plan: &[u8], n: usize, i: usize) -> (usize, usize, usize) {
-    let at = 4 * n + 2 * i;
-    (plan[2 * i + 1].into(), u16::from_le_bytes([plan[at], plan[at + 1]]).into(), plan[6 * n + i].into())
+    let v = numbers(&plan[4 * n..8 * n], 4).nth(i).expect("a task's V");
+    (plan[2 * i + 1].into(), v as usize, plan[8 * n + i].into())
 }
 
 /// S4.6 on the proved planner's bytes: a·(V − LN) and the remainder are CN − LN, and the remainder is less than a.
@@ -212,8 +209,11 @@ fn remainders() {
                 counts.add("low");
                 continue;
             }
-            let [cn, ln] = [task.figures.cn, task.figures.ln].map(usize::from);
+            let [cn, ln] = [task.figures.cn, task.figures.ln].map(|figure| figure as usize);
             assert!(left < a && ln <= v && a * (v - ln) + left == cn - ln, "task {i} of {sheet:?}: {a}, {v}, {left}");
+            if v > 65_535 {
+                counts.add("V beyond two bytes");
+            }
             counts.add(match (a, left) {
                 (1, _) => "one processor",
                 (_, 0) => "nothing left",
@@ -222,7 +222,8 @@ fn remainders() {
             });
         }
     }
-    counts.close(["low", "one processor", "nothing left", "a tick's work less one", "less"], 100);
+    let names = ["low", "one processor", "nothing left", "a tick's work less one", "less", "V beyond two bytes"];
+    counts.close(names, 100);
 }
 
 #[test]
@@ -265,19 +266,19 @@ fn cases_11_12_and_14() {
     let [a, b, e] = [14, 30, 46].map(|at| CASE_14[at..at + 16].to_vec());
     let plan = |processors, records: &[&Vec<u8>]| {
         let draft = Draft { processors, records: records.iter().map(|&record| record.clone()).collect() };
-        let mut buffer = vec![77; 24];
+        let mut buffer = vec![77; 30];
         (planning::plan(&draft.bytes(), &mut buffer), buffer)
     };
-    let refused = |number, task| (Reply::Refused(number, task), vec![77; 24]);
-    let of_11 = [&[0, 1, 1, 3, 0, 2, 2, 4, 9, 0, 6, 0, 0, 1][..], &[77; 10]].concat();
+    let refused = |number, task| (Reply::Refused(number, task), vec![77; 30]);
+    let of_11 = [&[0, 1, 1, 3, 0, 2, 2, 4, 9, 0, 0, 0, 6, 0, 0, 0, 0, 1][..], &[77; 12]].concat();
     for processors in [6, 8] {
         assert_eq!(plan(processors, &[&a, &b]), (Reply::Done, of_11.clone()));
     }
     assert_eq!(plan(5, &[&a, &b]), refused(8, 255));
     assert_eq!(plan(3, &[&a, &b]), refused(7, 1));
     assert_eq!(plan(7, &[&a, &b, &e]), refused(8, 255));
-    let of_14 = vec![0, 1, 1, 2, 3, 5, 0, 2, 2, 6, 8, 0, 9, 0, 7, 0, 0, 0, 0, 1, 0, 77, 77, 77];
-    assert_eq!(plan(8, &[&a, &b, &e]), (Reply::Done, of_14));
+    let of_14 = [0, 1, 1, 2, 3, 5, 0, 2, 2, 6, 8, 0, 9, 0, 0, 0, 7, 0, 0, 0, 0, 0, 0, 0, 0, 1, 0, 77, 77, 77];
+    assert_eq!(plan(8, &[&a, &b, &e]), (Reply::Done, of_14.to_vec()));
 }
 
 /// A has the shares (1, 2), E takes 5 processors, and F, which is E with a work of 30, takes 2.
@@ -291,15 +292,14 @@ fn kept_tasks_by_hand() {
         assert_eq!(planning::plan(&draft.bytes(), &mut buffer), Reply::Done);
         buffer
     };
+    let of_two = |e: u8| [&[0, 1, 1, 5, 0, 2, 2, e, 9][..], &[0; 9]].concat();
     for processors in [7, 8] {
-        assert_eq!(plan(processors, &[&a, &e]), [0, 1, 1, 5, 0, 2, 2, 5, 9, 0, 0, 0, 0, 0], "5 or 6 are left over");
+        assert_eq!(plan(processors, &[&a, &e]), of_two(5), "5 or 6 are left over");
     }
-    assert_eq!(plan(6, &[&a, &e]), [0, 1, 1, 5, 0, 2, 2, 0, 9, 0, 0, 0, 0, 0], "4 are");
-    assert_eq!(
-        plan(8, &[&e, &a, &f]),
-        [0, 5, 5, 1, 6, 2, 0, 0, 0, 2, 2, 2, 0, 0, 9, 0, 0, 0, 0, 0, 0],
-        "of E and F the smaller"
-    );
-    let first_two = [0, 2, 2, 2, 4, 1, 5, 2, 0, 2, 2, 2, 4, 2, 6, 0, 0, 0, 0, 0, 9, 0, 0, 0, 0, 0, 0, 0];
+    assert_eq!(plan(6, &[&a, &e]), of_two(0), "4 are");
+    let smaller = [&[0, 5, 5, 1, 6, 2, 0, 0, 0, 2, 2, 2, 0, 0, 0, 0, 9][..], &[0; 10]].concat();
+    assert_eq!(plan(8, &[&e, &a, &f]), smaller, "of E and F the smaller");
+    let blocks = [0, 2, 2, 2, 4, 1, 5, 2, 0, 2, 2, 2, 4, 2, 6, 0];
+    let first_two = [&blocks[..], &[0; 8], &[9], &[0; 11]].concat();
     assert_eq!(plan(7, &[&f, &f, &a, &f]), first_two, "of three alike the first two");
 }

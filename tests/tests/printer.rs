@@ -4,6 +4,7 @@ use dibwunek_tests::makers::random::Random;
 use dibwunek_tests::makers::sheets::{plausible, valid, Draft, CASE_14};
 use dibwunek_tests::makers::tight;
 use dibwunek_tests::reference::planner::{printed, PRINTER_INPUT};
+use dibwunek_tests::reference::reader::{Figures, Form, Level, Sheet, Task};
 use std::io::{ErrorKind, Write};
 use std::path::Path;
 use std::process::{Command, Stdio};
@@ -64,6 +65,16 @@ fn whole_sheets() {
         check(&Draft::of(&tight::mostly_low(&mut random)).bytes(), &mut counts);
     }
     counts.close(["planned", "7", "8"], 5);
+}
+
+/// With 4 processors each, and all of them used: 4 times 3 of the work beyond LN is run in V, and 3 is left.
+#[test]
+fn sixteen_tasks_with_v_near_a_million() {
+    let figures = Figures { d: 999_989, cn: 1_000_000, co: 1_000_000, ln: 999_985, lo: 999_985 };
+    let task = Task { level: Level::High, form: Form::Wide, figures, masks: vec![0] };
+    let sheet = Sheet { processors: 64, tasks: vec![task; 16] };
+    let line = |i: usize| format!("{i} {0} 4 {0} 4 999988 3\n", 4 * i);
+    assert_eq!(run(&[&Draft::of(&sheet).bytes()]), (0..16).map(line).collect::<String>());
 }
 
 #[test]

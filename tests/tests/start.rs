@@ -1,18 +1,17 @@
 //! The proved Start beside the independent one: the answer and every word of the line agree.
+use dibwunek_tests::harness::agreement::starts_agree;
 use dibwunek_tests::harness::boundary::{self, STATE, UNWRITTEN};
 use dibwunek_tests::harness::counts::{hold, Counts};
 use dibwunek_tests::harness::proved::dispatching::Proved;
 use dibwunek_tests::harness::proved::starting;
 use dibwunek_tests::harness::suites::{self, Subject};
 use dibwunek_tests::makers::random::Random;
-use dibwunek_tests::makers::sheets::{plausible, valid, Draft, CASE_14};
+use dibwunek_tests::makers::sheets::{plausible, Draft, CASE_14};
 use dibwunek_tests::makers::tight;
 use dibwunek_tests::reference::answers::Reply;
 
 fn check(sheet: &[u8], counts: &mut Counts) {
-    let (reply, line) = boundary::start(sheet);
-    hold(&starting::start(sheet), &(reply, line), || format!("the sheet {sheet:?}"));
-    counts.add(reply.number());
+    counts.add(starts_agree(sheet).number());
 }
 
 #[test]
@@ -56,13 +55,7 @@ fn whole_and_damaged_sheets() {
     let mut random = Random::of_test("started sheets");
     let mut counts = Counts::new("started sheets");
     for count in (1..=16).cycle().take(800) {
-        let mut sheet = tight::sheet(&mut random, count);
-        sheet.processors = random.within(1..=64) as u8;
-        // The masks of another maker, which have more to hand on.
-        for (task, other) in sheet.tasks.iter_mut().zip(valid(&mut random).tasks) {
-            task.masks = other.masks;
-        }
-        let mut bytes = Draft::of(&sheet).bytes();
+        let mut bytes = Draft::of(&tight::with_graphs(&mut random, count)).bytes();
         check(&bytes, &mut counts);
         let at = random.within(0..=bytes.len() - 1);
         bytes[at] ^= 1 << random.within(0..=7);

@@ -1,8 +1,11 @@
-//! Holds the proved reader to the independent one, and counts the answers.
-use crate::harness::proved::{self, TaskSet, FIRST_MASK};
-use crate::makers::random;
-use crate::reference::answers::{Answer, Refusal, NO_TASK};
-use crate::reference::reader::{self, Level, Sheet};
+//! Holds the proved reader, Plan and Start to the independent ones, and counts the reader's answers.
+use crate::harness::boundary;
+use crate::harness::counts::hold;
+use crate::harness::proved::{self, planning, starting, TaskSet, FIRST_MASK};
+use crate::makers::random::{self, Random};
+use crate::reference::answers::{Answer, Refusal, Reply, NO_TASK};
+use crate::reference::planner::plan_into;
+use crate::reference::reader::{self, level_byte, Sheet};
 
 /// The answer that a reading stands for.
 pub fn answer(reading: &Result<Sheet, Refusal>) -> Answer {
@@ -20,12 +23,29 @@ pub fn task_set(reading: &Result<Sheet, Refusal>) -> TaskSet {
     set.count = sheet.tasks.len() as u32;
     for (fields, task) in set.tasks.iter_mut().zip(&sheet.tasks) {
         let f = &task.figures;
-        let level = (task.level == Level::High) as u32;
-        let head = [level, task.masks.len() as u32, f.d.into(), f.cn.into(), f.ln.into(), f.co.into(), f.lo.into()];
+        let level = level_byte(task.level, task.form);
+        let head = [level.into(), task.masks.len() as u32, f.d, f.cn, f.ln, f.co, f.lo];
         fields[..FIRST_MASK].copy_from_slice(&head);
         fields[FIRST_MASK..][..task.masks.len()].copy_from_slice(&task.masks);
     }
     set
+}
+
+/// Compares the two planners on a sheet and a buffer of random bytes, and gives their answer.
+pub fn plans_agree(sheet: &[u8], length: usize, random: &mut Random) -> Reply {
+    let before = random.bytes(length);
+    let (reply, after) = plan_into(sheet, &before);
+    let mut buffer = before;
+    let proved = planning::plan(sheet, &mut buffer);
+    hold(&(proved, buffer), &(reply, after), || format!("the sheet {sheet:?} and {length} bytes of buffer"));
+    reply
+}
+
+/// Compares the two Starts on a sheet, the answer and every word of the line, and gives their answer.
+pub fn starts_agree(sheet: &[u8]) -> Reply {
+    let started = boundary::start(sheet);
+    hold(&starting::start(sheet), &started, || format!("the sheet {sheet:?}"));
+    started.0
 }
 
 /// The answers of one test, by number.

@@ -9,6 +9,18 @@ pub const HEAD: usize = 3;
 pub const ENTRY: usize = 2 + NODES + 7;
 pub const STATE: usize = HEAD + ENTRIES * ENTRY;
 
+/// Words of an entry by their places in it.
+pub const LEVEL: usize = 0;
+pub const DEADLINE: usize = 2 + NODES;
+pub const VIRTUAL_DEADLINE: usize = DEADLINE + 1;
+pub const AGE: usize = DEADLINE + 4;
+pub const ALIVE: usize = DEADLINE + 6;
+
+/// The place in a line of a word of a task's entry.
+pub fn place(task: usize, word: usize) -> usize {
+    HEAD + ENTRY * task + word
+}
+
 /// A word of a line in which nothing was written: no state has it as its first.
 pub const UNWRITTEN: u32 = 0xa5a5_a5a5;
 

@@ -34,8 +34,7 @@ struct Watch<'a> {
 impl Watch<'_> {
     fn new<'a>(task: &Task, lengths: &'a [u32], began: Mode) -> Watch<'a> {
         let figures = task.figures;
-        let allows =
-            |work: u16, span: u16| Budget { work: work.into(), span: span.into() }.allows(&task.masks, lengths);
+        let allows = |work: u32, span: u32| Budget { work, span }.allows(&task.masks, lengths);
         Watch {
             lengths,
             runs: [0; NODES],
@@ -196,12 +195,12 @@ impl<'a> Replay<'a> {
             }
             if task.level == Level::High {
                 self.nominal &= watch.truthful;
-                let v = u32::from(self.plan.tasks[i].virtual_deadline);
+                let v = self.plan.tasks[i].virtual_deadline;
                 if watch.ticks == v && watch.truthful && watch.keeps_nominal && watch.ended == Some(v) {
                     self.counts.add("nominal jobs that ended in tick V");
                 }
             }
-            let deadline = u32::from(task.figures.d);
+            let deadline = task.figures.d;
             let stays = self.plan.tasks[i].shares.critical > 0;
             let promised = stays || after.mode == Mode::Typical;
             if watch.ticks == deadline && watch.truthful && watch.keeps_overload && promised {

@@ -52,7 +52,7 @@ pub fn low_story(random: &mut Random, scale: usize) -> Story {
 }
 
 fn told(random: &mut Random, sheet: &Sheet, tasks: &[Crafted], high: Conduct, low: Conduct) -> Story {
-    let longest = sheet.tasks.iter().map(|task| usize::from(task.figures.d)).max().unwrap_or(0);
+    let longest = sheet.tasks.iter().map(|task| task.figures.d as usize).max().unwrap_or(0);
     let conduct = |task: &Crafted| if task.task.level == Level::High { &high } else { &low };
     let manner = Manner {
         ticks: random.within(1..=3) * longest + random.within(1..=3),
@@ -133,11 +133,11 @@ pub fn exact_kept_lists(subject: Subject, rounds: usize) {
     let mut random = Random::of_test("exact kept lists");
     let mut counts = Counts::new("exact kept lists");
     for _ in 0..rounds {
-        let (sheet, tasks, high) = (0..1_000).find_map(|_| exact_kept(&mut random)).expect("one is made");
+        let (sheet, tasks, high) = (0..1_000).find_map(|_| exact_kept(&mut random, 1)).expect("one is made");
         let plan = planner::plan(&sheet).expect("crafted tasks are planned");
-        let to_switch = usize::from(plan.tasks[high].virtual_deadline);
+        let to_switch = plan.tasks[high].virtual_deadline as usize;
         let low = (0..tasks.len()).filter(|&task| task != high);
-        let longest = low.map(|task| usize::from(sheet.tasks[task].figures.d)).max().unwrap_or(0);
+        let longest = low.map(|task| sheet.tasks[task].figures.d as usize).max().unwrap_or(0);
         let kind = |task: usize| match task == high {
             true => Kind::Endless,
             false => Kind::Given(tasks[task].overload.clone()),
@@ -199,9 +199,10 @@ pub fn exact_lists(subject: Subject, rounds: usize) {
     let mut random = Random::of_test("exact lists");
     let mut counts = Counts::new("exact lists");
     for _ in 0..rounds {
-        let (sheet, tasks, high) = std::iter::repeat_with(|| exact(&mut random)).flatten().next().expect("one is made");
+        let (sheet, tasks, high) =
+            std::iter::repeat_with(|| exact(&mut random, 1)).flatten().next().expect("one is made");
         let kinds = |task: &Crafted| vec![Kind::Given(task.overload.clone())];
-        let deadline = usize::from(tasks[high].task.figures.d);
+        let deadline = tasks[high].task.figures.d as usize;
         let manner = Manner {
             ticks: 2 * deadline,
             eager: true,
@@ -225,11 +226,11 @@ pub fn forced_switches(subject: Subject, rounds: usize) {
     for _ in 0..rounds {
         let (sheet, tasks) = job_and_neighbour(&mut random);
         let plan = planner::plan(&sheet).expect("crafted tasks are planned");
-        let to_switch = usize::from(plan.tasks[1].virtual_deadline);
-        let deadline = usize::from(tasks[0].task.figures.d);
+        let to_switch = plan.tasks[1].virtual_deadline as usize;
+        let deadline = tasks[0].task.figures.d as usize;
         let lengths = longest_lasting(&mut random, &sheet, &tasks[0], 0, &Kind::Overload);
         let Some(lengths) = lengths else { continue };
-        let own_switch = usize::from(plan.tasks[0].virtual_deadline);
+        let own_switch = plan.tasks[0].virtual_deadline as usize;
         for switch in 0..=own_switch {
             let manner = Manner {
                 ticks: to_switch + deadline + random.within(0..=2),

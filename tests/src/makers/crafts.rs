@@ -2,11 +2,11 @@
 //! need, so that some jobs use the budgets up exactly.
 use crate::makers::lengths::{filled, Budget, Filling};
 use crate::makers::random::Random;
-use crate::makers::sheets::{LIMIT, PROCESSORS};
+use crate::makers::sheets::{forms, PROCESSORS};
 use crate::makers::tight::low_figures;
 use crate::reference::dispatcher::NODES;
 use crate::reference::planner::{self, least_deadline, Pair};
-use crate::reference::reader::{Figures, Level, Sheet, Task};
+use crate::reference::reader::{Figures, Form, Level, Sheet, Task};
 
 /// A task, and lengths that came first: its figures are their work and span.
 #[derive(Clone, Debug)]
@@ -39,8 +39,8 @@ impl Crafted {
     fn budget(&self, kind: &Kind) -> Budget {
         let Figures { cn, co, ln, lo, .. } = self.task.figures;
         match kind {
-            Kind::Nominal => Budget { work: cn.into(), span: ln.into() },
-            _ => Budget { work: co.into(), span: lo.into() },
+            Kind::Nominal => Budget { work: cn, span: ln },
+            _ => Budget { work: co, span: lo },
         }
     }
 
@@ -61,7 +61,7 @@ impl Crafted {
         };
         if let Kind::Beyond = kind {
             let v = random.within(0..=lengths.len() - 1);
-            lengths[v] += random.within(1..=usize::from(self.task.figures.d)) as u32;
+            lengths[v] += random.within(1..=self.task.figures.d as usize) as u32;
         }
         Some(lengths)
     }
@@ -90,6 +90,7 @@ pub fn sheet_of(random: &mut Random, mut tasks: Vec<Crafted>) -> Option<(Sheet, 
     if processors > PROCESSORS {
         return None;
     }
+    in_forms(random, &mut tasks);
     let mut sheet = sheet(processors, &tasks);
     let count = tasks.len();
     let tightened = if random.once_in(4) { 0 } else { count.min(5) };
@@ -99,6 +100,15 @@ pub fn sheet_of(random: &mut Random, mut tasks: Vec<Crafted>) -> Option<(Sheet, 
         tasks[i].task.figures.d = sheet.tasks[i].figures.d;
     }
     Some((sheet, tasks))
+}
+
+/// Gives the tasks the forms of one sheet, each a form that holds its figures, of which CO is the largest.
+fn in_forms(random: &mut Random, tasks: &mut [Crafted]) {
+    let forms = forms(random);
+    for Crafted { task, .. } in tasks {
+        let form = *random.pick(forms);
+        task.form = if task.figures.co > form.limit() { Form::Wide } else { form };
+    }
 }
 
 /// The processors that the tasks' shares need.
@@ -144,17 +154,17 @@ fn try_task(random: &mut Random, level: Level, shares: Pair, scale: usize) -> Op
         Level::High => overload_lengths(random, &nominal, fan, scale),
     };
     let [n, o] = [&nominal, &overload].map(|lengths| Budget::of(&masks, lengths));
-    let [cn, co, ln, lo] = [n.work, o.work, n.span, o.span].map(|figure| figure.min(u16::MAX.into()) as u16);
-    let mut figures = Figures { d: 1, cn, co, ln, lo };
+    let mut figures = Figures { d: 1, cn: n.work, co: o.work, ln: n.span, lo: o.span };
     let d = match level {
-        Level::Low => usize::from(ln + (cn - ln).div_ceil(shares.typical as u16)),
+        Level::Low => (n.span + (n.work - n.span).div_ceil(shares.typical as u32)) as usize,
         Level::High => least_deadline(figures, shares),
     };
-    let d = d + *random.pick(&[0, 0, 0, 0, 1, 3]);
-    if d >= usize::from(co) || usize::from(co) > LIMIT {
+    let form = Form::Narrow;
+    let d = (d + *random.pick(&[0, 0, 0, 0, 1, 3])) as u32;
+    if d >= figures.co || figures.co > form.limit() {
         return None;
     }
-    figures.d = d as u16;
+    figures.d = d;
     match random.within(0..=7) {
         // Fewer chains than the figures allow for.
         0 => masks.iter_mut().for_each(|mask| *mask &= random.word() as u32),
@@ -162,7 +172,7 @@ fn try_task(random: &mut Random, level: Level, shares: Pair, scale: usize) -> Op
         1 => masks = any_graph(random, masks.len()),
         _ => {}
     }
-    Some(Crafted { task: Task { level, figures, masks }, nominal, overload, shares })
+    Some(Crafted { task: Task { level, form, figures, masks }, nominal, overload, shares })
 }
 
 /// A random graph: its masks, and how many of its first nodes stand beside each other with nothing before them.
@@ -235,50 +245,57 @@ fn overload_lengths(random: &mut Random, nominal: &[u32], fan: usize, scale: usi
 
 /// A sheet of a high task, whose number is given, and a low one. The high task's overload lengths keep its typical
 /// processors busy for V ticks, then its critical ones for some more, and only then let a chain of length LO begin: with
-/// shares (a, b) its job ends in tick D and not before. None where the plan has other shares.
-pub fn exact(random: &mut Random) -> Option<(Sheet, Vec<Crafted>, usize)> {
-    let a = random.within(1..=4);
-    let b = random.within(a + 1..=8);
-    let (ln, each, then) = (random.within(1..=8), random.within(0..=8), random.within(1..=8));
-    let v = ln + each;
-    let lo = v.max(then) + random.within(0..=5);
-    let (overload, masks) = then_chain(random, [vec![v; a], vec![then; b]].concat(), lo);
-    let [d, cn, co, ln, lo] = [v + then + lo, ln + a * each, a * v + b * then + lo, ln, lo].map(|figure| figure as u16);
-    let figures = Figures { d, cn, co, ln, lo };
-    let high = given(Level::High, figures, masks, Pair { typical: a, critical: b }, overload);
-
-    let processors = b.max(a + 2);
-    let share = processors - a;
+/// shares (a, b) its job ends in tick D and not before. Its times are some units. None where the plan has other shares, or
+/// a figure would be too large.
+pub fn exact(random: &mut Random, unit: usize) -> Option<(Sheet, Vec<Crafted>, usize)> {
+    let high = exact_high(random, unit)?;
+    let Pair { typical, critical } = high.shares;
+    let processors = critical.max(typical + 2);
+    let share = processors - typical;
     let figures = low_figures(random, share);
-    let (l, d) = (figures.ln.into(), usize::from(figures.d));
+    let (l, d) = (figures.ln as usize, figures.d as usize);
     let lengths = [vec![d - l; share], vec![l]].concat();
-    let low = given(Level::Low, figures, vec![0; share + 1], Pair { typical: share, critical: 0 }, lengths);
+    let low = given(Level::Low, figures, vec![0; share + 1], Pair { typical: share, critical: 0 }, lengths)?;
 
     let place = random.within(0..=1);
-    let tasks = if place == 0 { vec![high, low] } else { vec![low, high] };
+    let mut tasks = if place == 0 { vec![high, low] } else { vec![low, high] };
+    in_forms(random, &mut tasks);
     let sheet = sheet(processors, &tasks);
     let plan = planner::plan(&sheet).ok()?;
     (plan.tasks[place].shares == tasks[place].shares).then_some((sheet, tasks, place))
 }
 
+fn exact_high(random: &mut Random, unit: usize) -> Option<Crafted> {
+    let a = random.within(1..=4);
+    let b = random.within(a + 1..=8);
+    let (ln, each, then) = (random.within(1..=8 * unit), random.within(0..=8 * unit), random.within(1..=8 * unit));
+    let v = ln + each;
+    let lo = v.max(then) + random.within(0..=5 * unit);
+    let (overload, masks) = then_chain(random, [vec![v; a], vec![then; b]].concat(), lo);
+    let [d, cn, co, ln, lo] = [v + then + lo, ln + a * each, a * v + b * then + lo, ln, lo].map(|figure| figure as u32);
+    given(Level::High, Figures { d, cn, co, ln, lo }, masks, Pair { typical: a, critical: b }, overload)
+}
+
 /// A sheet of a high task, whose number is given, and of low ones of which one at least is kept. Each low task's lengths
 /// keep its processors busy for D − L ticks, and only then let a chain of length L begin: its job ends in tick D and not
-/// before. None where no low task is kept.
-pub fn exact_kept(random: &mut Random) -> Option<(Sheet, Vec<Crafted>, usize)> {
-    let mut tasks: Vec<Crafted> = (0..random.within(1..=4)).map(|_| exact_low(random)).collect();
+/// before. Its times are some units. None where no low task is kept, or a figure would be too large.
+pub fn exact_kept(random: &mut Random, unit: usize) -> Option<(Sheet, Vec<Crafted>, usize)> {
+    let count = random.within(1..=4);
+    let mut tasks = (0..count).map(|_| exact_low(random, unit)).collect::<Option<Vec<Crafted>>>()?;
     let high = random.within(0..=tasks.len());
     tasks.insert(high, crafted_task(random, Level::High, 8, 6));
+    in_forms(random, &mut tasks);
     let sheet = sheet(needed(&tasks) + *random.pick(&[0, 0, 0, 1]), &tasks);
     let plan = planner::plan(&sheet).ok()?;
     let keeps_one = (0..tasks.len()).any(|task| task != high && plan.tasks[task].shares.critical > 0);
     keeps_one.then_some((sheet, tasks, high))
 }
 
-fn exact_low(random: &mut Random) -> Crafted {
-    let (share, rounds, each) = (random.within(2..=4), random.within(1..=3), random.within(1..=4));
-    let l = each + random.within(0..=4);
+fn exact_low(random: &mut Random, unit: usize) -> Option<Crafted> {
+    let (share, rounds, each) = (random.within(2..=4), random.within(1..=3), random.within(1..=4 * unit));
+    let l = each + random.within(0..=4 * unit);
     let (lengths, masks) = then_chain(random, vec![each; share * rounds], l);
-    let [d, c, l] = [l + rounds * each, l + share * rounds * each, l].map(|figure| figure as u16);
+    let [d, c, l] = [l + rounds * each, l + share * rounds * each, l].map(|figure| figure as u32);
     let figures = Figures { d, cn: c, co: c, ln: l, lo: l };
     given(Level::Low, figures, masks, Pair { typical: share, critical: 0 }, lengths)
 }
@@ -293,7 +310,9 @@ fn then_chain(random: &mut Random, beside: Vec<usize>, span: usize) -> (Vec<usiz
     (beside.into_iter().chain(of_chain).collect(), masks)
 }
 
-fn given(level: Level, figures: Figures, masks: Vec<u32>, shares: Pair, lengths: Vec<usize>) -> Crafted {
+/// A task whose nodes have these lengths, nominal and overload, where some form holds its figures.
+fn given(level: Level, figures: Figures, masks: Vec<u32>, shares: Pair, lengths: Vec<usize>) -> Option<Crafted> {
     let lengths: Vec<u32> = lengths.into_iter().map(|length| length as u32).collect();
-    Crafted { task: Task { level, figures, masks }, nominal: lengths.clone(), overload: lengths, shares }
+    let task = Task { level, form: Form::Wide, figures, masks };
+    (figures.co <= Form::Wide.limit()).then_some(Crafted::of(task, lengths.clone(), lengths, shares))
 }

@@ -1,9 +1,9 @@
 //! Faulty sheets, each with the answer that the specification gives it. A fault is put into a draft whose other parts hold,
 //! so that one refusal alone has cause.
 use crate::makers::random::Random;
-use crate::makers::sheets::{pair, Draft, LIMIT};
+use crate::makers::sheets::{figure_bytes, form_of, pair, Draft};
 use crate::reference::answers::Answer;
-use crate::reference::reader::NODES;
+use crate::reference::reader::{numbers, of_level_byte, Level, NODES};
 
 /// A sheet, and the answer that it must get.
 pub struct Faulty {
@@ -137,40 +137,49 @@ fn first_wrapped(places: &[usize], task: usize, shift: usize) -> Option<usize> {
     })
 }
 
-/// Refusal 3: level, k or the record's length wrong.
+/// Refusal 3: level, k or the record's length wrong. A level of the other form asks for another length.
 fn shapes(record: &[u8], random: &mut Random) -> Vec<Vec<u8>> {
     let k = record[1];
+    let head = form_of(record).head();
     let mut all = Vec::new();
-    for level in [2, 3, 16, 17, 128, 255] {
+    for level in wrong_levels(record) {
         all.push(with_byte(record, 0, level));
     }
     for wrong in [0, 33, 64, 255, k - 1, k + 1] {
         all.push(with_byte(record, 1, wrong));
     }
-    for length in [0, 1, 2, 11, 12, record.len() - 4, record.len() - 2, record.len() - 1] {
+    for length in [0, 1, 2, head - 1, head, record.len() - 10, record.len() - 4, record.len() - 2, record.len() - 1] {
         all.push(record[..length].to_vec());
     }
-    for more in [1, 2, 4, 128, random.within(1..=1_000)] {
+    for more in [1, 2, 4, 10, 128, random.within(1..=1_000)] {
         all.push(record.iter().copied().chain(random.bytes(more)).collect());
     }
-    let of_no_node = with_byte(&record[..12], 1, 0);
-    let masks = record[12..].iter().copied().cycle().take(4 * (NODES + 1));
-    let of_33_nodes = with_byte(&record[..12], 1, 33).into_iter().chain(masks).collect();
+    let of_no_node = with_byte(&record[..head], 1, 0);
+    let masks = record[head..].iter().copied().cycle().take(4 * (NODES + 1));
+    let of_33_nodes = with_byte(&record[..head], 1, 33).into_iter().chain(masks).collect();
     all.extend([of_no_node, of_33_nodes]);
     all
+}
+
+/// Levels that are none, and those of the form that a record has not.
+fn wrong_levels(record: &[u8]) -> impl Iterator<Item = u8> {
+    let form = form_of(record);
+    let is_other = move |&level: &u8| of_level_byte(level).is_none_or(|(_, other)| other != form);
+    [0, 1, 2, 3, 15, 16, 17, 18, 32, 33, 128, 255].into_iter().filter(is_other)
 }
 
 /// Refusal 4: each figure out of its range, and each rule broken, alone where the other rules allow it.
 fn figures(record: &[u8], random: &mut Random) -> Vec<Vec<u8>> {
     let [cn, co, ln] = [CN, CO, LN].map(|place| figure(record, place));
+    let limit = limit(record);
+    let (past, largest) = (limit + 1, 256usize.pow(form_of(record).width() as u32) - 1);
     let mut all = Vec::new();
     let mut add = |edits: &[(usize, usize)]| all.push(with_figures(record, edits));
     for place in [D, CN, CO, LN, LO] {
-        for value in [0, LIMIT + 1, 65_535, random.within(LIMIT + 1..=65_535)] {
+        for value in [0, past, largest, random.within(past..=largest)] {
             add(&[(place, value)]);
         }
     }
-    let past = LIMIT + 1;
     for edits in [
         [(CN, 0), (LN, 0), (CO, co), (LO, co)],
         [(CN, cn), (LN, 0), (CO, co), (LO, 0)],
@@ -181,10 +190,10 @@ fn figures(record: &[u8], random: &mut Random) -> Vec<Vec<u8>> {
     ] {
         add(&edits);
     }
-    let rules: &[fn(usize, &mut Random) -> Four] = if record[0] == 0 { &OF_LOW } else { &OF_HIGH };
+    let rules: &[Break] = if is_low(record) { &OF_LOW } else { &OF_HIGH };
     for rule in rules {
         for _ in 0..3 {
-            let Four { cn, ln, co, lo } = rule(co, random);
+            let Four { cn, ln, co, lo } = rule(co, limit, random);
             add(&[(CN, cn), (LN, ln), (CO, co), (LO, lo)]);
         }
     }
@@ -199,68 +208,71 @@ struct Four {
     lo: usize,
 }
 
-/// Breaks of a high task's rules, given a lawful CO above 1.
-const OF_HIGH: [fn(usize, &mut Random) -> Four; 6] = [
+/// A break of a rule, given a lawful CO above 1 and the largest figure.
+type Break = fn(usize, usize, &mut Random) -> Four;
+
+/// Breaks of a high task's rules.
+const OF_HIGH: [Break; 6] = [
     // LN > CN alone.
-    |co, random| {
+    |co, _, random| {
         let cn = random.skewed(1..=co - 1);
         let ln = random.skewed(cn + 1..=co);
         Four { cn, ln, co, lo: random.skewed(ln..=co) }
     },
     // LO > CO, with LN > CN.
-    |co, random| {
-        let co = co.min(LIMIT - 1);
+    |co, limit, random| {
+        let co = co.min(limit - 1);
         let cn = random.skewed(1..=co);
         Four { cn, ln: cn + 1, co, lo: co + 1 }
     },
     // LO > CO, with CO − CN < LO − LN.
-    |co, random| {
-        let co = co.min(LIMIT - 1);
+    |co, limit, random| {
+        let co = co.min(limit - 1);
         let cn = random.skewed(1..=co);
-        Four { cn, ln: random.skewed(1..=cn), co, lo: random.skewed(co + 1..=LIMIT) }
+        Four { cn, ln: random.skewed(1..=cn), co, lo: random.skewed(co + 1..=limit) }
     },
     // CN > CO, with LN = LO.
-    |co, random| {
-        let co = co.min(LIMIT - 1);
+    |co, limit, random| {
+        let co = co.min(limit - 1);
         let ln = random.skewed(1..=co);
-        Four { cn: random.skewed(co + 1..=LIMIT), ln, co, lo: ln }
+        Four { cn: random.skewed(co + 1..=limit), ln, co, lo: ln }
     },
     // LN > LO alone.
-    |co, random| {
+    |co, _, random| {
         let cn = random.skewed(2..=co);
         let ln = random.skewed(2..=cn);
         Four { cn, ln, co, lo: random.skewed(1..=ln - 1) }
     },
     // CO − CN < LO − LN alone.
-    |co, random| {
+    |co, _, random| {
         let cn = random.skewed(2..=co);
         let ln = random.skewed(1..=cn - 1);
         Four { cn, ln, co, lo: ln + (co - cn) + random.skewed(1..=cn - ln) }
     },
 ];
 
-/// Breaks of a low task's rules, given a lawful CO above 1.
-const OF_LOW: [fn(usize, &mut Random) -> Four; 4] = [
+/// Breaks of a low task's rules.
+const OF_LOW: [Break; 4] = [
     // L > C.
-    |co, random| {
-        let co = co.min(LIMIT - 1);
-        let lo = random.skewed(co + 1..=LIMIT);
+    |co, limit, random| {
+        let co = co.min(limit - 1);
+        let lo = random.skewed(co + 1..=limit);
         Four { cn: co, ln: lo, co, lo }
     },
     // CN ≠ CO alone.
-    |co, random| {
+    |co, _, random| {
         let cn = random.skewed(1..=co - 1);
         let ln = random.skewed(1..=cn);
         Four { cn, ln, co, lo: ln }
     },
     // CN ≠ CO and LN ≠ LO, as a high task may have them.
-    |co, random| {
+    |co, _, random| {
         let cn = random.skewed(1..=co - 1);
         let ln = random.skewed(1..=cn);
         Four { cn, ln, co, lo: ln + random.skewed(1..=co - cn) }
     },
     // LN ≠ LO.
-    |co, random| {
+    |co, _, random| {
         let ln = random.skewed(1..=co - 1);
         Four { cn: co, ln, co, lo: random.skewed(ln + 1..=co) }
     },
@@ -268,10 +280,11 @@ const OF_LOW: [fn(usize, &mut Random) -> Four; 4] = [
 
 /// Refusal 5: each node's mask with its own bit, or a higher one.
 fn masks(record: &[u8], random: &mut Random) -> Vec<Vec<u8>> {
+    let head = form_of(record).head();
     let mut all = Vec::new();
-    for v in 0..(record.len() - 12) / 4 {
+    for v in 0..(record.len() - head) / 4 {
         for bit in [v, random.within(v..=NODES - 1), NODES - 1] {
-            let at = 12 + 4 * v + bit / 8;
+            let at = head + 4 * v + bit / 8;
             all.push(with_byte(record, at, record[at] | 1 << (bit % 8)));
         }
     }
@@ -280,25 +293,36 @@ fn masks(record: &[u8], random: &mut Random) -> Vec<Vec<u8>> {
 
 /// Refusal 6: D at CO, and above it where there is room.
 fn not_heavy(record: &[u8], random: &mut Random) -> Vec<Vec<u8>> {
-    let co = figure(record, CO);
-    [co, random.skewed(co..=LIMIT), LIMIT].map(|d| with_figures(record, &[(D, d)])).to_vec()
+    let (co, limit) = (figure(record, CO), limit(record));
+    [co, random.skewed(co..=limit), limit].map(|d| with_figures(record, &[(D, d)])).to_vec()
 }
 
-// Where the figures stand in a record.
-const D: usize = 2;
-const CN: usize = 4;
-const CO: usize = 6;
-const LN: usize = 8;
-const LO: usize = 10;
+// The places of the figures among the five.
+const D: usize = 0;
+const CN: usize = 1;
+const CO: usize = 2;
+const LN: usize = 3;
+const LO: usize = 4;
+
+fn is_low(record: &[u8]) -> bool {
+    matches!(of_level_byte(record[0]), Some((Level::Low, _)))
+}
+
+/// The largest figure of a record's form.
+fn limit(record: &[u8]) -> usize {
+    form_of(record).limit() as usize
+}
 
 fn figure(record: &[u8], place: usize) -> usize {
-    u16::from_le_bytes([record[place], record[place + 1]]).into()
+    let form = form_of(record);
+    numbers(&record[2..form.head()], form.width()).nth(place).map_or(0, |figure| figure as usize)
 }
 
-fn with_figures(record: &[u8], edits: &[(usize, usize)]) -> Vec<u8> {
-    let mut record = record.to_vec();
+/// The record with some figures, by their places among the five, replaced.
+pub fn with_figures(record: &[u8], edits: &[(usize, usize)]) -> Vec<u8> {
+    let (mut record, form) = (record.to_vec(), form_of(record));
     for &(place, value) in edits {
-        record[place..][..2].copy_from_slice(&(value as u16).to_le_bytes());
+        record[2 + form.width() * place..][..form.width()].copy_from_slice(&figure_bytes(form, value));
     }
     record
 }

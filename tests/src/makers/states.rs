@@ -1,16 +1,15 @@
 //! Makers of states: random sound ones, with noise where nothing is read, and the same with one fault.
 use crate::makers::random::Random;
-use crate::makers::sheets::{LIMIT, PROCESSORS};
-use crate::reference::dispatcher::{nodes, Entry, Fault, Mode, Nodes, State, ENTRIES, HIGH, NODES};
+use crate::makers::sheets::{forms, PROCESSORS};
+use crate::reference::dispatcher::{nodes, Entry, Fault, Mode, Nodes, State, ENTRIES, NODES};
+use crate::reference::reader::{level_byte, of_level_byte, Form, Level};
 
 /// A random sound state; what no call reads is noise.
 pub fn sound(random: &mut Random) -> State {
     let processors = random.skewed(1..=PROCESSORS);
     let count = random.skewed(1..=ENTRIES);
-    let typical = shares(random, processors, count);
-    let critical = shares(random, processors, count);
     let mode = *random.pick(&[Mode::Typical, Mode::Typical, Mode::Critical]);
-    let mut entries: Vec<Entry> = (0..count).map(|i| entry(random, typical[i], critical[i])).collect();
+    let mut entries = sound_entries(random, processors, count);
     entries.resize_with(ENTRIES, || noise(random));
     if mode == Mode::Typical && random.once_in(2) {
         // Else almost every tick of many tasks would turn the state critical.
@@ -52,7 +51,7 @@ pub fn keeping(random: &mut Random) -> State {
         let more = typical.min(random.within(0..=3) as u8);
         entry.typical += more;
         typical -= more;
-        if entry.level != HIGH {
+        if !entry.is_high() {
             let (room, other) = (critical + entry.critical, random.within(1..=3) as u8);
             entry.critical = room.min(*random.pick(&[0, entry.typical, other]));
             critical = room - entry.critical;
@@ -64,10 +63,10 @@ pub fn keeping(random: &mut Random) -> State {
     state
 }
 
-fn entry(random: &mut Random, typical: u8, critical: u8) -> Entry {
+fn entry(random: &mut Random, form: Form, typical: u8, critical: u8) -> Entry {
     let k = random.skewed(1..=NODES);
     let preceding = preceding(random, k);
-    let deadline = random.skewed(1..=LIMIT);
+    let deadline = random.skewed(1..=form.limit() as usize);
     let virtual_deadline = random.skewed(0..=deadline);
     let near = random.within(virtual_deadline.saturating_sub(2)..=deadline.min(virtual_deadline + 1));
     let any = random.skewed(0..=deadline);
@@ -75,7 +74,7 @@ fn entry(random: &mut Random, typical: u8, critical: u8) -> Entry {
     let ended = ended(random, &preceding, k);
     let all_ended = ended[..k].iter().all(|&ended| ended);
     Entry {
-        level: random.within(0..=1) as u8,
+        level: level_byte(*random.pick(&[Level::Low, Level::High]), form),
         nodes: k as u8,
         typical,
         critical,
@@ -169,7 +168,6 @@ pub const FAULTS: [Fault; 12] = [
 pub fn unsound(random: &mut Random, fault: Fault) -> State {
     let mut state = sound(random);
     let at = random.within(0..=usize::from(state.count) - 1);
-    let far = random.skewed(0..=u32::MAX as usize) as u32;
     let entry = &mut state.entries[at];
     let k = usize::from(entry.nodes);
     match fault {
@@ -184,10 +182,10 @@ pub fn unsound(random: &mut Random, fault: Fault) -> State {
         Fault::Count => {
             state.count = outside(random, ENTRIES);
             if state.count > 0 {
-                state.entries = sound_entries(random, state.processors);
+                state.entries = sound_entries(random, state.processors.into(), ENTRIES);
             }
         }
-        Fault::Level => entry.level = random.skewed(2..=255) as u8,
+        Fault::Level => entry.level = unlawful_level(random),
         Fault::NodeCount => {
             entry.nodes = outside(random, NODES);
             if entry.nodes == 0 {
@@ -204,7 +202,7 @@ pub fn unsound(random: &mut Random, fault: Fault) -> State {
             entry.preceding[v][bit] = true;
         }
         Fault::Deadline => {
-            entry.deadline = *random.pick(&[0, 10_001, 65_536, u32::MAX, far.max(10_001)]);
+            entry.deadline = beyond(random, entry.level);
             entry.virtual_deadline = entry.virtual_deadline.min(entry.deadline);
             entry.age = entry.age.min(entry.deadline);
         }
@@ -233,11 +231,22 @@ pub fn unsound(random: &mut Random, fault: Fault) -> State {
     state
 }
 
-/// Sixteen sound entries for so many processors.
-fn sound_entries(random: &mut Random, processors: u8) -> Vec<Entry> {
-    let typical = shares(random, processors.into(), ENTRIES);
-    let critical = shares(random, processors.into(), ENTRIES);
-    (0..ENTRIES).map(|i| entry(random, typical[i], critical[i])).collect()
+/// So many sound entries for so many processors, in the forms of one sheet.
+fn sound_entries(random: &mut Random, processors: usize, count: usize) -> Vec<Entry> {
+    let typical = shares(random, processors, count);
+    let critical = shares(random, processors, count);
+    let forms = forms(random);
+    let of_task = |i: usize| {
+        let form = *random.pick(forms);
+        entry(random, form, typical[i], critical[i])
+    };
+    (0..count).map(of_task).collect()
+}
+
+/// A level that is none, near those that are.
+fn unlawful_level(random: &mut Random) -> u8 {
+    let any = random.within(34..=255) as u8;
+    *random.pick(&[2, 3, 15, 18, 32, 33, 255, any])
 }
 
 /// 0, or more than the most.
@@ -247,6 +256,14 @@ fn outside(random: &mut Random, most: usize) -> u8 {
     } else {
         random.skewed(most + 1..=255) as u8
     }
+}
+
+/// 0, or more than the limit of a lawful level.
+fn beyond(random: &mut Random, level: u8) -> u32 {
+    let limit = of_level_byte(level).map_or(0, |(_, form)| form.limit());
+    let lawful_in_two_bytes = limit.next_multiple_of(65_536) + 1;
+    let any = random.within(limit as usize + 1..=u32::MAX as usize) as u32;
+    *random.pick(&[0, limit + 1, lawful_in_two_bytes, u32::MAX, any])
 }
 
 fn above(random: &mut Random, deadline: u32) -> u32 {

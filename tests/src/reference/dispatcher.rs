@@ -2,14 +2,12 @@
 //! step makes a whole state out of the one before. It shares nothing with the proved one: neither code nor definitions.
 use crate::reference::answers::{Cause, Refusal};
 use crate::reference::planner::{self, Plan};
-use crate::reference::reader::{self, Level, Sheet};
+use crate::reference::reader::{self, Form, Level, Sheet};
 
 /// The entries of a state.
 pub const ENTRIES: usize = reader::TASKS;
 /// The nodes that an entry has room for.
 pub const NODES: usize = reader::NODES;
-/// A high task's level; a low one's is 0.
-pub const HIGH: u8 = 1;
 
 /// A mark for each node.
 pub type Nodes = [bool; NODES];
@@ -37,6 +35,7 @@ pub enum Mode {
 
 #[derive(Clone, Debug, PartialEq, Eq)]
 pub struct Entry {
+    /// The byte of the level and the form.
     pub level: u8,
     /// k.
     pub nodes: u8,
@@ -128,25 +127,33 @@ impl Entry {
         }
     }
 
+    /// Whether its level is high, in either form.
+    pub fn is_high(&self) -> bool {
+        matches!(reader::of_level_byte(self.level), Some((Level::High, _)))
+    }
+
     /// Whether it is a low task that the critical state keeps.
     pub fn is_kept(&self) -> bool {
-        self.level != HIGH && self.critical > 0
+        !self.is_high() && self.critical > 0
     }
 
     /// Whether a switch leaves its job, and the critical state takes its releases.
     pub fn stays(&self) -> bool {
-        self.level == HIGH || self.is_kept()
+        self.is_high() || self.is_kept()
     }
 
+    /// All ways in which the entry is not sound. D has a limit where the level is lawful.
     fn faults(&self) -> Vec<Fault> {
+        let form = reader::of_level_byte(self.level).map(|(_, form)| form);
+        let limit = form.map_or(u32::MAX, Form::limit);
         let k = usize::from(self.nodes);
         let forward = self.own().any(|v| self.preceding[v][v..].contains(&true));
         let all_ended = k <= NODES && self.all_ended();
         let tests = [
-            (Fault::Level, self.level > HIGH),
+            (Fault::Level, form.is_none()),
             (Fault::NodeCount, !(1..=NODES).contains(&k)),
             (Fault::Mask, forward),
-            (Fault::Deadline, !(1..=10_000).contains(&self.deadline)),
+            (Fault::Deadline, !(1..=limit).contains(&self.deadline)),
             (Fault::VirtualDeadline, self.virtual_deadline > self.deadline),
             (Fault::Age, self.age > self.deadline),
             (Fault::EndedNode, self.ended.iter().skip(k).any(|&ended| ended)),
@@ -167,13 +174,13 @@ impl State {
         let mut state = State { processors: sheet.processors, count: sheet.tasks.len() as u8, ..State::zero() };
         for ((entry, task), planned) in state.entries.iter_mut().zip(&sheet.tasks).zip(&plan.tasks) {
             *entry = Entry {
-                level: if task.level == Level::High { HIGH } else { 0 },
+                level: reader::level_byte(task.level, task.form),
                 nodes: task.masks.len() as u8,
                 typical: planned.shares.typical as u8,
                 critical: planned.shares.critical as u8,
-                deadline: task.figures.d.into(),
-                virtual_deadline: planned.virtual_deadline.into(),
-                age: task.figures.d.into(),
+                deadline: task.figures.d,
+                virtual_deadline: planned.virtual_deadline,
+                age: task.figures.d,
                 ..Entry::ZERO
             };
             for (preceding, &mask) in entry.preceding.iter_mut().zip(&task.masks) {
@@ -253,7 +260,7 @@ impl State {
             entry.alive = entry.alive && !entry.all_ended();
             entry.age = entry.deadline.min(entry.age + 1);
         }
-        let late = |entry: &Entry| entry.alive && entry.level == HIGH && entry.age >= entry.virtual_deadline;
+        let late = |entry: &Entry| entry.alive && entry.is_high() && entry.age >= entry.virtual_deadline;
         let switched = match self.mode {
             Mode::Typical => state.own().iter().position(late),
             Mode::Critical => None,

@@ -3,7 +3,7 @@
 //! as a set of edges, and lengthens chains along them until none gets longer. It shares nothing with the proved one:
 //! neither code nor method.
 use crate::reference::answers::{Cause, Refusal, Reply};
-use crate::reference::reader::{Figures, Level, Task, NODES};
+use crate::reference::reader::{Figures, Form, Level, Task, NODES};
 use std::collections::BTreeSet;
 
 /// What an import asks for beside the text, right or wrong.
@@ -54,7 +54,7 @@ pub fn import(text: &[u8], terms: Terms, room: usize) -> Result<Imported, Refusa
     let figures = figures(terms.deadline, &nominal, &overload, &edges).ok_or(Refusal::whole(Cause::Outside))?;
     let level = if terms.level == 0 { Level::Low } else { Level::High };
     let masks = masks(nominal.len(), &edges);
-    Ok(Imported { task: Task { level, figures, masks }, nominal, overload })
+    Ok(Imported { task: Task { level, form: Form::Narrow, figures, masks }, nominal, overload })
 }
 
 /// The call Import: its answer, and the buffer after it.
@@ -72,9 +72,9 @@ pub fn import_into(text: &[u8], terms: Terms, buffer: &[u8]) -> (Reply, Vec<u8>)
 impl Imported {
     /// The record: level, k, D, CN, CO, LN, LO, and the masks.
     pub fn record(&self) -> Vec<u8> {
-        let Task { level, figures: Figures { d, cn, co, ln, lo }, masks } = &self.task;
+        let Task { level, figures: Figures { d, cn, co, ln, lo }, masks, .. } = &self.task;
         let mut record = vec![u8::from(*level == Level::High), masks.len() as u8];
-        record.extend([d, cn, co, ln, lo].into_iter().flat_map(|figure| figure.to_le_bytes()));
+        record.extend([d, cn, co, ln, lo].into_iter().flat_map(|figure| (*figure as u16).to_le_bytes()));
         record.extend(masks.iter().flat_map(|mask| mask.to_le_bytes()));
         record
     }
@@ -161,7 +161,7 @@ fn masks(nodes: usize, edges: &BTreeSet<Edge>) -> Vec<u32> {
 /// The figures, where each is from 1 to 10,000.
 fn figures(deadline: u32, nominal: &[u32], overload: &[u32], edges: &BTreeSet<Edge>) -> Option<Figures> {
     let work = |times: &[u32]| times.iter().sum();
-    let figure = |figure: u32| (1..=10_000).contains(&figure).then_some(figure as u16);
+    let figure = |figure: u32| (1..=10_000).contains(&figure).then_some(figure);
     Some(Figures {
         d: figure(deadline)?,
         cn: figure(work(nominal))?,
@@ -205,7 +205,7 @@ mod tests {
         assert_eq!(imported.nominal, [3, 4, 5]);
         assert_eq!(imported.overload, [5, 6, 8]);
         let figures = Figures { d: 12, cn: 12, co: 19, ln: 9, lo: 14 };
-        assert_eq!(imported.task, Task { level: Level::High, figures, masks: vec![0, 0, 3] });
+        assert_eq!(imported.task, Task { level: Level::High, form: Form::Narrow, figures, masks: vec![0, 0, 3] });
         let record = [1, 3, 12, 0, 12, 0, 19, 0, 9, 0, 14, 0, 0, 0, 0, 0, 0, 0, 0, 0, 3, 0, 0, 0];
         assert_eq!(imported.record(), record);
         assert_eq!(import_into(THREE, HIGH, &[7; 26]), (Reply::Done, [&record[..], &[7, 7]].concat()));
@@ -249,8 +249,8 @@ mod tests {
             let text = in_lines(&random_graph(&mut random, nodes, 80));
             let Imported { task, nominal, overload } = import(&text, HIGH, 52).unwrap();
             let longest = |times: &[u32]| (0..nodes).map(|v| longest_from(times, &task.masks, v)).max();
-            assert_eq!(longest(&nominal), Some(task.figures.ln.into()));
-            assert_eq!(longest(&overload), Some(task.figures.lo.into()));
+            assert_eq!(longest(&nominal), Some(task.figures.ln));
+            assert_eq!(longest(&overload), Some(task.figures.lo));
         }
     }
 }

@@ -18,7 +18,7 @@ pub struct Pair {
 pub struct Planned {
     pub shares: Pair,
     /// V.
-    pub virtual_deadline: u16,
+    pub virtual_deadline: u32,
     /// What is left of CN − LN where V is rounded down.
     pub remainder: u8,
 }
@@ -34,7 +34,7 @@ pub struct Plan {
 }
 
 /// The bytes of a plan, for each task.
-pub const TASK_BYTES: usize = 7;
+pub const TASK_BYTES: usize = 9;
 /// The bytes that the printer takes as the sheet.
 pub const PRINTER_INPUT: usize = 4_096;
 
@@ -139,7 +139,7 @@ pub fn printed(input: &[u8]) -> String {
 }
 
 impl Plan {
-    /// The 7n bytes: n typical pairs (offset, length), n critical pairs, n V, n remainders.
+    /// The 9n bytes: n typical pairs (offset, length), n critical pairs, n V of four bytes, n remainders.
     pub fn bytes(&self) -> Vec<u8> {
         let block = |(offset, length): (usize, usize)| [offset as u8, length as u8];
         let typical = self.typical_blocks().into_iter().flat_map(block);
@@ -194,7 +194,7 @@ pub fn options(task: &Task, most: usize) -> Vec<Pair> {
 
 /// A low task's share: (CN − LN) / (D − LN) rounded up, none where LN ≥ D.
 fn low_share(figures: Figures) -> Option<usize> {
-    let [d, cn, ln] = [figures.d, figures.cn, figures.ln].map(usize::from);
+    let [d, cn, ln] = [figures.d, figures.cn, figures.ln].map(|figure| figure as usize);
     (ln < d).then(|| (cn - ln).div_ceil(d - ln))
 }
 
@@ -217,19 +217,21 @@ pub fn least_deadline(figures: Figures, Pair { typical, critical }: Pair) -> usi
     ((needed + a * b - 1) / (a * b)) as usize
 }
 
-/// V and the remainder: LN, and a tick for each time that a can be taken off CN − LN; then less than a is left. A low
-/// task has 0 and 0.
-fn rounded(task: &Task, typical: usize) -> (u16, u8) {
+/// V and the remainder: LN, and a tick for each time that a can be taken off CN − LN, by so many times at once as a
+/// power of two says; then less than a is left. A low task has 0 and 0.
+fn rounded(task: &Task, typical: usize) -> (u32, u8) {
     if task.level == Level::Low {
         return (0, 0);
     }
     let Figures { cn, ln, .. } = task.figures;
-    let (mut ticks, mut left) = (ln, usize::from(cn - ln));
-    while left >= typical {
-        ticks += 1;
-        left -= typical;
+    let (mut ticks, mut left) = (ln as usize, (cn - ln) as usize);
+    for times in (0..20).rev().map(|power| 1 << power) {
+        while left >= times * typical {
+            ticks += times;
+            left -= times * typical;
+        }
     }
-    (ticks, left as u8)
+    (ticks as u32, left as u8)
 }
 
 /// The least critical total of all choices whose typical total is at most M, however large it is; none where no choice has
@@ -305,17 +307,18 @@ mod tests {
     use crate::makers::random::Random;
     use crate::makers::sheets::{Draft, CASE_14};
     use crate::makers::tight;
+    use crate::reference::reader::Form;
 
     const A: Figures = Figures { d: 45, cn: 9, co: 52, ln: 4, lo: 20 };
     const B: Figures = Figures { d: 54, cn: 11, co: 80, ln: 4, lo: 42 };
     const E: Figures = Figures { d: 18, cn: 66, co: 66, ln: 6, lo: 6 };
 
     fn high(figures: Figures) -> Task {
-        Task { level: Level::High, figures, masks: vec![0] }
+        Task { level: Level::High, form: Form::Narrow, figures, masks: vec![0] }
     }
 
     fn low(figures: Figures) -> Task {
-        Task { level: Level::Low, figures, masks: vec![0] }
+        Task { level: Level::Low, form: Form::Narrow, figures, masks: vec![0] }
     }
 
     fn planned(processors: u8, tasks: &[Task]) -> Result<Vec<u8>, Refusal> {
@@ -364,9 +367,22 @@ mod tests {
     }
 
     #[test]
+    fn v_of_wide_tasks() {
+        let figures = Figures { d: 400_000, cn: 700_009, co: 900_000, ln: 50_000, lo: 100_000 };
+        let task = Task { form: Form::Wide, ..high(figures) };
+        assert_eq!(
+            [1, 10, 13, 64].map(|a| rounded(&task, a)),
+            [(700_009, 0), (115_000, 9), (100_000, 9), (60_156, 25)]
+        );
+        let of_two = Figures { d: 100_000, cn: 133_948, co: 133_948, ln: 66_051, lo: 66_051 };
+        let bytes = planned(2, &[Task { form: Form::Wide, ..high(of_two) }]);
+        assert_eq!(bytes, Ok(vec![0, 2, 0, 2, 0x9f, 0x86, 1, 0, 1]), "V is 99,999");
+    }
+
+    #[test]
     fn case_11() {
         let tasks = [high(A), high(B)];
-        let bytes = vec![0, 1, 1, 3, 0, 2, 2, 4, 9, 0, 6, 0, 0, 1];
+        let bytes = vec![0, 1, 1, 3, 0, 2, 2, 4, 9, 0, 0, 0, 6, 0, 0, 0, 0, 1];
         assert_eq!(planned(8, &tasks), Ok(bytes.clone()));
         assert_eq!(planned(6, &tasks), Ok(bytes));
         assert_eq!(planned(5, &tasks), Err(Refusal::whole(Cause::NoFit)));
@@ -387,21 +403,21 @@ mod tests {
 
     #[test]
     fn the_buffer_keeps_its_later_bytes_and_all_where_refused() {
-        let plan = [0, 1, 1, 2, 3, 5, 0, 2, 2, 6, 8, 0, 9, 0, 7, 0, 0, 0, 0, 1, 0];
-        assert_eq!(plan_into(&CASE_14, &[7; 23]), (Reply::Done, [&plan[..], &[7, 7]].concat()));
-        assert_eq!(plan_into(&CASE_14, &[7; 21]), (Reply::Done, plan.to_vec()));
-        assert_eq!(plan_into(&CASE_14, &[7; 20]), (Reply::Refused(9, 255), vec![7; 20]));
-        assert_eq!(plan_into(&CASE_14[..61], &[7; 20]), (Reply::Refused(2, 2), vec![7; 20]));
+        let plan = [0, 1, 1, 2, 3, 5, 0, 2, 2, 6, 8, 0, 9, 0, 0, 0, 7, 0, 0, 0, 0, 0, 0, 0, 0, 1, 0];
+        assert_eq!(plan_into(&CASE_14, &[7; 29]), (Reply::Done, [&plan[..], &[7, 7]].concat()));
+        assert_eq!(plan_into(&CASE_14, &[7; 27]), (Reply::Done, plan.to_vec()));
+        assert_eq!(plan_into(&CASE_14, &[7; 26]), (Reply::Refused(9, 255), vec![7; 26]));
+        assert_eq!(plan_into(&CASE_14[..61], &[7; 26]), (Reply::Refused(2, 2), vec![7; 26]));
     }
 
     #[test]
     fn a_low_task_needs_room_for_its_span() {
         let with = |d, l| low(Figures { d, cn: 66, co: 66, ln: l, lo: l });
-        assert_eq!(planned(64, &[with(18, 17)]), Ok(vec![0, 49, 0, 49, 0, 0, 0]));
+        assert_eq!(planned(64, &[with(18, 17)]), Ok(vec![0, 49, 0, 49, 0, 0, 0, 0, 0]));
         for task in [with(18, 18), with(18, 19)] {
             assert_eq!(planned(64, &[high(A), task]), Err(Refusal::of(Cause::NoShare, 1)));
         }
-        assert_eq!(planned(49, &[with(18, 17)]), Ok(vec![0, 49, 0, 49, 0, 0, 0]));
+        assert_eq!(planned(49, &[with(18, 17)]), Ok(vec![0, 49, 0, 49, 0, 0, 0, 0, 0]));
         assert_eq!(planned(48, &[with(18, 17)]), Err(Refusal::of(Cause::NoShare, 0)));
     }
 
@@ -483,10 +499,11 @@ mod tests {
         let f = low(Figures { cn: 30, co: 30, ..E });
         let (a, e) = (high(A), low(E));
         let two = [a.clone(), e.clone()];
-        assert_eq!(planned(8, &two), Ok(vec![0, 1, 1, 5, 0, 2, 2, 5, 9, 0, 0, 0, 0, 0]), "6 are left over");
-        assert_eq!(planned(7, &two), Ok(vec![0, 1, 1, 5, 0, 2, 2, 5, 9, 0, 0, 0, 0, 0]), "just 5");
-        assert_eq!(planned(6, &two), Ok(vec![0, 1, 1, 5, 0, 2, 2, 0, 9, 0, 0, 0, 0, 0]), "4");
-        let three = vec![0, 5, 5, 1, 6, 2, 0, 0, 0, 2, 2, 2, 0, 0, 9, 0, 0, 0, 0, 0, 0];
+        let of_two = |e: u8| [&[0, 1, 1, 5, 0, 2, 2, e, 9][..], &[0; 9]].concat();
+        assert_eq!(planned(8, &two), Ok(of_two(5)), "6 are left over");
+        assert_eq!(planned(7, &two), Ok(of_two(5)), "just 5");
+        assert_eq!(planned(6, &two), Ok(of_two(0)), "4");
+        let three = [&[0, 5, 5, 1, 6, 2, 0, 0, 0, 2, 2, 2, 0, 0, 0, 0, 9][..], &[0; 10]].concat();
         assert_eq!(planned(8, &[e, a, f]), Ok(three), "of 5 and 2 processors the 2");
     }
 
@@ -511,13 +528,11 @@ mod tests {
     fn the_least_deadline_is_the_least() {
         let mut random = Random::of_test("least deadline");
         for _ in 0..5_000 {
-            let task = tight::task(&mut random, 12);
+            let task = tight::task(&mut random, 12, &[Form::Narrow, Form::Wide]);
             let pair = Pair { typical: random.within(1..=8), critical: random.within(8..=12) };
             let least = least_deadline(task.figures, pair);
             let with = |d| passes(Figures { d, ..task.figures }, pair);
-            if (1..=65_535).contains(&least) {
-                assert!(with(least as u16) && !with(least as u16 - 1));
-            }
+            assert!(with(least as u32) && !with(least as u32 - 1));
         }
     }
 

@@ -17,6 +17,8 @@ pub struct Sheet {
 #[derive(Clone, Debug, PartialEq, Eq)]
 pub struct Task {
     pub level: Level,
+    /// The form of its record.
+    pub form: Form,
     pub figures: Figures,
     /// The mask of each node; there are k.
     pub masks: Vec<u32>,
@@ -28,14 +30,65 @@ pub enum Level {
     High,
 }
 
+/// How the figures of a record are written, and how large they may be.
+#[derive(Clone, Copy, Debug, PartialEq, Eq)]
+pub enum Form {
+    Narrow,
+    Wide,
+}
+
+impl Form {
+    /// The bytes of a figure.
+    pub const fn width(self) -> usize {
+        match self {
+            Form::Narrow => 2,
+            Form::Wide => 4,
+        }
+    }
+
+    /// The largest figure.
+    pub const fn limit(self) -> u32 {
+        match self {
+            Form::Narrow => 10_000,
+            Form::Wide => 1_000_000,
+        }
+    }
+
+    /// The bytes of a record before its masks: level, k and the five figures.
+    pub const fn head(self) -> usize {
+        2 + 5 * self.width()
+    }
+}
+
+/// The byte of a level in a form.
+pub fn level_byte(level: Level, form: Form) -> u8 {
+    match (level, form) {
+        (Level::Low, Form::Narrow) => 0,
+        (Level::High, Form::Narrow) => 1,
+        (Level::Low, Form::Wide) => 16,
+        (Level::High, Form::Wide) => 17,
+    }
+}
+
+/// The level and the form that a byte says, where it says any.
+pub fn of_level_byte(byte: u8) -> Option<(Level, Form)> {
+    match byte {
+        0 => Some((Level::Low, Form::Narrow)),
+        1 => Some((Level::High, Form::Narrow)),
+        16 => Some((Level::Low, Form::Wide)),
+        17 => Some((Level::High, Form::Wide)),
+        _ => None,
+    }
+}
+
 /// The figures in the record's order: D, CN, CO, LN, LO.
 #[derive(Clone, Copy, Debug, PartialEq, Eq)]
 pub struct Figures {
-    pub d: u16,
-    pub cn: u16,
-    pub co: u16,
-    pub ln: u16,
-    pub lo: u16,
+    pub d: u32,
+    pub cn: u32,
+    pub co: u32,
+    pub ln: u32,
+    pub lo: u32,
 }
 
 /// An entry of the directory.
@@ -58,8 +111,8 @@ pub fn read(sheet: &[u8]) -> Result<Sheet, Refusal> {
 /// M and the directory, where both ranges hold and the directory is whole.
 fn header(sheet: &[u8]) -> Option<(u8, Vec<Pair>)> {
     let [processors @ 1..=64, count @ 1..=16, rest @ ..] = sheet else { return None };
-    let directory: Vec<u16> = u16s(rest.get(..4 * usize::from(*count))?).collect();
-    let pairs = directory.chunks_exact(2).map(|p| Pair { offset: p[0].into(), length: p[1].into() });
+    let directory: Vec<u32> = numbers(rest.get(..4 * usize::from(*count))?, 2).collect();
+    let pairs = directory.chunks_exact(2).map(|p| Pair { offset: p[0] as usize, length: p[1] as usize });
     Some((*processors, pairs.collect()))
 }
 
@@ -79,30 +132,31 @@ fn records<'a>(sheet: &'a [u8], pairs: &[Pair]) -> Result<Vec<&'a [u8]>, Refusal
 }
 
 fn task(record: &[u8]) -> Result<Task, Cause> {
-    let [level @ 0..=1, k @ 1..=32, body @ ..] = record else { return Err(Cause::Record) };
-    let level = if *level == 0 { Level::Low } else { Level::High };
-    if record.len() != 12 + 4 * usize::from(*k) {
+    let [level, k @ 1..=32, body @ ..] = record else { return Err(Cause::Record) };
+    let (level, form) = of_level_byte(*level).ok_or(Cause::Record)?;
+    if record.len() != form.head() + 4 * usize::from(*k) {
         return Err(Cause::Record);
     }
-    let (head, tail) = body.split_at(10);
-    let masks: Vec<u32> = tail.chunks_exact(4).map(|b| u32::from_le_bytes([b[0], b[1], b[2], b[3]])).collect();
-    let head: Vec<u16> = u16s(head).collect();
+    let (head, tail) = body.split_at(5 * form.width());
+    let masks: Vec<u32> = numbers(tail, 4).collect();
+    let head: Vec<u32> = numbers(head, form.width()).collect();
     let figures = Figures { d: head[0], cn: head[1], co: head[2], ln: head[3], lo: head[4] };
-    if !keeps_rules(level, figures) {
+    if !keeps_rules(level, form, figures) {
         Err(Cause::Figures)
     } else if masks.iter().enumerate().any(|(v, mask)| (v..32).any(|bit| mask & (1 << bit) != 0)) {
         Err(Cause::Mask)
     } else if figures.co <= figures.d {
         Err(Cause::NotHeavy)
     } else {
-        Ok(Task { level, figures, masks })
+        Ok(Task { level, form, figures, masks })
     }
 }
 
 /// The rules of the figures, over the integers.
-fn keeps_rules(level: Level, figures: Figures) -> bool {
-    let [d, cn, co, ln, lo] = [figures.d, figures.cn, figures.co, figures.ln, figures.lo].map(i32::from);
-    [d, cn, co, ln, lo].iter().all(|figure| (1..=10_000).contains(figure))
+fn keeps_rules(level: Level, form: Form, figures: Figures) -> bool {
+    let range = 1..=i64::from(form.limit());
+    let [d, cn, co, ln, lo] = [figures.d, figures.cn, figures.co, figures.ln, figures.lo].map(i64::from);
+    [d, cn, co, ln, lo].iter().all(|figure| range.contains(figure))
         && ln <= cn
         && lo <= co
         && cn <= co
@@ -111,9 +165,10 @@ fn keeps_rules(level: Level, figures: Figures) -> bool {
         && (level == Level::High || (cn == co && ln == lo))
 }
 
-/// The little-endian numbers of two bytes each.
-fn u16s(bytes: &[u8]) -> impl Iterator<Item = u16> + '_ {
-    bytes.chunks_exact(2).map(|b| u16::from_le_bytes([b[0], b[1]]))
+/// The numbers of so many bytes each, the lowest byte first.
+pub fn numbers(bytes: &[u8], width: usize) -> impl Iterator<Item = u32> + '_ {
+    let number = |bytes: &[u8]| bytes.iter().rev().fold(0, |number, &byte| 256 * number + u32::from(byte));
+    bytes.chunks_exact(width).map(number)
 }
 
 #[cfg(test)]
@@ -134,7 +189,7 @@ mod tests {
 
     #[test]
     fn case_14_is_read() {
-        let one = |level, figures| Task { level, figures, masks: vec![0] };
+        let one = |level, figures| Task { level, form: Form::Narrow, figures, masks: vec![0] };
         let a = one(Level::High, Figures { d: 45, cn: 9, co: 52, ln: 4, lo: 20 });
         let b = one(Level::High, Figures { d: 54, cn: 11, co: 80, ln: 4, lo: 42 });
         let e = one(Level::Low, Figures { d: 18, cn: 66, co: 66, ln: 6, lo: 6 });
@@ -174,7 +229,7 @@ mod tests {
     #[test]
     fn row_3_is_level_k_or_length() {
         for (task, start) in [(0, 14), (1, 30), (2, 46)] {
-            for (at, value) in [(0, 2), (0, 255), (1, 0), (1, 2), (1, 33)] {
+            for (at, value) in [(0, 2), (0, 15), (0, 16), (0, 17), (0, 18), (0, 255), (1, 0), (1, 2), (1, 33)] {
                 assert_eq!(edited(start + at, &[value]), refused(Cause::Record, task), "{value} at {start} + {at}");
             }
         }
@@ -209,6 +264,28 @@ mod tests {
         }
         assert_eq!(edited(50, &[65]), refused(Cause::Figures, 2), "a low task has CN = CO");
         assert_eq!(edited(54, &[5]), refused(Cause::Figures, 2), "a low task has LN = LO");
+    }
+
+    /// A in the wide form, with one node.
+    fn wide(level: u8, figures: [u32; 5]) -> Result<Sheet, Refusal> {
+        let figures = figures.into_iter().flat_map(u32::to_le_bytes);
+        let record = [level, 1].into_iter().chain(figures).chain([0; 4]);
+        read(&[8, 1, 6, 0, 26, 0].into_iter().chain(record).collect::<Vec<u8>>())
+    }
+
+    #[test]
+    fn the_wide_form_has_figures_of_four_bytes() {
+        let figures = Figures { d: 400_000, cn: 70_000, co: 0x0007_0605, ln: 4, lo: 20 };
+        let task = Task { level: Level::High, form: Form::Wide, figures, masks: vec![0] };
+        let of_a = [400_000, 70_000, 0x0007_0605, 4, 20];
+        assert_eq!(wide(17, of_a), Ok(Sheet { processors: 8, tasks: vec![task] }));
+        assert_eq!(wide(16, of_a), refused(Cause::Figures, 0), "a low task has CN = CO");
+        for level in [0, 1, 2, 15, 18, 32, 33] {
+            assert_eq!(wide(level, of_a), refused(Cause::Record, 0), "level {level}");
+        }
+        assert!(wide(16, [999_999, 1_000_000, 1_000_000, 1_000_000, 1_000_000]).is_ok());
+        assert_eq!(wide(17, [1, 1, 1_000_001, 1, 1]), refused(Cause::Figures, 0));
+        assert_eq!(wide(17, [1_000_000, 1, 1_000_000, 1, 1]), refused(Cause::NotHeavy, 0));
     }
 
     #[test]
