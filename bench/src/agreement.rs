@@ -6,9 +6,9 @@ use dibwunek_tests::harness::proved::calls as proved;
 use dibwunek_tests::reference::planner::TASK_BYTES;
 
 /// What a byte or a word is changed to.
-const VALUES: [u8; 5] = [0, 1, 33, 65, 255];
+const VALUES: [u8; 7] = [0, 1, 16, 17, 33, 65, 255];
 const BYTES: [u8; 8] = *b"0159 \n#-";
-const WORDS: [u32; 8] = [0, 1, 2, 33, 65, 255, 256, u32::MAX];
+const WORDS: [u32; 12] = [0, 1, 2, 16, 17, 33, 65, 255, 256, 10_001, 1_000_001, u32::MAX];
 /// A byte and a word of what is written before a call, so that one that must stay is seen to stay.
 const BEFORE: u8 = 170;
 const WORD_BEFORE: u32 = 0xaaaa_aaaa;
@@ -89,20 +89,20 @@ pub fn check(inputs: &[Input]) {
             [&input.fresh, &input.alive, &input.late].into_iter().for_each(|line| states_agree(input, line));
         }
     }
-    for input in named(inputs, &["small", "low"]) {
+    for input in named(inputs, &["small", "low", "wide-full"]) {
         changed(&input.sheet, &VALUES, |sheet| sheets_agree(input, sheet));
-    }
-    for input in named(inputs, &["small", "full", "low"]) {
         changed(&input.alive, &WORDS, |line| states_agree(input, line));
     }
 }
 
 /// The terms that are measured, and each of them wrong or at an end of its range.
-const TERMS: [(u32, u32, u32); 9] = [
+const TERMS: [(u32, u32, u32); 11] = [
     (LEVEL, DEADLINE, PERCENTAGE),
     (0, DEADLINE, 100),
     (0, DEADLINE, 101),
     (2, DEADLINE, PERCENTAGE),
+    (16, DEADLINE, 100),
+    (17, DEADLINE, PERCENTAGE),
     (LEVEL, 0, PERCENTAGE),
     (LEVEL, 10_001, PERCENTAGE),
     (LEVEL, DEADLINE, 99),

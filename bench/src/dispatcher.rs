@@ -1,8 +1,7 @@
 //! The dispatcher in plain Rust, written from the specification: the state goes in by value and comes back by value.
 use crate::planner::{choose, virtual_deadline, Share};
-use crate::sheet::{masks_lawful, read, refusal, Answer, Refusal};
+use crate::sheet::{is_high, level_lawful, limit, masks_lawful, read, refusal, Answer, Refusal};
 use dibwunek_tests::reference::answers::NO_TASK;
-use dibwunek_tests::reference::dispatcher::HIGH;
 use dibwunek_tests::reference::reader::{NODES, TASKS};
 
 #[derive(Clone, Copy, Default)]
@@ -69,10 +68,10 @@ impl TaskState {
     }
 
     fn is_sound(&self) -> bool {
-        self.level <= 1
+        level_lawful(self.level)
             && (1..=32).contains(&self.nodes)
             && masks_lawful(self.masks())
-            && (1..=10_000).contains(&self.deadline)
+            && (1..=limit(self.level)).contains(&self.deadline)
             && self.virtual_deadline <= self.deadline
             && self.age <= self.deadline
             && self.ended <= full(self.nodes)
@@ -104,11 +103,11 @@ impl TaskState {
 
     /// Whether the critical mode has processors for it: a high task, or a low one that is kept.
     fn stays(&self) -> bool {
-        self.level == HIGH || self.share.critical > 0
+        is_high(self.level) || self.share.critical > 0
     }
 
     fn is_late(&self) -> bool {
-        self.level == HIGH && self.alive && self.age >= self.virtual_deadline
+        is_high(self.level) && self.alive && self.age >= self.virtual_deadline
     }
 }
 

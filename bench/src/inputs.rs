@@ -2,9 +2,9 @@
 use dibwunek_tests::harness::boundary::to_words;
 use dibwunek_tests::makers::graphs::{Entry, Graph};
 use dibwunek_tests::makers::sheets::{Draft, CASE_14};
-use dibwunek_tests::reference::dispatcher::{start, State, HIGH};
+use dibwunek_tests::reference::dispatcher::{start, State};
 use dibwunek_tests::reference::import::HEAD;
-use dibwunek_tests::reference::reader::{Figures, Level, Sheet, Task};
+use dibwunek_tests::reference::reader::{Figures, Form, Level, Sheet, Task};
 
 /// A sheet and what follows from it.
 pub struct Input {
@@ -30,12 +30,23 @@ pub struct Input {
     pub ticks: u32,
 }
 
-/// n high tasks of k nodes on m processors. A typical share below `share` passes with no critical share, so the search
-/// for one runs to the end; `share` and all above pass with themselves. With X = CN − LN, w and Y = D − LO, a = b passes
-/// from (X + w) / Y = `share` on, and below it X exceeds Y·a.
-fn high_tasks(m: u8, n: u8, k: u8, share: u16) -> Vec<u8> {
+/// A high task of k nodes. A typical share below `share` passes with no critical share, so the search for one runs to the
+/// end; `share` and all above pass with themselves. With X = CN − LN, w and Y = D − LO, a = b passes from (X + w) / Y =
+/// `share` on, and below it X exceeds Y·a.
+fn high_task(k: u8, share: u32) -> Task {
     let figures = Figures { d: 150, cn: 100 * share - 40, co: 100 * share + 50, ln: 10, lo: 50 };
-    let task = Task { level: Level::High, figures, masks: (0..k).map(mask).collect() };
+    Task { level: Level::High, form: Form::Narrow, figures, masks: (0..k).map(mask).collect() }
+}
+
+/// The task in the wide form, with figures so many times as large: the same pairs pass.
+fn wide(task: Task, times: u32) -> Task {
+    let Figures { d, cn, co, ln, lo } = task.figures;
+    let [d, cn, co, ln, lo] = [d, cn, co, ln, lo].map(|figure| times * figure);
+    Task { form: Form::Wide, figures: Figures { d, cn, co, ln, lo }, ..task }
+}
+
+/// n such tasks on m processors.
+fn alike(m: u8, n: u8, task: Task) -> Vec<u8> {
     Draft::of(&Sheet { processors: m, tasks: vec![task; n.into()] }).bytes()
 }
 
@@ -43,8 +54,8 @@ fn high_tasks(m: u8, n: u8, k: u8, share: u16) -> Vec<u8> {
 /// shares 5, 4, 3, 2 in turn. In the critical mode 30 processors are left over, just enough for those with 2 and 3 and
 /// three of the four with 4.
 fn low_tasks() -> Vec<u8> {
-    let task = |level, figures| Task { level, figures, masks: (0..32).map(mask).collect() };
-    let low = |share: u16| {
+    let task = |level, figures| Task { level, form: Form::Narrow, figures, masks: (0..32).map(mask).collect() };
+    let low = |share: u32| {
         let c = 10 + 140 * share;
         task(Level::Low, Figures { d: 150, cn: c, co: c, ln: 10, lo: 10 })
     };
@@ -70,7 +81,7 @@ fn input(name: String, sheet: Vec<u8>) -> Input {
     let alive = (0..count).fold(fresh.clone(), |state, task| state.release(task).unwrap_or(state));
     let mut late = alive.clone();
     let mut ticks = 64;
-    for entry in late.entries.iter_mut().filter(|entry| entry.level == HIGH) {
+    for entry in late.entries.iter_mut().filter(|entry| entry.is_high()) {
         entry.age = entry.virtual_deadline - 1;
         ticks = ticks.min(entry.age);
     }
@@ -91,16 +102,19 @@ fn input(name: String, sheet: Vec<u8>) -> Input {
 }
 
 fn grown(m: u8, n: u8, k: u8) -> Input {
-    let input = input(format!("M {m}, n {n}, k {k}"), high_tasks(m, n, k, u16::from(m / n)));
+    let input = input(format!("M {m}, n {n}, k {k}"), alike(m, n, high_task(k, u32::from(m / n))));
     Input { growth: true, ..input }
 }
 
-/// The small sheet, the full one, the worst one, the one of low tasks, and growth over M, n and k.
+/// The small sheet, the full one, the worst one, both of these in the wide form, with figures near a million, the one of
+/// low tasks, and growth over M, n and k.
 pub fn all() -> Vec<Input> {
     let mut inputs = vec![
         input("small".into(), CASE_14.to_vec()),
-        input("full".into(), high_tasks(64, 16, 32, 4)),
-        input("worst".into(), high_tasks(64, 16, 32, 63)),
+        input("full".into(), alike(64, 16, high_task(32, 4))),
+        input("worst".into(), alike(64, 16, high_task(32, 63))),
+        Input { plan_only: true, ..input("wide-full".into(), alike(64, 16, wide(high_task(32, 4), 2_000))) },
+        Input { plan_only: true, ..input("wide-worst".into(), alike(64, 16, wide(high_task(32, 63), 150))) },
         Input { plan_only: true, ..input("low".into(), low_tasks()) },
     ];
     inputs.extend([8, 16, 32, 64].map(|m| grown(m, 4, 32)));

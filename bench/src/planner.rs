@@ -1,7 +1,6 @@
 //! The planner in plain Rust, written from the specification.
-use crate::sheet::{read, refusal, Answer, Figures, Refusal, Task, TaskSet};
+use crate::sheet::{is_high, read, refusal, Answer, Figures, Refusal, Task, TaskSet};
 use dibwunek_tests::reference::answers::NO_TASK;
-use dibwunek_tests::reference::dispatcher::HIGH;
 use dibwunek_tests::reference::planner::TASK_BYTES;
 use dibwunek_tests::reference::reader::TASKS;
 
@@ -18,7 +17,7 @@ pub struct Share {
 
 fn offer(task: &Task, m: u8) -> Offer {
     let mut offer = [m + 1; 64];
-    if task.level == HIGH {
+    if is_high(task.level) {
         for a in 1..=m {
             if let Some(b) = least_critical(&task.figures, a, m) {
                 offer[usize::from(a) - 1] = b;
@@ -36,7 +35,8 @@ fn low_share(f: &Figures, m: u8) -> Option<u8> {
     (1..=u32::from(m)).contains(&share).then_some(share as u8)
 }
 
-/// The first b from a to m that passes. With figures up to 10,000 and shares up to 64 every sum is below 2^32.
+/// The first b from a to m that passes. What is needed is at most CO·a·b, so with figures up to 1,000,000 and shares up to
+/// 64 every sum is below 2^32.
 fn least_critical(f: &Figures, a: u8, m: u8) -> Option<u8> {
     let typical = u32::from(a);
     let w = (f.co - f.cn) - (f.lo - f.ln);
@@ -92,7 +92,7 @@ fn keep_low(tasks: &[Task], shares: &mut [Share], m: u8) {
     let mut left = m - shares.iter().map(|share| share.critical).sum::<u8>();
     loop {
         let rest =
-            tasks.iter().zip(shares.iter_mut()).filter(|(task, share)| task.level != HIGH && share.critical == 0);
+            tasks.iter().zip(shares.iter_mut()).filter(|(task, share)| !is_high(task.level) && share.critical == 0);
         match rest.map(|(_, share)| share).min_by_key(|share| share.typical) {
             Some(share) if share.typical <= left => {
                 share.critical = share.typical;
@@ -122,7 +122,7 @@ pub fn choose(set: &TaskSet) -> Result<[Share; TASKS], Refusal> {
 /// V and the remainder of the division behind it.
 pub fn virtual_deadline(task: &Task, a: u8) -> (u32, u8) {
     let f = &task.figures;
-    if task.level == HIGH {
+    if is_high(task.level) {
         let a = u32::from(a);
         (f.ln + (f.cn - f.ln) / a, ((f.cn - f.ln) % a) as u8)
     } else {
@@ -146,10 +146,10 @@ pub fn plan(sheet: &[u8], buffer: &mut [u8]) -> Answer {
     let shares = &shares[..n];
     write_blocks(&mut bytes[..2 * n], shares.iter().map(|share| share.typical));
     write_blocks(&mut bytes[2 * n..4 * n], shares.iter().map(|share| share.critical));
-    let (virtuals, remainders) = bytes[4 * n..].split_at_mut(2 * n);
-    for (((pair, left), task), share) in virtuals.chunks_exact_mut(2).zip(remainders).zip(set.tasks()).zip(shares) {
+    let (virtuals, remainders) = bytes[4 * n..].split_at_mut(4 * n);
+    for (((four, left), task), share) in virtuals.chunks_exact_mut(4).zip(remainders).zip(set.tasks()).zip(shares) {
         let (ticks, remainder) = virtual_deadline(task, share.typical);
-        pair.copy_from_slice(&(ticks as u16).to_le_bytes());
+        four.copy_from_slice(&ticks.to_le_bytes());
         *left = remainder;
     }
     Ok(())

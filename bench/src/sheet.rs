@@ -1,6 +1,5 @@
 //! The reader in plain Rust, written from the specification.
 use dibwunek_tests::reference::answers::NO_TASK;
-use dibwunek_tests::reference::dispatcher::HIGH;
 use dibwunek_tests::reference::reader::{NODES, TASKS};
 
 /// Number and task of a refusal, as in S9.
@@ -14,6 +13,27 @@ pub type Answer = Result<(), Refusal>;
 
 pub fn refusal(number: u8, task: usize) -> Refusal {
     Refusal { number, task: task as u8 }
+}
+
+pub fn level_lawful(level: u8) -> bool {
+    matches!(level, 0 | 1 | 16 | 17)
+}
+
+pub fn is_high(level: u8) -> bool {
+    matches!(level, 1 | 17)
+}
+
+fn is_wide(level: u8) -> bool {
+    level >= 16
+}
+
+/// The largest figure of a task of this level.
+pub fn limit(level: u8) -> u32 {
+    if is_wide(level) {
+        1_000_000
+    } else {
+        10_000
+    }
 }
 
 #[derive(Clone, Copy, Default)]
@@ -73,16 +93,19 @@ pub fn read(sheet: &[u8]) -> Result<TaskSet, Refusal> {
 }
 
 fn task(record: &[u8]) -> Result<Task, u8> {
-    let &[level @ 0..=1, nodes @ 1..=32, ref body @ ..] = record else { return Err(3) };
-    if record.len() != 12 + 4 * usize::from(nodes) {
+    let &[level @ (0 | 1 | 16 | 17), nodes @ 1..=32, ref body @ ..] = record else { return Err(3) };
+    let bytes_of_figures = if is_wide(level) { 20 } else { 10 };
+    if body.len() != bytes_of_figures + 4 * usize::from(nodes) {
         return Err(3);
     }
-    let (head, tail) = body.split_at(10);
-    let figure = |i: usize| u16_at(head, 2 * i) as u32;
-    let figures = Figures { d: figure(0), cn: figure(1), co: figure(2), ln: figure(3), lo: figure(4) };
+    let (head, tail) = body.split_at(bytes_of_figures);
+    let figures = match is_wide(level) {
+        true => Figures::of(|i| u32_at(head, 4 * i)),
+        false => Figures::of(|i| u16_at(head, 2 * i) as u32),
+    };
     let mut masks = [0; NODES];
     for (mask, bytes) in masks.iter_mut().zip(tail.chunks_exact(4)) {
-        *mask = u32::from_le_bytes([bytes[0], bytes[1], bytes[2], bytes[3]]);
+        *mask = u32_at(bytes, 0);
     }
     if !figures.keep_rules(level) {
         Err(4)
@@ -96,21 +119,31 @@ fn task(record: &[u8]) -> Result<Task, u8> {
 }
 
 impl Figures {
+    /// The five figures by their places.
+    fn of(figure: impl Fn(usize) -> u32) -> Figures {
+        Figures { d: figure(0), cn: figure(1), co: figure(2), ln: figure(3), lo: figure(4) }
+    }
+
     fn keep_rules(&self, level: u8) -> bool {
         let Figures { d, cn, co, ln, lo } = *self;
-        [d, cn, co, ln, lo].iter().all(|figure| (1..=10_000).contains(figure))
+        let limit = limit(level);
+        [d, cn, co, ln, lo].iter().all(|figure| (1..=limit).contains(figure))
             && ln <= cn
             && lo <= co
             && cn <= co
             && ln <= lo
             && co - cn >= lo - ln
-            && (level == HIGH || (cn == co && ln == lo))
+            && (is_high(level) || (cn == co && ln == lo))
     }
 }
 
 /// Whether node v's mask names nodes below v only.
 pub fn masks_lawful(masks: &[u32]) -> bool {
     masks.iter().enumerate().all(|(v, mask)| mask >> v == 0)
+}
+
+fn u32_at(bytes: &[u8], at: usize) -> u32 {
+    u32::from_le_bytes([bytes[at], bytes[at + 1], bytes[at + 2], bytes[at + 3]])
 }
 
 fn u16_at(bytes: &[u8], at: usize) -> usize {
