@@ -38,12 +38,19 @@ extern "C" {
 
 /*
  * The words of a state (S13.1): M, n, the mode (0 typical, 1 critical), then for each of 16 entries level, k, 32 masks, D, V,
- * typical share, critical share, age, ended set, alive (0 or 1). A low task is kept in critical mode if its critical share is not 0
- * (S7.4).
+ * typical share, critical share, age, ended set, alive (0 or 1). D, V and age are at most DIBWUNEK_MOST_TICKS, in an entry that is not
+ * wide DIBWUNEK_MOST_TICKS_NARROW. A low task is kept in critical mode if its critical share is not 0 (S7.4).
  */
 #define DIBWUNEK_ENTRIES 16
 #define DIBWUNEK_ENTRY_WORDS 41
 #define DIBWUNEK_STATE_WORDS (3 + DIBWUNEK_ENTRIES * DIBWUNEK_ENTRY_WORDS)
+
+/* The greatest count of ticks in a sheet and in a state (S2.9): in the wide form, and in the narrow one. */
+#define DIBWUNEK_MOST_TICKS 1000000
+#define DIBWUNEK_MOST_TICKS_NARROW 10000
+
+/* The bytes of a plan for each task (S5.5). */
+#define DIBWUNEK_PLAN_BYTES 9
 
 /* The first words of a state. */
 enum { DIBWUNEK_PROCESSORS = 0, DIBWUNEK_COUNT = 1, DIBWUNEK_MODE = 2 };
@@ -61,6 +68,11 @@ enum {
     DIBWUNEK_ENDED = 39,
     DIBWUNEK_ALIVE = 40
 };
+
+/* The level of an entry is that of the sheet's record (S2.6): low or high, in the narrow or in the wide form. */
+enum { DIBWUNEK_LOW = 0, DIBWUNEK_HIGH = 1, DIBWUNEK_LOW_WIDE = 16, DIBWUNEK_HIGH_WIDE = 17 };
+
+static inline int dibwunek_is_high(uint32_t level) { return level == DIBWUNEK_HIGH || level == DIBWUNEK_HIGH_WIDE; }
 
 /* A word of a task's entry; the task is below DIBWUNEK_ENTRIES. */
 static inline uint32_t dibwunek_field(const uint32_t *state, size_t task, size_t field) {
@@ -83,8 +95,8 @@ static inline unsigned dibwunek_switched(uint32_t answer) { return answer >> 16;
 size_t dibwunek_state_words(void);
 
 /*
- * Plan (S5.5): chooses the shares for a sheet and writes 7 n bytes to the front of the buffer: n pairs of offset and length for the
- * typical mode, n such pairs for the critical mode, n virtual deadlines of two bytes, low byte first, and n remainders of one byte:
+ * Plan (S5.5): chooses the shares for a sheet and writes 9 n bytes to the front of the buffer: n pairs of offset and length for the
+ * typical mode, n such pairs for the critical mode, n virtual deadlines of four bytes, low byte first, and n remainders of one byte:
  * what was left where the virtual deadlines were rounded down (S4.6). The bytes behind stay. Numbers 1 to 9.
  */
 uint32_t dibwunek_plan(const uint8_t *sheet, size_t sheet_length, uint8_t *buffer, size_t buffer_length);
@@ -122,7 +134,8 @@ size_t dibwunek_replay(const uint8_t *sheet, size_t sheet_length, const uint8_t 
 /*
  * Import (S14), for tools that write sheets. It is in libimporter.a; a controller's libexports.a has none of it. Import takes a text in
  * the Standard Task Graph format, a level (0 low, 1 high), a deadline and the percentage that makes overload times of times (100 to 400,
- * for a low task 100), and writes the task's record of 12 + 4 k bytes to the front of the buffer. The bytes behind stay. Numbers 17 to 19.
+ * for a low task 100), and writes the task's record of 12 + 4 k bytes, in the narrow form, to the front of the buffer. The bytes behind
+ * stay. Numbers 17 to 19.
  */
 uint32_t dibwunek_import(const uint8_t *text, size_t text_length, uint32_t level, uint32_t deadline, uint32_t percentage, uint8_t *record,
                          size_t record_length);

@@ -29,6 +29,11 @@ of a graph in the Standard Task Graph format. Overload times are the graph's by 
 is 100, which a low task needs. FILE has no blanks, and begins in the text's own folder. What the import refuses (17 to
 19) is an error, which names the graph's line too.
 
+A record has one of two forms: a narrow one for figures up to 10,000, and a wide one for figures up to 1,000,000. A task
+has the wide form where a figure of it needs it, and in any case where its line asks for it, as `task brake: high wide`.
+A sheet may have records of both. The import keeps to the narrow form, so a graph's task can't be wide. A level may also
+be a number, the record's first byte as it stands: 0 low, 1 high, 16 low wide, 17 high wide.
+
 An error is what can't be written, such as a number that does not fit its bytes; it names the line, nothing is written
 and the exit status is 1. What can be written but breaks a rule of the sheet (refusals 1 and 3 to 6) is written, with a
 warning that gives the refusal's number; so a refused sheet can be tried too. Refusals 7 and 8 are the planner's to
@@ -54,11 +59,32 @@ PATIENCE = 60  # seconds for the printer, which takes far less
 
 BYTE, WORD = 0xFF, 0xFFFF
 BITS = 32
-FIXED = 12  # bytes of a record before its masks
-MAX_PROCESSORS, MAX_TASKS, MAX_NODES, MAX_FIGURE = 64, 16, 32, 10_000
+MAX_PROCESSORS, MAX_TASKS, MAX_NODES = 64, 16, 32
 MIN_PERCENTAGE, MAX_PERCENTAGE = 100, 400
-LEVELS = {"low": 0, "high": 1}
 FIGURES = ("deadline", "work_nominal", "work_overload", "span_nominal", "span_overload")  # in the record's order
+WIDENED = 16  # what the wide form adds to a level
+LEVELS = {"low": 0, "high": 1, "low wide": WIDENED, "high wide": WIDENED + 1}
+
+
+@dataclass(frozen=True)
+class Form:
+    """How a record holds its figures (S2.6): in how many bytes each, and up to which limit."""
+
+    size: int
+    limit: int
+
+    @property
+    def fixed(self):
+        """Bytes of a record before its masks."""
+        return 2 + self.size * len(FIGURES)
+
+    @property
+    def most(self):
+        """The greatest number that fits a figure's bytes."""
+        return (1 << 8 * self.size) - 1
+
+
+NARROW, WIDE = Form(2, 10_000), Form(4, 1_000_000)
 
 
 @dataclass
@@ -73,6 +99,29 @@ class Task:
     span_overload: int = 0
     places: dict = field(default_factory=dict)  # where each part was read: a line of a text, an offset of a sheet
     graph: tuple = ()  # the file and the percentage of a graph line
+    in_words: bool = False  # the level is given in words, and the form is left to the figures
+
+    @property
+    def high(self):
+        return self.level in (LEVELS["high"], LEVELS["high wide"])
+
+    @property
+    def low(self):
+        return self.level in (LEVELS["low"], LEVELS["low wide"])
+
+    @property
+    def form(self):
+        return WIDE if self.level >= WIDENED else NARROW
+
+    @property
+    def limit(self):
+        """The greatest lawful figure: the form's, and the wide one's where it is left to the figures; a graph is narrow."""
+        return WIDE.limit if self.in_words and not self.graph else self.form.limit
+
+    @property
+    def fits_narrow(self):
+        """Whether no figure exceeds the narrow form's limit."""
+        return all(getattr(self, figure) <= NARROW.limit for figure in FIGURES)
 
 
 @dataclass
@@ -104,7 +153,7 @@ class SheetError(Exception):
 
 GRAMMAR = {
     "processors": "processors N",
-    "task": "task NAME: high|low",
+    "task": "task NAME: high|low [wide]",
     "deadline": "deadline N",
     "nominal": "nominal work N span N",
     "overload": "overload work N span N",
@@ -120,7 +169,7 @@ def number_of(line, what, word, most):
     if not re.fullmatch("[0-9]+", word):
         raise SheetError(line, f"{what}: expected a number, got {quoted(word)}")
     digits = word.lstrip("0") or "0"
-    if len(digits) > 9 or int(digits) > most:
+    if len(digits) > 10 or int(digits) > most:
         raise SheetError(line, f"{what}: expected a number from 0 to {most}, got {quoted(word)}")
     return int(digits)
 
@@ -156,21 +205,26 @@ def lines_of(data):
 
 
 def task_line(line, text):
-    found = re.fullmatch(r"task\b([^:]*):\s*(\S+)", text)
+    found = re.fullmatch(r"task\b([^:]*):\s*(\S+(?:\s+wide)?)", text)
     if not found:
         raise SheetError(line, f"expected '{GRAMMAR['task']}', got {quoted(text)}")
-    name, level = found.group(1).strip(), found.group(2)
+    name, level = found.group(1).strip(), " ".join(found.group(2).split())
     if level in LEVELS:
-        return Task(name, LEVELS[level])
+        return Task(name, LEVELS[level], in_words=True)
     if not level.isdigit():
         raise SheetError(line, f"level: expected high or low, got {quoted(level)}")
     return Task(name, number_of(line, "level", level, BYTE))
 
 
+def figure_of(task, line, what, word):
+    """A figure that fits its bytes; where the level is in words, those of the wide form."""
+    return number_of(line, what, word, WIDE.most if task.in_words else task.form.most)
+
+
 def figures_line(task, line, words):
     """`nominal work N span N`, `overload work N span N`, or `work N span N` for both."""
     for what, word in zip(("work", "span"), shaped(line, words)):
-        value = number_of(line, what, word, WORD)
+        value = figure_of(task, line, what, word)
         for case in ("nominal", "overload") if words[0] == "work" else (words[0],):
             claim(task.places, line, f"{what}_{case}", f"the {case} {what}")
             setattr(task, f"{what}_{case}", value)
@@ -215,7 +269,7 @@ def part_line(task, nodes, line, words):
     apart(task, line, key)
     if key == "deadline":
         claim(task.places, line, key, "the deadline")
-        task.deadline = number_of(line, key, *shaped(line, words), WORD)
+        task.deadline = figure_of(task, line, key, *shaped(line, words))
     elif key == "nodes":
         claim(task.places, line, key, "the number of nodes")
         task.predecessors = [0] * number_of(line, key, *shaped(line, words), BYTE)
@@ -239,9 +293,10 @@ def read_graph(task, folder):
 
 
 def check_terms(task):
-    """The level and the percentage that the import takes (S14.6)."""
-    if task.level not in LEVELS.values():
-        raise SheetError(task.places["task"], f"level: expected high or low for a graph, got {task.level} (refusal 17)")
+    """The level and the percentage that the import takes (S14.6). It has no wide form."""
+    if task.level not in (LEVELS["low"], LEVELS["high"]):
+        what = f"level: expected high or low for a graph, got {level_text(task)} (refusal 17)"
+        raise SheetError(task.places["task"], what)
     most, expected = MAX_PERCENTAGE, f"{MIN_PERCENTAGE} to {MAX_PERCENTAGE}"
     if task.level == LEVELS["low"]:
         most, expected = MIN_PERCENTAGE, f"{MIN_PERCENTAGE} for a low task"
@@ -261,7 +316,13 @@ def take_graph(task, folder):
         task.places.setdefault(part, task.places["graph"])
     for figure, cause in figure_causes(task):
         whose = "" if figure == "deadline" else f"{console.named(task.graph[0])}: "
-        raise SheetError(task.places[figure], f"{whose}{cause} (refusal 19)")
+        raise SheetError(task.places[figure], f"{whose}{cause} for a graph (refusal 19)")
+
+
+def choose_form(task):
+    """The wide form where a figure exceeds the narrow one's limit. A level that is a number stays."""
+    if task.in_words and not task.fits_narrow:
+        task.level |= WIDENED
 
 
 def finish(task, nodes, folder):
@@ -274,6 +335,7 @@ def finish(task, nodes, folder):
             raise SheetError(task.places["task"], f"task {quoted(task.name)}: expected a line '{GRAMMAR[key]}'")
     if "graph" in task.places:
         take_graph(task, folder)
+    choose_form(task)
     count = len(task.predecessors)
     for node, mask in nodes.items():
         if node >= count:
@@ -319,7 +381,7 @@ def parse(data, folder=pathlib.Path()):
 def encode_task(task):
     record = bytes([task.level, len(task.predecessors)])
     for figure in FIGURES:
-        record += getattr(task, figure).to_bytes(2, "little")
+        record += getattr(task, figure).to_bytes(task.form.size, "little")
     for mask in task.predecessors:
         record += mask.to_bytes(4, "little")
     return record
@@ -341,26 +403,27 @@ def encode(sheet):
 # Bytes to sheet.
 
 
-def word_at(data, offset):
-    return int.from_bytes(data[offset : offset + 2], "little")
+def number_at(data, offset, size):
+    return int.from_bytes(data[offset : offset + size], "little")
 
 
 def decode_task(data, index, offset, length):
     if length < 2:
-        raise SheetError(offset, f"task {index}: expected a record of {FIXED} bytes and 4 for each node, got {length}")
-    count = data[offset + 1]
-    if length != FIXED + 4 * count:
-        raise SheetError(
-            offset, f"task {index}: expected a record of {FIXED + 4 * count} bytes for {count} nodes, got {length}"
-        )
-    task = Task(str(index), data[offset])
+        fixed = f"{NARROW.fixed} or {WIDE.fixed}"
+        raise SheetError(offset, f"task {index}: expected a record of {fixed} bytes and 4 for each node, got {length}")
+    task, count = Task(str(index), data[offset]), data[offset + 1]
+    form = task.form
+    whole = form.fixed + 4 * count
+    if length != whole:
+        what = f"expected a record of {whole} bytes for {count} nodes at level {task.level}, got {length}"
+        raise SheetError(offset, f"task {index}: {what}")
     task.places = {"task": offset, "nodes": offset + 1}
     for place, figure in enumerate(FIGURES):
-        task.places[figure] = offset + 2 + 2 * place
-        setattr(task, figure, word_at(data, task.places[figure]))
+        task.places[figure] = offset + 2 + form.size * place
+        setattr(task, figure, number_at(data, task.places[figure], form.size))
     for node in range(count):
-        place = offset + FIXED + 4 * node
-        task.predecessors.append(int.from_bytes(data[place : place + 4], "little"))
+        place = offset + form.fixed + 4 * node
+        task.predecessors.append(number_at(data, place, 4))
         task.places["node", node] = place
     return task
 
@@ -376,7 +439,7 @@ def decode(data):
     pairs = []
     for index in range(count):
         at = 2 + 4 * index
-        offset, length = word_at(data, at), word_at(data, at + 2)
+        offset, length = number_at(data, at, 2), number_at(data, at + 2, 2)
         if offset != place:
             raise SheetError(at, f"task {index}: expected a record at offset {place}, got {offset}")
         pairs.append((offset, length))
@@ -393,9 +456,16 @@ def decode(data):
 # Sheet to text.
 
 
+def level_text(task):
+    """The level in words; as a number where there are none for it, or where they would ask for another form."""
+    words = {level: text for text, level in LEVELS.items()}
+    if task.form == NARROW and not task.fits_narrow:
+        return str(task.level)
+    return words.get(task.level, str(task.level))
+
+
 def render_task(index, task):
-    names = {number: name for name, number in LEVELS.items()}
-    lines = [f"task {index}: {names.get(task.level, task.level)}", f"  deadline {task.deadline}"]
+    lines = [f"task {index}: {level_text(task)}", f"  deadline {task.deadline}"]
     nominal = f"work {task.work_nominal} span {task.span_nominal}"
     overload = f"work {task.work_overload} span {task.span_overload}"
     lines += [f"  {nominal}"] if nominal == overload else [f"  nominal {nominal}", f"  overload {overload}"]
@@ -420,9 +490,9 @@ def figure_causes(task):
     """The broken rules among the task's figures, each with a figure that it is about."""
     for figure in FIGURES:
         value = getattr(task, figure)
-        if not 1 <= value <= MAX_FIGURE:
+        if not 1 <= value <= task.limit:
             what = " ".join(reversed(figure.split("_")))
-            yield figure, f"the {what} is {value}; expected 1 to {MAX_FIGURE}"
+            yield figure, f"the {what} is {value}; expected 1 to {task.limit}"
     work, span = task.work_nominal, task.span_nominal
     more_work, more_span = task.work_overload - work, task.span_overload - span
     if span > work:
@@ -435,14 +505,15 @@ def figure_causes(task):
         yield "span_overload", f"the nominal span {span} exceeds the overload span {task.span_overload}"
     if 0 <= more_work < more_span:
         yield "work_overload", f"the overload adds {more_work} to the work and more, {more_span}, to the span"
-    if task.level == LEVELS["low"] and (more_work or more_span):
+    if task.low and (more_work or more_span):
         yield "work_overload", "a low task has the same work and span in both cases"
 
 
 def task_faults(index, task):
     count = len(task.predecessors)
     if task.level not in LEVELS.values():
-        yield Fault(3, index, task.places["task"], f"the level is {task.level}; expected 0 (low) or 1 (high)")
+        levels = ", ".join(f"{level} ({text})" for text, level in LEVELS.items())
+        yield Fault(3, index, task.places["task"], f"the level is {task.level}; expected one of {levels}")
     if not 1 <= count <= MAX_NODES:
         yield Fault(3, index, task.places["nodes"], f"the task has {count} nodes; expected 1 to {MAX_NODES}")
     for part, cause in figure_causes(task):
@@ -553,7 +624,7 @@ def answer_of(text, tasks):
     refused = re.fullmatch(r"refused ([1-8]) (\d{1,3})\n", text)
     if refused:
         return None, int(refused.group(1)), int(refused.group(2))
-    rows = re.fullmatch(r"((\d{1,5} ){6}\d{1,5}\n)+", text)
+    rows = re.fullmatch(r"((\d{1,7} ){6}\d{1,7}\n)+", text)
     entries = [Entry(*map(int, line.split())) for line in text.splitlines()] if rows else []
     if not entries or [entry.task for entry in entries] != list(range(tasks)):
         what = f"expected a plan for {tasks} tasks or a refusal, got {quoted(text)}"

@@ -8,6 +8,9 @@ task that is not kept has A alone), and there is one length in ticks for each no
 every tick the lowest-numbered ready nodes run, as many as the share allows. A high job that is alive at its virtual
 deadline turns the state critical. There a job with the share B goes on, and one without it is dropped.
 
+A task in the wide form has too many ticks for a line each. There, ticks in a row in which the same nodes run are one
+line, and nodes end, or the state turns, with the last of them.
+
     --virtual-deadline V   another virtual deadline than the plan's, nominal span + (work - span) / A rounded down
     --switch-after T       another task turns the state critical with tick T of this job (0: before its release)
     --switch-each          one line for every such T that this job leaves open
@@ -24,12 +27,14 @@ import console
 import graph as graphs
 import sheet as sheets
 
-LONGEST = sheets.MAX_NODES * sheets.MAX_FIGURE  # ticks of a job; a length is at most a figure
-
 
 @dataclass
-class Tick:
-    critical: bool  # the state that stood while the tick ran
+class Stretch:
+    """Ticks in a row in which the same nodes run. With the last of them nodes end, or the state turns critical."""
+
+    first: int
+    last: int
+    critical: bool  # the state that stood while they ran
     running: list
     ended: list
     switched: bool
@@ -37,18 +42,28 @@ class Tick:
 
 @dataclass
 class Run:
-    ticks: list
+    stretches: list
     dropped: bool
     critically: bool  # whether the state was critical at the release
 
     @property
+    def last(self):
+        """The last tick, 0 where there is none."""
+        return self.stretches[-1].last if self.stretches else 0
+
+    @property
     def switch(self):
         """The tick with which the state turned critical, or None."""
-        return next((number for number, tick in enumerate(self.ticks, 1) if tick.switched), None)
+        return next((stretch.last for stretch in self.stretches if stretch.switched), None)
+
+
+def longest(form):
+    """The most ticks of a job; the length of a node is at most a figure."""
+    return sheets.MAX_NODES * form.limit
 
 
 def virtual_deadline(task, typical):
-    return task.span_nominal + (task.work_nominal - task.span_nominal) // typical if task.level else 0
+    return task.span_nominal + (task.work_nominal - task.span_nominal) // typical if task.high else 0
 
 
 def longest_chain(task, lengths):
@@ -64,31 +79,38 @@ def mask_of(nodes):
     return sum(1 << node for node in nodes)
 
 
+def ticks_of(left, running, age, turns):
+    """How long these nodes run: until one of them ends, or an age is reached at which the state may turn critical."""
+    return min([left[node] for node in running] + [turn - age for turn in turns if turn > age])
+
+
 def simulate(task, shares, lengths, virtual, switch_after=None):
     """Runs the job to its end; a job without a critical share is dropped where the state turns critical."""
-    left, ended, ticks = list(lengths), set(), []
+    left, ended, stretches, age = list(lengths), set(), [], 0
     critical = critically = switch_after == 0
     while len(ended) < len(left):
         if critical and len(shares) == 1:
-            return Run(ticks, True, critically)
+            return Run(stretches, True, critically)
         running = running_nodes(task, ended, shares[critical])
+        turns = () if critical else (virtual if task.high else 0, switch_after or 0)
+        ticks = ticks_of(left, running, age, turns)
         for node in running:
-            left[node] -= 1
+            left[node] -= ticks
         now = [node for node in running if left[node] == 0]
         ended.update(now)
-        age = len(ticks) + 1
-        overrun = task.level and len(ended) < len(left) and age >= virtual
+        first, age = age + 1, age + ticks
+        overrun = task.high and len(ended) < len(left) and age >= virtual
         switched = not critical and bool(overrun or age == switch_after)
-        ticks.append(Tick(critical, running, now, switched))
+        stretches.append(Stretch(first, age, critical, running, now, switched))
         critical = critical or switched
-    return Run(ticks, False, critically)
+    return Run(stretches, False, critically)
 
 
 def verdict(task, run):
     if run.dropped:
-        return "not released, refusal 12" if run.critically else f"dropped after tick {len(run.ticks)}"
-    late = "" if len(run.ticks) <= task.deadline else ", too late"
-    return f"ended after tick {len(run.ticks)}, deadline {task.deadline}{late}"
+        return "not released, refusal 12" if run.critically else f"dropped after tick {run.last}"
+    late = "" if run.last <= task.deadline else ", too late"
+    return f"ended after tick {run.last}, deadline {task.deadline}{late}"
 
 
 def met(task, run):
@@ -97,7 +119,7 @@ def met(task, run):
         return "critical from the start"
     if run.switch is None:
         return "no switch"
-    kept = not task.level and run.switch < len(run.ticks)
+    kept = not task.high and run.switch < run.last
     return f"kept over the switch after tick {run.switch}" if kept else f"switched after tick {run.switch}"
 
 
@@ -111,20 +133,34 @@ def budget(task, lengths):
     return f"work {work}, longest chain {span}: keeps {kept}"
 
 
+def row_of(stretch, first, last):
+    """The row of these ticks of a stretch."""
+    whole = last == stretch.last
+    state, running = "critical" if stretch.critical else "typical", " ".join(map(str, stretch.running))
+    ended = " ".join(map(str, stretch.ended)) if whole else ""
+    ticks = str(last) if first == last else f"{first}-{last}"
+    return ticks, state, running, ended, "switched" if whole and stretch.switched else ""
+
+
+def rows_of(task, stretch):
+    """A row for each tick; for all of them where the task is in the wide form."""
+    if task.form == sheets.WIDE:
+        return [row_of(stretch, stretch.first, stretch.last)]
+    return [row_of(stretch, tick, tick) for tick in range(stretch.first, stretch.last + 1)]
+
+
 def show_run(task, run):
     rows = [("tick", "state", "running", "ended", "")]
-    for number, tick in enumerate(run.ticks, 1):
-        lists = [" ".join(map(str, nodes)) for nodes in (tick.running, tick.ended)]
-        state = "critical" if tick.critical else "typical"
-        rows.append((str(number), state, *lists, "switched" if tick.switched else ""))
+    for stretch in run.stretches:
+        rows += rows_of(task, stretch)
     widths = [max(len(row[column]) for row in rows) for column in range(5)]
     lines = ["  ".join(cell.ljust(width) for cell, width in zip(row, widths)).rstrip() for row in rows]
-    console.put("\n".join([*(lines if run.ticks else ()), f"{verdict(task, run)}, {met(task, run)}\n"]))
+    console.put("\n".join([*(lines if run.stretches else ()), f"{verdict(task, run)}, {met(task, run)}\n"]))
 
 
 def show_each(task, shares, lengths, virtual):
     own = simulate(task, shares, lengths, virtual)
-    last = own.switch if own.switch is not None else len(own.ticks)
+    last = own.switch if own.switch is not None else own.last
     for after in range(last):
         run = simulate(task, shares, lengths, virtual, after)
         console.put(f"switch after tick {after}: {verdict(task, run)}\n")
@@ -154,27 +190,39 @@ def chosen_task(parser, options):
         parser.error(f"--task: expected a number below {len(sheet.tasks)}, the tasks, got {options.task}")
     task = sheet.tasks[options.task]
     count = len(options.shares)
-    if task.level and count != 2:
+    if task.high and count != 2:
         parser.error(f"--shares: expected 2 for a high task, got {count}")
-    if not task.level and count > 2:
+    if not task.high and count > 2:
         parser.error(f"--shares: expected 1 for a low task, 2 for one that is kept, got {count}")
-    if not task.level and len(set(options.shares)) > 1:
+    if not task.high and len(set(options.shares)) > 1:
         parser.error("--shares: expected the same share twice for a low task that is kept")
     if len(options.lengths) != len(task.predecessors):
         nodes = len(task.predecessors)
         parser.error(f"--lengths: expected {nodes}, one for each node, got {len(options.lengths)}")
+    check_ticks(parser, options, task.form)
     return task
+
+
+def check_ticks(parser, options, form):
+    """Numbers of ticks keep to the limit of the task's form."""
+    for option, least, most, given in (
+        ("--lengths", 1, form.limit, options.lengths),
+        ("--virtual-deadline", 1, form.limit, [options.virtual_deadline or 1]),
+        ("--switch-after", 0, longest(form), [options.switch_after or 0]),
+    ):
+        if max(given) > most:
+            parser.error(f"{option}: expected a number from {least} to {most}, got {max(given)}")
 
 
 def main(arguments=None):
     parser = argparse.ArgumentParser(description=__doc__, formatter_class=argparse.RawDescriptionHelpFormatter)
-    share, length = number(1, sheets.MAX_PROCESSORS), number(1, sheets.MAX_FIGURE)
+    share, length = number(1, sheets.MAX_PROCESSORS), number(1, sheets.WIDE.limit)
     parser.add_argument("file", metavar="TEXT")
     parser.add_argument("--task", type=number(0, sheets.BYTE), default=0, metavar="I")
     parser.add_argument("--shares", type=share, nargs="+", required=True, metavar="N")
     parser.add_argument("--lengths", type=length, nargs="+", required=True, metavar="N")
-    parser.add_argument("--virtual-deadline", type=number(1, sheets.MAX_FIGURE), metavar="V")
-    parser.add_argument("--switch-after", type=number(0, LONGEST), metavar="T")
+    parser.add_argument("--virtual-deadline", type=length, metavar="V")
+    parser.add_argument("--switch-after", type=number(0, longest(sheets.WIDE)), metavar="T")
     parser.add_argument("--switch-each", action="store_true")
     options = parser.parse_args(arguments)
     task = chosen_task(parser, options)

@@ -94,7 +94,7 @@ class Inputs(Tools):
         self.texts(WORKED.read_text().encode("utf-16"), "1: error: expected text in UTF-8")
 
     def test_numbers_out_of_all_range(self):
-        self.edited(b"deadline 36", b"deadline " + b"9" * 6000, "5: error: deadline: expected a number from 0 to 65535")
+        self.edited(b"deadline 36", b"deadline " + b"9" * 6000, "5: error: deadline: expected a number from 0 to 42949")
         self.edited(b"deadline 36", b"deadline -36", "5: error: deadline: expected a number, got '-36'")
         self.edited(b"task guard: high", b"task guard: " + b"9" * 6000, "4: error: level: expected a number from 0")
         self.edited(b"node 1 after 0 ", b"node 1 after -1", "9: error: predecessor: expected a number, got '-1'")
@@ -233,8 +233,9 @@ class Streams(Tools):
 PIECES = (
     *(b":", b"#", b"\t", b"\r", b"\n", b"\0", b"\xff", b"\xef\xbb\xbf", b"\xc2\xa0", b"\xe2\x80\xa8", b"\xc2\xb2"),
     *(b"0", b"-1", b"+1", b"1e3", b"31", b"32", b"255", b"256", b"65535", b"65536", b"9" * 5000),
+    *(b"16", b"17", b"10000", b"10001", b"1000000", b"1000001", b"4294967295", b"4294967296"),
     *(b"task", b"task: high", b"high", b"low", b"processors", b"deadline", b"nominal", b"overload", b"work", b"span"),
-    *(b"nodes", b"node", b"after"),
+    *(b"nodes", b"node", b"after", b"wide", b"task: low wide"),
 )
 
 

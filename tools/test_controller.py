@@ -1,5 +1,6 @@
 """Tests of the header and of examples/controller.c: it compiles without a warning and links, prints what happens on the worked
-sheet, lets a kept job go on and a dropped one rest, and says what is wrong with any other input."""
+sheet, lets a kept job go on and a dropped one rest, and says what is wrong with any other input. A program of the test's own
+reads the plan and the state by the header's constants."""
 
 import pathlib
 import subprocess
@@ -22,6 +23,44 @@ tick 20: task 1 is released
 tick 28: task 1 has ended
 tick 36: task 0 is released
 tick 40: the mode is critical
+"""
+
+READER = """\
+#include <stdio.h>
+#include "dibwunek.h"
+
+int main(void) {
+    static uint8_t sheet[4096], plan[DIBWUNEK_PLAN_BYTES * DIBWUNEK_ENTRIES];
+    static uint32_t state[DIBWUNEK_STATE_WORDS];
+    size_t length = fread(sheet, 1, sizeof sheet, stdin), count = sheet[1], size = DIBWUNEK_PLAN_BYTES * count, at;
+    printf("%u", dibwunek_number(dibwunek_plan(sheet, length, plan, size - 1)));
+    printf(" %u\\n", dibwunek_number(dibwunek_plan(sheet, length, plan, size)));
+    for (at = 0; at < size; at++) {
+        printf("%u%c", plan[at], at + 1 < size ? ' ' : '\\n');
+    }
+    printf("%u\\n", dibwunek_number(dibwunek_start(sheet, length, state, DIBWUNEK_STATE_WORDS)));
+    for (at = 0; at < count; at++) {
+        uint32_t level = dibwunek_field(state, at, DIBWUNEK_LEVEL);
+        int wide = level == DIBWUNEK_LOW_WIDE || level == DIBWUNEK_HIGH_WIDE;
+        printf("%u %s", (unsigned)level, dibwunek_is_high(level) ? "high" : "low");
+        printf(" %u", (unsigned)dibwunek_field(state, at, DIBWUNEK_DEADLINE));
+        printf(" %u", (unsigned)dibwunek_field(state, at, DIBWUNEK_VIRTUAL_DEADLINE));
+        printf(" %u", (unsigned)dibwunek_field(state, at, DIBWUNEK_AGE));
+        printf(" %u\\n", wide ? DIBWUNEK_MOST_TICKS : DIBWUNEK_MOST_TICKS_NARROW);
+    }
+    return 0;
+}
+"""
+
+# What it prints of the dye line: 9 for a buffer that is a byte short, and 0; the typical pairs, the critical ones, V in four bytes
+# (200,000 is 64 + 13 * 256 + 3 * 65,536) and the remainders; 0; and of each task its level, D, V, age and the limit of these.
+READ = """\
+9 0
+0 2 2 3 5 2 0 3 3 3 6 2 64 13 3 0 6 0 0 0 0 0 0 0 0 2 0
+0
+17 high 400000 200000 400000 1000000
+1 high 24 6 24 10000
+16 low 30000 0 30000 1000000
 """
 
 
@@ -75,6 +114,28 @@ class Controller(unittest.TestCase):
         self.assertEqual((done.returncode, done.stderr), (0, ""))
         self.assertIn("tick 15: the mode turns critical because of task 0\ntick 15: task 1 is dropped\n", done.stdout)
         self.assertEqual(done.stdout.count("task 1 is released"), 1)
+
+    def example(self, name):
+        """The bytes of an example."""
+        done = ran("python3", "tools/sheet.py", "write", f"examples/{name}.sheet")
+        self.assertEqual((done.returncode, done.stderr), (0, b""))
+        return done.stdout
+
+    def test_the_dye_line(self):
+        file = self.folder / "dye-line.bin"
+        file.write_bytes(self.example("dye-line"))
+        done = ran(self.program, str(file), text=True)
+        self.assertEqual((done.returncode, done.stderr), (0, ""))
+        first = "task 0: shares 2 and 3, virtual deadline 200000\ntask 1: shares 3 and 3, virtual deadline 6\n"
+        self.assertTrue(done.stdout.startswith(first), done.stdout)
+
+    def test_the_plan_and_the_state_by_the_header(self):
+        source, program = self.folder / "reader.c", self.folder / "reader"
+        source.write_text(READER, encoding="utf-8")
+        built = ran("gcc", *FLAGS, str(source), "-o", str(program), str(ARCHIVE), text=True)
+        self.assertEqual((built.returncode, built.stderr), (0, ""))
+        done = ran(str(program), input=self.example("dye-line"))
+        self.assertEqual((done.returncode, done.stdout.decode(), done.stderr), (0, READ, b""))
 
     def test_a_missing_file(self):
         self.refuses(["no/such/file"], 1, "controller: no/such/file: No such file or directory\n")

@@ -197,15 +197,15 @@ class Errors(Files):
 
     def test_figures(self):
         self.file.write_bytes(changed(b"2 4 1 1", b"2 9996 1 1"))
-        what = "fork.stg: the nominal work is 10001; expected 1 to 10000 (refusal 19)"
+        what = "fork.stg: the nominal work is 10001; expected 1 to 10000 for a graph (refusal 19)"
         self.assertEqual(self.error(), (4, what))
         self.file.write_bytes(changed(b"2 4 1 1", b"2 7000 0"))
-        what = "fork.stg: the overload work is 10508; expected 1 to 10000 (refusal 19)"
+        what = "fork.stg: the overload work is 10508; expected 1 to 10000 for a graph (refusal 19)"
         self.assertEqual(self.error(), (4, what))
 
     def test_deadline(self):
-        for deadline in (0, 10_001):
-            what = f"the deadline is {deadline}; expected 1 to 10000 (refusal 19)"
+        for deadline in (0, 10_001, 400_000, 1_000_000):
+            what = f"the deadline is {deadline}; expected 1 to 10000 for a graph (refusal 19)"
             self.assertEqual(self.error(TEXT.replace("deadline 45", f"deadline {deadline}")), (3, what))
 
     def test_terms(self):
@@ -214,8 +214,9 @@ class Errors(Files):
             self.assertEqual(self.error(TEXT.replace("percentage 150", f"percentage {percentage}")), (4, what))
         what = "percentage: expected 100 for a low task, got 150 (refusal 17)"
         self.assertEqual(self.error(TEXT.replace("fork: high", "fork: low")), (4, what))
-        what = "level: expected high or low for a graph, got 2 (refusal 17)"
-        self.assertEqual(self.error(TEXT.replace("fork: high", "fork: 2")), (2, what))
+        for level, got in (("2", "2"), ("high wide", "high wide"), ("low wide", "low wide"), ("17", "high wide")):
+            what = f"level: expected high or low for a graph, got {got} (refusal 17)"
+            self.assertEqual(self.error(TEXT.replace("fork: high", f"fork: {level}")), (2, what))
 
 
 class Lines(Files):
@@ -227,6 +228,15 @@ class Lines(Files):
         self.assertEqual(task.predecessors, [0, 1, 3])
         self.assertEqual([getattr(task, figure) for figure in sheets.FIGURES], [45, 9, 14, 9, 14])
         self.assertEqual([(f.number, f.task, f.place) for f in sheets.faults(sheet)], [(6, 0, 4)])
+
+    def test_its_record_is_a_narrow_one(self):
+        self.file.write_bytes(b"1 0 0 0 1 10000 0 2 0 0")
+        text = TEXT.replace("deadline 45", "deadline 10000").replace(" percentage 150", "")
+        task = sheets.parse(text.encode(), self.folder).tasks[0]
+        self.assertEqual((task.level, [getattr(task, figure) for figure in sheets.FIGURES]), (1, [10_000] * 5))
+        self.file.write_bytes(FORK)
+        beside = TEXT.replace("lamp: low", "lamp: low wide").encode()
+        self.assertEqual([task.level for task in sheets.parse(beside, self.folder).tasks], [1, 16])
 
     def test_without_a_percentage(self):
         for level in ("high", "low"):
@@ -346,6 +356,7 @@ class Program(Files):
         for level, deadline, percentage, number in (
             (0, 45, 101, 17), (0, 45, 99, 17), (2, 45, 100, 17), (1, 45, 99, 17), (1, 45, 401, 17), (1, 45, 0, 17),
             (1, 0, 100, 19), (1, 10_001, 100, 19), (1, 65_535, 400, 19), (2, 0, 100, 17),
+            (16, 45, 100, 17), (17, 45, 150, 17), (17, 10_001, 100, 17),
         ):  # fmt: skip
             self.assertEqual(self.agree(FORK, level, deadline, percentage), number)
         for time, percentage, number in ((9997, 100, None), (9998, 100, 19), (2497, 400, None), (2498, 400, 19)):

@@ -1,7 +1,8 @@
-"""Tests of sheet.py: the bytes of the cases, both ways round, each error and warning with its line, and the plan with
-its kept tasks."""
+"""Tests of sheet.py: the bytes of the cases, both ways round, the two forms of a record, each error and warning with its
+line, and the plan with its kept tasks."""
 
 import contextlib
+import dataclasses
 import io
 import itertools
 import pathlib
@@ -33,8 +34,17 @@ task lamp: low
 
 
 def record(level, figures, masks):
-    words = b"".join(figure.to_bytes(2, "little") for figure in figures)
+    words = b"".join(figure.to_bytes(4 if level >= 16 else 2, "little") for figure in figures)
     return bytes([level, len(masks)]) + words + b"".join(mask.to_bytes(4, "little") for mask in masks)
+
+
+def whole(processors, records):
+    """The sheet of these records: processors, tasks, the directory, and the records behind it."""
+    place, directory = 2 + 4 * len(records), b""
+    for part in records:
+        directory += place.to_bytes(2, "little") + len(part).to_bytes(2, "little")
+        place += len(part)
+    return bytes([processors, len(records)]) + directory + b"".join(records)
 
 
 CASE_14 = (
@@ -44,41 +54,64 @@ CASE_14 = (
     + record(0, (18, 66, 66, 6, 6), [0])
 )
 
+# Each level in each form: high wide, high, low wide, low.
+MIXED = whole(
+    8,
+    [
+        record(17, (400_000, 290_000, 630_000, 110_000, 182_000), [0, 1]),
+        record(1, (24, 12, 48, 4, 12), [0]),
+        record(16, (18, 66, 66, 6, 6), [0, 0, 3]),
+        record(0, (18, 66, 66, 6, 6), [0]),
+    ],
+)
+
+
+def random_figure(rng, most):
+    limits = (0, 1, 9999, 10_000, 10_001, 65_535, 65_536, 1_000_000, 1_000_001, most, rng.randrange(most))
+    return rng.choice([figure for figure in limits if figure <= most])
+
 
 def random_bytes(rng):
     """The bytes of a sheet in which every field is anything that fits."""
     records = []
     for _ in range(rng.randrange(0, 20)):
-        figures = [rng.choice((0, 1, 9999, 10_001, 65_535, rng.randrange(65_536))) for _ in range(5)]
+        level = rng.choice((0, 1, 7, 15, 16, 17, 18, 255))
+        figures = [random_figure(rng, 0xFFFF_FFFF if level >= 16 else 0xFFFF) for _ in range(5)]
+        if rng.random() < 0.3:
+            figures = [min(figure, 10_000) for figure in figures]
         if rng.random() < 0.3:
             figures[2], figures[4] = figures[1], figures[3]
         masks = [rng.choice((0, rng.randrange(1 << 32))) for _ in range(rng.choice((0, 1, 2, 32, 33, 255)))]
-        records.append(record(rng.choice((0, 1, 7, 255)), figures, masks))
-    place, directory = 2 + 4 * len(records), b""
-    for part in records:
-        directory += place.to_bytes(2, "little") + len(part).to_bytes(2, "little")
-        place += len(part)
-    return bytes([rng.randrange(256), len(records)]) + directory + b"".join(records)
+        records.append(record(level, figures, masks))
+    return whole(rng.randrange(256), records)
+
+
+def counted(task, times):
+    """The task with so many ticks for each of its own, in the wide form."""
+    figures = {figure: times * getattr(task, figure) for figure in sheets.FIGURES}
+    return dataclasses.replace(task, level=task.level | 16, **figures)
 
 
 def random_loom(rng):
-    """Low tasks with shares of 2 to 4, and high ones that take more in the critical state, on few processors."""
+    """Low tasks with shares of 2 to 4, and high ones that take more in the critical state, on few processors; some of them
+    with longer counts of ticks."""
     sheet = sheets.Sheet(rng.randrange(3), [])
     for _ in range(rng.randrange(2, 9)):
         if rng.random() < 0.4:
             share, figures = rng.choice(((1, (45, 9, 52, 4, 20)), (2, (24, 12, 48, 4, 12))))
-            sheet.tasks.append(sheets.Task("", 1, [0], *figures))
+            task = sheets.Task("", 1, [0], *figures)
         else:
             share, span = rng.randrange(2, 5), rng.randrange(1, 9)
             work = span + 12 * share - rng.randrange(12)
-            sheet.tasks.append(sheets.Task("", 0, [0], span + 12, work, work, span, span))
+            task = sheets.Task("", 0, [0], span + 12, work, work, span, span)
+        sheet.tasks.append(counted(task, 5000) if rng.random() < 0.5 else task)
         sheet.processors += share
     return sheet
 
 
 def with_kept(sheet, entries):
     """Each task's block in the critical state, by S5.6 and S5.4: high tasks as planned, low ones by all sets of them."""
-    low = [entry.task for entry in entries if not sheet.tasks[entry.task].level]
+    low = [entry.task for entry in entries if not sheet.tasks[entry.task].high]
     lengths = [0 if entry.task in low else entry.critically for entry in entries]
     takes = [entry.typically for entry in entries]
     sets = [kept for count in range(len(low) + 1) for kept in itertools.combinations(low, count)]
@@ -146,6 +179,99 @@ class Bytes(unittest.TestCase):
         self.assertEqual(*(sheets.encode(sheets.parse(text.encode())) for text in (turned, plain)))
 
 
+class Forms(unittest.TestCase):
+    """The two forms of a record: which one a text gets, and the text as which bytes of each are printed."""
+
+    LINES = {
+        "deadline": ("deadline 45", "deadline {}"),
+        "work_nominal": ("nominal work 9 span 4", "nominal work {} span 4"),
+        "work_overload": ("overload work 52 span 20", "overload work {} span 20"),
+        "span_nominal": ("nominal work 9 span 4", "nominal work 9 span {}"),
+        "span_overload": ("overload work 52 span 20", "overload work 52 span {}"),
+    }
+
+    def first(self, text):
+        """The record of the text's first task, whose lines are as the lawful one's."""
+        return sheets.encode_task(sheets.parse(text.encode()).tasks[0])
+
+    def with_figure(self, figure, value, level="high"):
+        old, new = self.LINES[figure]
+        return edited(old, new.format(value)).replace("brake: high", f"brake: {level}")
+
+    def test_each_figure_chooses_the_form(self):
+        self.assertEqual(tuple(self.LINES), sheets.FIGURES)
+        for place, figure in enumerate(sheets.FIGURES):
+            for value in (9999, 10_000, 10_001, 65_535, 65_536, 1_000_000, 1_000_001):
+                figures = [45, 9, 52, 4, 20]
+                figures[place] = value
+                expected = record(1 if value <= 10_000 else 17, figures, [0, 0, 3])
+                self.assertEqual(self.first(self.with_figure(figure, value)), expected, (figure, value))
+
+    def test_a_low_task(self):
+        for work, level in ((10_000, 0), (10_001, 16)):
+            sheet = sheets.parse(edited("work 66 span 6", f"work {work} span 6").encode())
+            self.assertEqual(sheets.faults(sheet), [])
+            self.assertEqual([task.level for task in sheet.tasks], [1, level])
+            self.assertEqual(sheets.encode_task(sheet.tasks[1]), record(level, (18, work, work, 6, 6), [0]))
+
+    def test_the_form_that_is_asked_for(self):
+        for words, level in (("high wide", 17), ("high   wide  # so", 17), ("low wide", 16), ("17", 17), ("16", 16)):
+            text = edited("brake: high", f"brake: {words}")
+            self.assertEqual(self.first(text), record(level, (45, 9, 52, 4, 20), [0, 0, 3]))
+        sheet = sheets.parse(edited("brake: high", "brake: high wide").encode())
+        self.assertEqual(([task.level for task in sheet.tasks], sheets.faults(sheet)), ([17, 0], []))
+
+    def test_a_level_that_is_a_number_stays(self):
+        text = self.with_figure("deadline", 10_001, level=1)
+        self.assertEqual(self.first(text), record(1, (10_001, 9, 52, 4, 20), [0, 0, 3]))
+        cause = "the deadline is 10001; expected 1 to 10000"
+        self.assertEqual(sheets.faults(sheets.parse(text.encode()))[0].cause, cause)
+
+    def test_the_limits_of_lawful_figures(self):
+        task = "processors 2\ntask: high\ndeadline {}\nnominal work {} span 1\noverload work {} span 1\nnodes 1\n"
+        for most, found in ((10_000, []), (10_001, []), (1_000_000, []), (1_000_001, [4])):
+            sheet = sheets.parse(task.format(most - 1, most, most).encode())
+            self.assertEqual(sorted({fault.number for fault in sheets.faults(sheet)}), found)
+
+    def test_a_mixed_sheet_byte_for_byte_and_back(self):
+        text = sheets.render(sheets.decode(MIXED))
+        levels = [line.partition(": ")[2] for line in text.splitlines() if line.startswith("task")]
+        self.assertEqual(levels, ["high wide", "high", "low wide", "low"])
+        self.assertEqual(sheets.encode(sheets.parse(text.encode())), MIXED)
+        self.assertEqual(sheets.faults(sheets.decode(MIXED)), [])
+        self.assertEqual(len(MIXED), 2 + 4 * 4 + (22 + 8) + (12 + 4) + (22 + 12) + (12 + 4))
+
+    def test_what_a_record_is_printed_as(self):
+        for level, most, words in (
+            (0, 10_000, "low"), (1, 10_000, "high"), (0, 10_001, "0"), (1, 65_535, "1"), (7, 10_001, "7"),
+            (16, 66, "low wide"), (17, 66, "high wide"), (16, 10_001, "low wide"), (17, 4_294_967_295, "high wide"),
+            (18, 66, "18"), (255, 4_294_967_295, "255"),
+        ):  # fmt: skip
+            data = whole(8, [record(level, (45, 9, most, 4, 20), [0])])
+            text = sheets.render(sheets.decode(data))
+            self.assertIn(f"task 0: {words}\n", text)
+            self.assertEqual(sheets.encode(sheets.parse(text.encode())), data)
+
+    def test_each_place_of_a_wide_record(self):
+        task = sheets.decode(MIXED).tasks[0]
+        places = {"task": 18, "nodes": 19, ("node", 0): 40, ("node", 1): 44}
+        places |= {figure: 20 + 4 * number for number, figure in enumerate(sheets.FIGURES)}
+        self.assertEqual(task.places, places)
+        data = MIXED[:20] + (1_000_001).to_bytes(4, "little") + MIXED[24:]
+        fault = sheets.faults(sheets.decode(data))[0]
+        self.assertEqual((fault.number, fault.task, fault.place), (4, 0, 20))
+        self.assertEqual(fault.cause, "the deadline is 1000001; expected 1 to 1000000")
+        data = MIXED[:50] + (10_001).to_bytes(2, "little") + MIXED[52:]
+        fault = sheets.faults(sheets.decode(data))[0]
+        self.assertEqual((fault.number, fault.task, fault.place), (4, 1, 50))
+        self.assertEqual(fault.cause, "the deadline is 10001; expected 1 to 10000")
+
+    def test_the_example(self):
+        sheet = sheets.parse((HERE.parent / "examples" / "dye-line.sheet").read_bytes())
+        self.assertEqual([task.level for task in sheet.tasks], [17, 1, 16])
+        self.assertEqual(len(sheets.encode(sheet)), 2 + 4 * 3 + (22 + 28) + (12 + 28) + (22 + 16))
+
+
 class Errors(unittest.TestCase):
     """Each text is the lawful one with one edit; the error names the line of the edit and what was expected."""
 
@@ -159,11 +285,17 @@ class Errors(unittest.TestCase):
         ("processors 8\n", "", 10, "expected a line 'processors N'"),
         ("processors 8", "deadline 3\nprocessors 8", 1, "before 'deadline'"),
         ("  deadline 45", "  processors 8", 3, "the number of processors is given twice, first on line 1"),
-        ("task brake: high", "task brake high", 2, "expected 'task NAME: high|low'"),
+        ("task brake: high", "task brake high", 2, "expected 'task NAME: high|low [wide]'"),
         ("task brake: high", "task brake: medium", 2, "level: expected high or low, got 'medium'"),
+        ("task brake: high", "task brake: wide", 2, "level: expected high or low, got 'wide'"),
+        ("task brake: high", "task brake: wide high", 2, "expected 'task NAME: high|low [wide]', got 'task brake"),
+        ("task brake: high", "task brake: high narrow", 2, "expected 'task NAME: high|low [wide]'"),
+        ("task brake: high", "task brake: high wide wide", 2, "expected 'task NAME: high|low [wide]'"),
+        ("task brake: high", "task brake: 17 wide", 2, "level: expected high or low, got '17 wide'"),
         ("task brake: high", "task brake: 256", 2, "level: expected a number from 0 to 255"),
         ("task brake: high", "tusk brake: high", 2, "expected one of processors, task, deadline"),
-        ("deadline 45", "deadline 65536", 3, "deadline: expected a number from 0 to 65535, got '65536'"),
+        ("deadline 45", "deadline 4294967296", 3, "deadline: expected a number from 0 to 4294967295, got '4294967296'"),
+        ("deadline 45", "deadline 99999999999", 3, "deadline: expected a number from 0 to 4294967295"),
         ("deadline 45", "deadline 4 5", 3, "expected 'deadline N', got 'deadline 4 5'"),
         ("deadline 45", "deadline ４５", 3, "expected a number, got"),
         ("deadline 45", "deadline: 45", 3, "expected 'deadline N' with no colon, got 'deadline: 45'"),
@@ -182,7 +314,9 @@ class Errors(unittest.TestCase):
         ("  nodes 3", "  nodes 3\n  work 9 span 4", 7, "the nominal work is given twice, first on line 4"),
         ("nominal work 9 span 4", "nominal span 4 work 9", 4, "expected 'nominal work N span N'"),
         ("overload work 52 span 20", "overload work 52 span x", 5, "span: expected a number, got 'x'"),
-        ("work 66 span 6", "work 70000 span 6", 10, "work: expected a number from 0 to 65535, got '70000'"),
+        ("work 66 span 6", "work 4294967296 span 6", 10, "work: expected a number from 0 to 4294967295, got '429"),
+        ("brake: high\n  deadline 45", "brake: 1\n  deadline 65536", 3, "expected a number from 0 to 65535, got '655"),
+        ("lamp: low\n  deadline 18", "lamp: 15\n  deadline 65536", 9, "expected a number from 0 to 65535, got '655"),
         ("nodes 3", "nodes 256", 6, "nodes: expected a number from 0 to 255"),
         ("nodes 1", "nodes 1\n  nodes 1", 12, "the number of nodes is given twice, first on line 11"),
         ("node 2 after 0 1", "node 3 after 0 1", 7, "node: expected a number below 3, the nodes, got 3"),
@@ -245,14 +379,16 @@ class Foreign(unittest.TestCase):
         self.refuse(self.changed(6, 31), 6, "task 1: expected a record at offset 30, got 31")
         self.refuse(CASE_14 + b"x", 62, "task 2: expected the sheet's end at offset 62, got 63")
         self.refuse(CASE_14[:-1], 61, "task 2: expected the sheet's end at offset 62, got 61")
-        self.refuse(self.changed(31, 2), 30, "task 1: expected a record of 20 bytes for 2 nodes, got 16")
-        self.refuse(bytes([1, 1, 6, 0, 1, 0, 1]), 6, "task 0: expected a record of 12 bytes and 4 for each node, got 1")
+        self.refuse(self.changed(31, 2), 30, "task 1: expected a record of 20 bytes for 2 nodes at level 1, got 16")
+        self.refuse(self.changed(30, 17), 30, "task 1: expected a record of 26 bytes for 1 nodes at level 17, got 16")
+        short = "task 0: expected a record of 12 or 22 bytes and 4 for each node, got 1"
+        self.refuse(bytes([1, 1, 6, 0, 1, 0, 1]), 6, short)
         self.refuse(bytes([1, 0, 0]), 2, "no task: expected the sheet's end at offset 2, got 3")
 
     def test_any_bytes_print_or_are_refused(self):
         rng = random.Random(2)
-        for _ in range(2000):
-            data = bytearray(CASE_14)
+        for turn in range(3000):
+            data = bytearray((CASE_14, MIXED)[turn % 2])
             for _ in range(rng.randrange(1, 4)):
                 data[rng.randrange(len(data))] = rng.randrange(256)
             data = bytes(data[: rng.choice((len(data), rng.randrange(len(data))))])
@@ -267,16 +403,23 @@ class Warnings(unittest.TestCase):
         ("processors 8", "processors 0", 1, 255, 1),
         ("processors 8", "processors 65", 1, 255, 1),
         ("task brake: high", "task brake: 2", 3, 0, 2),
+        ("task brake: high", "task brake: 18", 3, 0, 2),
         ("nodes 3\n  node 2 after 0 1", "nodes 0", 3, 0, 6),
         ("nodes 1", "nodes 33", 3, 1, 11),
         ("deadline 45", "deadline 0", 4, 0, 3),
-        ("overload work 52 span 20", "overload work 10001 span 20", 4, 0, 5),
+        ("deadline 45", "deadline 1000001", 4, 0, 3),
+        ("nominal work 9 span 4", "nominal work 0 span 4", 4, 0, 4),
+        ("overload work 52 span 20", "overload work 1000001 span 20", 4, 0, 5),
+        ("overload work 52 span 20", "overload work 4294967295 span 20", 4, 0, 5),
+        ("work 66 span 6", "work 1000001 span 6", 4, 1, 10),
+        ("task lamp: low\n  deadline 18\n  work 66", "task lamp: 0\n  deadline 18\n  work 10001", 4, 1, 10),
         ("nominal work 9 span 4", "nominal work 3 span 4", 4, 0, 4),
         ("overload work 52 span 20", "overload work 52 span 53", 4, 0, 5),
         ("nominal work 9 span 4", "nominal work 53 span 4", 4, 0, 5),
         ("nominal work 9 span 4", "nominal work 40 span 21", 4, 0, 5),
         ("nominal work 9 span 4", "nominal work 37 span 4", 4, 0, 5),
         ("work 66 span 6", "nominal work 66 span 6\n  overload work 67 span 6", 4, 1, 11),
+        ("low\n  deadline 18\n  work 66", "16\n  deadline 18\n  overload work 67 span 6\n  nominal work 66", 4, 1, 10),
         ("node 2 after 0 1", "node 2 after 2", 5, 0, 7),
         ("node 2 after 0 1", "node 0 after 31", 5, 0, 7),
         ("deadline 45", "deadline 52", 6, 0, 5),
@@ -291,6 +434,19 @@ class Warnings(unittest.TestCase):
                 first = sheets.faults(sheet)[0]
                 self.assertEqual((first.number, first.task, first.place), (number, task, line))
                 sheets.encode(sheet)
+
+    def test_each_names_the_figure_and_its_limit(self):
+        levels = "0 (low), 1 (high), 16 (low wide), 17 (high wide)"
+        for old, new, cause in (
+            ("brake: high", "brake: 15", f"the level is 15; expected one of {levels}"),
+            ("deadline 45", "deadline 0", "the deadline is 0; expected 1 to 1000000"),
+            ("high\n  deadline 45", "1\n  deadline 0", "the deadline is 0; expected 1 to 10000"),
+            ("high\n  deadline 45", "17\n  deadline 0", "the deadline is 0; expected 1 to 1000000"),
+            ("deadline 45", "deadline 1000001", "the deadline is 1000001; expected 1 to 1000000"),
+            ("work 9 span 4", "work 9 span 1000001", "the nominal span is 1000001; expected 1 to 1000000"),
+            ("work 52 span 20", "work 1000001 span 20", "the overload work is 1000001; expected 1 to 1000000"),
+        ):
+            self.assertEqual(sheets.faults(sheets.parse(edited(old, new).encode()))[0].cause, cause)
 
     def test_growth_at_its_bound_is_lawful(self):
         sheet = sheets.parse(edited("nominal work 9 span 4", "nominal work 36 span 4").encode())
@@ -382,6 +538,39 @@ class Plan(unittest.TestCase):
             self.assertEqual((status, errors), (0, ""))
             self.assertEqual([line[16:] for line in output.decode().splitlines()[1:]], rows)
 
+    def test_the_wide_form_gets_the_same_plan(self):
+        for path in EXAMPLES:
+            sheet = sheets.parse(path.read_bytes(), path.parent)
+            for sheet.processors in (2, 3, 5, 8, 12):
+                wide = sheets.Sheet(sheet.processors, [counted(task, 1) for task in sheet.tasks])
+                said = [sheets.printed(sheets.encode(each)) for each in (sheet, wide)]
+                self.assertEqual(*said, path.name)
+
+    def shares(self, processors, tasks):
+        """The printer's lines without the virtual deadlines."""
+        lines = sheets.printed(sheets.encode(sheets.Sheet(processors, tasks))).splitlines()
+        return [line.split()[:5] for line in lines]
+
+    def test_longer_counts_get_the_same_shares(self):
+        rng = random.Random(7)
+        for _ in range(50):
+            sheet = random_loom(rng)
+            longer = [counted(task, 3) for task in sheet.tasks]
+            self.assertEqual(self.shares(sheet.processors, longer), self.shares(sheet.processors, sheet.tasks))
+
+    def test_a_virtual_deadline_of_many_ticks(self):
+        text = (HERE.parent / "examples" / "dye-line.sheet").read_bytes()
+        for work, virtual in ((290_000, "200000"), (290_001, "200000 + 1/2")):
+            data = text.replace(b"nominal work 290000", b"nominal work %d" % work)
+            status, output, errors = tool("plan", "-", data=data)
+            self.assertEqual((status, errors), (0, ""))
+            rows = [f"0-1 (2)  0-2 (3)   {virtual}", "2-4 (3)  3-5 (3)   6 + 2/3", "5-6 (2)  6-7 (2)   none"]
+            self.assertEqual([line[16:] for line in output.decode().splitlines()[1:]], rows)
+
+    def test_the_longest_virtual_deadline(self):
+        text = "processors 2\ntask: high\ndeadline 999999\nwork 1000000 span 999998\nnodes 1\n"
+        self.assertEqual(sheets.printed(sheets.encode(sheets.parse(text.encode()))), "0 0 2 0 2 999999 0\n")
+
     def test_what_rounding_down_took_away(self):
         text = (HERE.parent / "examples" / "rounding.sheet").read_bytes()
         for work, virtual in ((8, "6"), (9, "6 + 1/2"), (10, "7"), (11, "7 + 1/2")):
@@ -391,7 +580,7 @@ class Plan(unittest.TestCase):
 
     def nothing_lost(self, task, entry):
         """S4.6: a share, the quotient and the remainder give the nominal work beside the span again."""
-        if not task.level:
+        if not task.high:
             self.assertEqual((entry.virtual, entry.remainder), (0, 0))
             return
         quotient = entry.virtual - task.span_nominal
@@ -444,6 +633,17 @@ class Plan(unittest.TestCase):
         ):
             with self.subTest(number):
                 self.refuse(edited(old, new).encode(), where, number, whose, warning)
+
+    def test_the_first_warning_is_the_printer_s_refusal(self):
+        rng, found = random.Random(8), set()
+        for _ in range(300):
+            data = bytearray(MIXED)
+            data[rng.randrange(18, len(data))] = rng.choice((0, 1, 15, 16, 17, 18, 255, rng.randrange(256)))
+            with contextlib.suppress(sheets.SheetError):
+                for first in sheets.faults(sheets.decode(bytes(data)))[:1]:
+                    self.assertEqual(sheets.printed(bytes(data)), f"refused {first.number} {first.task}\n", data)
+                    found.add(first.number)
+        self.assertEqual(found, {3, 4, 5, 6})
 
     def test_refused_bytes(self):
         self.refuse(CASE_14[:-1], "-: as bytes", 2, "task 2: ")
@@ -503,6 +703,10 @@ class Printers(unittest.TestCase):
         self.printer.write_text("#!/bin/sh\nprintf 'refused 8 255\\n'\nexit 3\n")
         self.printer.chmod(0o755)
         self.plan("it ended with the status 3")
+
+    def test_a_long_answer(self):
+        entries, number, task = sheets.answer_of("0 0 2 0 2 999999 0\n1 2 1 2 64 1000000 1\n", 2)
+        self.assertEqual(([entry.virtual for entry in entries], number, task), ([999_999, 1_000_000], 0, 255))
 
     def test_another_answer(self):
         self.printer.parent.mkdir(parents=True)

@@ -23,7 +23,30 @@ def run_of(task, shares, lengths, virtual=None, switch_after=None):
     if virtual is None:
         virtual = simulate.virtual_deadline(task, shares[0])
     run = simulate.simulate(task, shares, lengths, virtual, switch_after)
-    return len(run.ticks), run.switch
+    return run.last, run.switch
+
+
+def ticks_of(run):
+    """Each tick of a run: whether the state was critical, the running nodes, which of them ended, whether it switched."""
+    for stretch in run.stretches:
+        for tick in range(stretch.first, stretch.last + 1):
+            last = tick == stretch.last
+            yield stretch.critical, stretch.running, stretch.ended if last else [], stretch.switched and last
+
+
+def one_by_one(task, shares, lengths, virtual, switch_after):
+    """The same, a tick at a time: S8.3, S8.5, S8.6."""
+    left, critical, ticks = list(lengths), switch_after == 0, []
+    while any(left) and not (critical and len(shares) == 1):
+        waits = [any(left[j] for j in range(v) if mask >> j & 1) for v, mask in enumerate(task.predecessors)]
+        running = [v for v, ticks_left in enumerate(left) if ticks_left and not waits[v]][: shares[critical]]
+        for node in running:
+            left[node] -= 1
+        late = task.high and any(left) and len(ticks) + 1 >= virtual
+        switched = not critical and (late or len(ticks) + 1 == switch_after)
+        ticks.append((critical, running, [node for node in running if not left[node]], switched))
+        critical = critical or switched
+    return ticks
 
 
 def random_job(rng):
@@ -62,23 +85,54 @@ class Examples(unittest.TestCase):
         camera = example("shuttle-lamp", 2)
         for after in range(12):
             run = simulate.simulate(camera, (4,), (4,) * 12, 0, after)
-            self.assertEqual((len(run.ticks), run.dropped, run.critically), (after, True, after == 0))
+            self.assertEqual((run.last, run.dropped, run.critically), (after, True, after == 0))
 
     def test_a_low_job_that_is_kept_takes_no_notice_of_the_switch(self):
         lamp, lengths = example("shuttle-lamp", 1), (4,) * 6
-        alone = simulate.simulate(lamp, (2, 2), lengths, 0)
-        self.assertEqual(len(alone.ticks), 16)
+        alone = [running for _, running, _, _ in ticks_of(simulate.simulate(lamp, (2, 2), lengths, 0))]
+        self.assertEqual(len(alone), 16)
         for after in range(18):
             run = simulate.simulate(lamp, (2, 2), lengths, 0, after)
             self.assertFalse(run.dropped)
-            self.assertEqual([tick.running for tick in run.ticks], [tick.running for tick in alone.ticks])
-            self.assertEqual([tick.critical for tick in run.ticks], [number > after for number in range(1, 17)])
+            self.assertEqual([running for _, running, _, _ in ticks_of(run)], alone)
+            self.assertEqual([critical for critical, *_ in ticks_of(run)], [tick > after for tick in range(1, 17)])
 
     def test_the_loom_of_the_shuttle_lamp(self):
         brake = example("shuttle-lamp")
         self.assertEqual(simulate.virtual_deadline(brake, 2), 8)
         self.assertEqual(run_of(brake, (2, 5), (1, 2, 2, 2, 2, 2, 1))[1], None)
         self.assertEqual(run_of(brake, (2, 5), (2, 9, 9, 9, 9, 9, 1)), (18, 8))
+
+
+    def test_the_dye_line(self):
+        pump, camera = example("dye-line"), example("dye-line", 2)
+        nominal, overload = (35_000, *[45_000] * 5, 30_000), (40_000, *[112_000] * 5, 30_000)
+        self.assertEqual(simulate.budget(pump, nominal), "work 290000, longest chain 110000: keeps the nominal budget")
+        over = "work 630000, longest chain 182000: keeps the overload budget"
+        self.assertEqual(simulate.budget(pump, overload), over)
+        self.assertEqual(simulate.virtual_deadline(pump, 2), 200_000)
+        self.assertEqual(run_of(pump, (2, 3), nominal), (200_000, None))
+        self.assertEqual(run_of(pump, (2, 3), overload), (342_000, 200_000))
+        for after in range(0, 200_000, 1000):
+            self.assertLessEqual(run_of(pump, (2, 3), overload, switch_after=after)[0], pump.deadline)
+        self.assertEqual(run_of(camera, (2, 2), (12_000,) * 4, switch_after=15_000), (24_000, 15_000))
+
+
+class Stretches(unittest.TestCase):
+    def test_a_stretch_is_its_ticks(self):
+        rng, levels = random.Random(6), set()
+        for _ in range(400):
+            masks, lengths, work, span = random_job(rng)
+            task = sheets.Task("", rng.choice((0, 1, 16, 17)), masks, 10_000, work, work, span, span)
+            typical = rng.randrange(1, 4)
+            shares = (typical, typical + rng.randrange(3)) if task.high or rng.random() < 0.5 else (typical,)
+            virtual = rng.randrange(1, work + 2)
+            after = rng.choice((None, rng.randrange(work + 2)))
+            run = simulate.simulate(task, shares, lengths, virtual, after)
+            self.assertEqual(list(ticks_of(run)), one_by_one(task, shares, lengths, virtual, after))
+            self.assertTrue(all(stretch.ended or stretch.switched for stretch in run.stretches))
+            levels.add((task.level, run.dropped))
+        self.assertEqual(levels, {(0, False), (0, True), (1, False), (16, False), (16, True), (17, False)})
 
 
 class Bounds(unittest.TestCase):
@@ -164,6 +218,26 @@ class Program(unittest.TestCase):
         self.assertEqual(first, "switch after tick 0: not released, refusal 12")
         self.assertEqual(dropped, [f"switch after tick {t}: dropped after tick {t}" for t in range(1, 12)])
         self.assertEqual(last, "no switch: ended after tick 12, deadline 16")
+
+    def test_a_task_in_the_wide_form_has_a_line_for_a_stretch(self):
+        done = self.ran("dye-line", "--shares", "2", "3", "--lengths", "40000", *["112000"] * 5, "30000")
+        self.assertEqual((done.returncode, done.stderr), (0, ""))
+        rows = [line.split() for line in done.stdout.splitlines()[2:-1]]
+        self.assertEqual(rows[:2], [["1-40000", "typical", "0", "0"], ["40001-152000", "typical", "1", "2", "1", "2"]])
+        self.assertEqual(rows[2], ["152001-200000", "typical", "3", "4", "switched"])
+        self.assertEqual(len(rows), 6)
+        done = self.ran("dye-line", "--shares", "2", "3", "--lengths", *"1111111")
+        self.assertEqual([line.split()[0] for line in done.stdout.splitlines()[2:-1]], list("12345"))
+
+    def test_a_task_in_the_wide_form_has_longer_lengths(self):
+        for option, values in (
+            ("--lengths", ["1000001", *"111111"]),
+            ("--virtual-deadline", ["1000001"]),
+            ("--switch-after", ["32000001"]),
+        ):
+            rest = ("--shares", "2", "3", "--lengths", *["1000000"] * 7)
+            self.assertEqual(self.ran("dye-line", *rest).returncode, 0)
+            self.refuse(f"{option}: expected a number from", *rest, option, *values, name="dye-line")
 
     def test_arguments_out_of_range(self):
         huge = "9" * 6000
