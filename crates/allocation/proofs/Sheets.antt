@@ -166,7 +166,7 @@ module _ (set : TaskSet) (lawful : LawfulSet set) where
         tasks-none = cells-rest (λ i. wideTask (taskIn set i)) zeroTask (set .count) 0 16 (set .count) (omega arith) (lawful .few-tasks);
       }
 
-accepted-padded : (s : List ℕ) → readOf s .answer ≡ Accepted → Padded (readOf s .set)
+pub accepted-padded : (s : List ℕ) → readOf s .answer ≡ Accepted → Padded (readOf s .set)
 accepted-padded s accepted = rw (accepted-set s accepted) (sheet-padded s accepted)
 
 pub wide-read : WideRead

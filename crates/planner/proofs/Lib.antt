@@ -4,3 +4,4 @@ pub mod Bytes
 pub mod Parts
 pub mod Plans
 pub mod Wide
+pub mod Forms

@@ -12,7 +12,7 @@ use Rattle.basics.specs.Lists.{cellsFrom, allBelow, range}
 use Rattle.sheet.specs.Format.{processorsOf, countOf, offsetOf, lengthOf, levelAt, nodesAt, figureAt, figuresAt, masksAt, taskAt, zeroTask, tasksBelow, taskSetOf, taskIn, placeOf}
 use Rattle.sheet.specs.Level.{levelLawful, isLow, bytesBeforeMasks, figureLimit, isHigh, isWide}
 use Rattle.sheet.specs.Rules.{shapeLawful, inRange, inOrder, lowLawful, figuresLawful, maskLawful, masksLawful, isHeavy, taskAnswer}
-use Rattle.reader.proofs.Worked.{sheetABE}
+use Rattle.reader.proofs.Worked.{sheetABE, dyeSheet}
 use Rattle.reader.specs.Reading.{headerLawful, headerAnswer, placeAnswer, endAnswer, shapeAnswer, recordAnswer, readOf, readAnswer}
 use Rattle.shares.specs.Deadline.{virtualDeadlineOf, remainderOf}
 use Rattle.shares.specs.Low.{ceilDiv, lowShare, hasLowShare}
@@ -38,16 +38,6 @@ sheetOn M =
     ∷ 2
     ∷ 10 ∷ 0 ∷ 16 ∷ 0 ∷ 26 ∷ 0 ∷ 16 ∷ 0
     ∷ 1 ∷ 1 ∷ 132 ∷ 3 ∷ 88 ∷ 2 ∷ 232 ∷ 3 ∷ 200 ∷ 0 ∷ 200 ∷ 0 ∷ 0 ∷ 0 ∷ 0 ∷ 0
-    ∷ 0 ∷ 1 ∷ 18 ∷ 0 ∷ 30 ∷ 0 ∷ 30 ∷ 0 ∷ 6 ∷ 0 ∷ 6 ∷ 0 ∷ 0 ∷ 0 ∷ 0 ∷ 0 ∷ []
-
--- A dye line on 5 processors: a high task in the wide form, with D 400,000, CN 300,000, CO 800,000, LN 70,000 and LO 200,000, and the
--- low task of the sheet above.
-abbrev dyeSheet : List ℕ
-dyeSheet =
-    5
-    ∷ 2
-    ∷ 10 ∷ 0 ∷ 26 ∷ 0 ∷ 36 ∷ 0 ∷ 16 ∷ 0
-    ∷ 17 ∷ 1 ∷ 128 ∷ 26 ∷ 6 ∷ 0 ∷ 224 ∷ 147 ∷ 4 ∷ 0 ∷ 0 ∷ 53 ∷ 12 ∷ 0 ∷ 112 ∷ 17 ∷ 1 ∷ 0 ∷ 64 ∷ 13 ∷ 3 ∷ 0 ∷ 0 ∷ 0 ∷ 0 ∷ 0
     ∷ 0 ∷ 1 ∷ 18 ∷ 0 ∷ 30 ∷ 0 ∷ 30 ∷ 0 ∷ 6 ∷ 0 ∷ 6 ∷ 0 ∷ 0 ∷ 0 ∷ 0 ∷ 0 ∷ []
 
 -- Their plan: A has (1, 2) and V 9, with nothing left; B has (3, 4) and V 6, with 1 left.

@@ -54,6 +54,10 @@ both record₀ record₁ = 8 ∷ 2 ∷ 10 ∷ 0 ∷ 16 ∷ 0 ∷ 26 ∷ 0 ∷ 16
 abbrev pub sheetABE : ℕ → List ℕ
 sheetABE M = M ∷ 3 ∷ 14 ∷ 0 ∷ 16 ∷ 0 ∷ 30 ∷ 0 ∷ 16 ∷ 0 ∷ 46 ∷ 0 ∷ 16 ∷ 0 ∷ taskA ++ taskB ++ taskE
 
+-- A dye line on 5 processors: a high task in the wide form, with CO 800,000, and a low one that is not wide: D 18, C 30, L 6.
+abbrev pub dyeSheet : List ℕ
+dyeSheet = 5 ∷ 2 ∷ 10 ∷ 0 ∷ 26 ∷ 0 ∷ 36 ∷ 0 ∷ 16 ∷ 0 ∷ wide 17 (dyeing 0 53 12) ++ small 0 18 30 30 6 6 0
+
 -- A sheet of n times the same task, on 8 processors: the directory from an offset on, and the records.
 unfoldable pub entries : ℕ → ℕ → List ℕ
 entries offset zero = []
@@ -131,11 +135,23 @@ pub record Worked : Type 0 where
                   single 1 45 9 52 4 20 ∷ single 1 54 11 80 4 42 ∷ single 0 18 66 66 6 6 ∷ replicate 13 zeroTask;
             };
       }
+  -- S2.6: both forms in one sheet.
+  pub mixed : readOf dyeSheet
+      ≡ record {
+        answer = Accepted;
+        set =
+            record {
+              processors = 5;
+              count = 2;
+              tasks = single 17 400000 300000 800000 70000 200000 ∷ single 0 18 30 30 6 6 ∷ replicate 14 zeroTask;
+            };
+      }
+  pub mixed-accepted : readOf dyeSheet .answer ≡ Accepted
   -- S3.5: zeros beside a refusal.
   pub refused : readOf (both taskA (small 1 52 9 52 4 20 0))
       ≡ record { answer = Refused 6 1; set = record { processors = 0; count = 0; tasks = replicate 16 zeroTask } }
 
-worked : Worked
+pub worked : Worked
 unfolding firstOver byteAt u16At u32At processorsOf countOf offsetOf lengthOf placeOf cellsFrom levelAt nodesAt figureAt figuresAt masksAt taskAt tasksBelow taskSetOf zeroTaskSet levelLawful shapeLawful inRange inOrder lowLawful figuresLawful maskLawful allBelow masksLawful isHeavy taskAnswer headerLawful headerAnswer placeAnswer endAnswer shapeAnswer recordAnswer readAnswer readOf entries copies isHigh figureLimit bytesBeforeMasks isWide
 worked =
     record {
@@ -180,5 +196,7 @@ worked =
       header-first = refl;
       whole-length = refl;
       whole = refl;
+      mixed = refl;
+      mixed-accepted = refl;
       refused = refl;
     }

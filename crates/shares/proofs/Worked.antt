@@ -6,12 +6,16 @@ use mathlib.Core.List.{[], _∷_}
 use Rattle.sheet.specs.declared.task.Task.{Task}
 use Rattle.sheet.specs.declared.task.Figures.{Figures}
 use Rattle.shares.specs.Test.{excess, demand, passes, divisionOf, virtualDeadline}
+use native.Mathlib.Omega.{arith}
 use Rattle.sheet.specs.Level.{isLow, isHigh}
+use Rattle.sheet.specs.Rules.{inOrder}
 use Rattle.shares.specs.Low.{ceilDiv, lowShare, hasLowShare}
 use Rattle.shares.specs.Search.{first, leastCritical}
 use Rattle.shares.specs.Offer.{lowCritical, criticalAt, tabulate}
 use Rattle.shares.specs.Deadline.{virtualDeadlineOf, remainderOf}
+use Rattle.shares.specs.Bound.{SidesWithin, SidesBound}
 use Rattle.shares.specs.Cases.{figures, taskA, taskB, lowTask}
+use Rattle.shares.proofs.Bounds.{sides-bound}
 
 -- A task of a level, with these figures and one node.
 abbrev ofLevel : ℕ → Figures → Task
@@ -88,3 +92,8 @@ worked =
       most-asked = refl;
       most-passes = refl;
     }
+
+-- There are figures, shares and a limit for which `sides-bound` holds: those of the greatest sides.
+pub some-sides : SidesWithin 1000000 most 64 64
+unfolding SidesBound inOrder
+some-sides = sides-bound 1000000 most 64 64 refl (omega arith) (omega arith) (omega arith) (omega arith) (omega arith)

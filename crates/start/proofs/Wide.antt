@@ -12,6 +12,7 @@ use Rattle.sheet.specs.declared.task.TaskSet.{TaskSet}
 use Rattle.sheet.specs.Format.{taskIn}
 use Rattle.sheet.specs.Wide.{wideTask, wideSet}
 use Rattle.reader.specs.Reading.{readOf}
+use Rattle.reader.proofs.Worked.{dyeSheet, worked}
 use Rattle.allocation.specs.declared.allocate.Allocated.{Allocated}
 use Rattle.allocation.specs.declared.allocate.Allocation.{Allocation}
 use Rattle.allocation.specs.Allocation.{allocationAt, allocationAnswer, allocatedOf}
@@ -66,3 +67,8 @@ wide-started s accepted =
     let answers : allocationAnswer (wideForm s) ≡ allocationAnswer s = sym (answer-is (wideForm s)) ∙ ap (λ (a : Allocated). a .answer) fixed ∙ answer-is s in
     rw (answers, fixed, wide-read s accepted, fresh-wide set (accepted-lawful s accepted) (allocatedOf s .allocations))
     (started-wide (allocationAnswer s) (freshState set (allocatedOf s .allocations)))
+
+-- There is such a sheet: a dye line with records of both forms.
+pub some-wide : startOf (wideForm dyeSheet) ≡ record { state = wideState (startOf dyeSheet .state); answer = startOf dyeSheet .answer }
+unfolding WideStarted
+some-wide = wide-started dyeSheet (worked .mixed-accepted)
