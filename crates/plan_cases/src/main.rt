@@ -132,21 +132,21 @@ fn print_line(numbers: &[u32]) {
 }
 
 // A byte as a number of a line.
-fn wide(x: u8) -> u32
+fn number(x: u8) -> u32
     ensures { λ r. ⌜ r ≡ x ⌝ }
 {
     x as u32
 }
 
-// S3.1: 0 and 255, for an accepted plan of two tasks; then the plan's fourteen bytes.
-fn accepted(plan: [u8; 21]) -> [u32; 16]
-    ensures { λ r. ⌜ r ≡ 0 ∷ noTask ∷ take 14 plan ⌝ }
+// S3.1: 0 and 255, for an accepted plan of two tasks; then the plan's eighteen bytes.
+fn accepted(plan: [u8; 27]) -> [u32; 20]
+    ensures { λ r. ⌜ r ≡ 0 ∷ noTask ∷ take 18 plan ⌝ }
 {
-    let mut numbers = [0u32; 16];
-    numbers[1] = wide(NO_TASK);
+    let mut numbers = [0u32; 20];
+    numbers[1] = number(NO_TASK);
     let mut i: usize = 0;
-    while i < 14 {
-        numbers[i + 2] = wide(plan[i]);
+    while i < 18 {
+        numbers[i + 2] = number(plan[i]);
         i += 1;
     }
     numbers
@@ -154,15 +154,15 @@ fn accepted(plan: [u8; 21]) -> [u32; 16]
 
 // Plans a sheet of at most three tasks and prints the answer, and the plan where it is one of two tasks.
 fn print_case(sheet: &[u8]) {
-    let mut buffer = [0u8; 21];
+    let mut buffer = [0u8; 27];
     let answer = plan(sheet, &mut buffer);
     match answer {
         Answer::Accepted => {
             let numbers = accepted(buffer);
             print_line(&numbers);
         },
-        Answer::Refused(number, task) => {
-            let numbers = [wide(number), wide(task)];
+        Answer::Refused(cause, task) => {
+            let numbers = [number(cause), number(task)];
             print_line(&numbers);
         },
     }

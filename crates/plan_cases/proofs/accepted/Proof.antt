@@ -13,36 +13,36 @@ use Rattle.plan_cases.proofs.accepted.Tie as tie
 
 -- The numbers after i bytes of the plan.
 abbrev numbersAt : List ℕ → ℕ → List ℕ
-numbersAt plan i = 0 ∷ noTask ∷ (take i plan ++ drop i (replicate 14 0))
+numbersAt plan i = 0 ∷ noTask ∷ (take i plan ++ drop i (replicate 18 0))
 
-one-more : (plan : List ℕ) (i : ℕ) → i < 14 → i < length plan → set (numbersAt plan i) (i + 2) (getD plan i 0) ≡ numbersAt plan (i + 1)
+one-more : (plan : List ℕ) (i : ℕ) → i < 18 → i < length plan → set (numbersAt plan i) (i + 2) (getD plan i 0) ≡ numbersAt plan (i + 1)
 one-more plan i h g =
     let place : i + 2 ≡ suc (suc i) = omega arith in
-    rw place (ap (λ (l : List ℕ). 0 ∷ noTask ∷ l) (copy-step plan (replicate 14 0) i g h))
+    rw place (ap (λ (l : List ℕ). 0 ∷ noTask ∷ l) (copy-step plan (replicate 18 0) i g h))
 
-no-more : (plan : List ℕ) (i : ℕ) → i ≡ 14 → numbersAt plan i ≡ 0 ∷ noTask ∷ take 14 plan
-no-more plan i e = rw (e, append-nil (take 14 plan))
+no-more : (plan : List ℕ) (i : ℕ) → i ≡ 18 → numbersAt plan i ≡ 0 ∷ noTask ∷ take 18 plan
+no-more plan i e = rw (e, append-nil (take 18 plan))
 
 abbrev Inv-loop : tie.InvT-loop
-Inv-loop plan numbers₀ i₀ numbers i = (i ≤ 14) × (numbers ≡ numbersAt plan i)
+Inv-loop plan numbers₀ i₀ numbers i = (i ≤ 18) × (numbers ≡ numbersAt plan i)
 
 abbrev μ-loop : tie.MeasureT-loop
-μ-loop plan numbers₀ i₀ numbers i = 14 - i
+μ-loop plan numbers₀ i₀ numbers i = 18 - i
 
-wide-requires : tie.Need-wide-requires Inv-loop μ-loop
-wide-requires c κs = search needs
+number-requires : tie.Need-number-requires Inv-loop μ-loop
+number-requires c κs = search needs
 
 array-write-numbers : tie.Need-array-write-numbers Inv-loop μ-loop
 array-write-numbers c = search needs
 
 loop-holds : tie.Need-loop-holds Inv-loop μ-loop
-loop-holds c = (omega arith, rw (c .wide .ensures))
+loop-holds c = (omega arith, rw (c .number .ensures))
 
-array-read-wide : tie.Need-array-read-wide Inv-loop μ-loop
-array-read-wide c = search needs
+array-read-number : tie.Need-array-read-number Inv-loop μ-loop
+array-read-number c = search needs
 
-wide-requires-2 : tie.Need-wide-requires-2 Inv-loop μ-loop
-wide-requires-2 c κs = search needs
+number-requires-2 : tie.Need-number-requires-2 Inv-loop μ-loop
+number-requires-2 c κs = search needs
 
 add-numbers : tie.Need-add-numbers Inv-loop μ-loop
 add-numbers c = search needs
@@ -63,8 +63,8 @@ loop-again : tie.Need-loop-again Inv-loop μ-loop
 loop-again c =
     let loop = c .before .before .loop in
     let plan = c .before .before .before .before .args .t1 in
-    let long : 21 ≡ length plan = search needs in
-    (omega arith, rw (c .wide2 .ensures, loop .inv .1) (one-more plan (loop .i) (omega arith) (omega arith)))
+    let long : 27 ≡ length plan = search needs in
+    (omega arith, rw (c .number2 .ensures, loop .inv .1) (one-more plan (loop .i) (omega arith) (omega arith)))
 
 returns : tie.Need-returns Inv-loop μ-loop
 returns c =
@@ -76,11 +76,11 @@ accepted-spec =
     (tie.spec
     Inv-loop
     μ-loop
-    wide-requires
+    number-requires
     array-write-numbers
     loop-holds
-    array-read-wide
-    wide-requires-2
+    array-read-number
+    number-requires-2
     add-numbers
     mul-numbers
     array-write-numbers-2
