@@ -1,50 +1,29 @@
 -- What an accepted reading says: the sheet's task set, which is lawful, since no cause of 1 to 6 holds for it.
-use Prim.Native.Nat.{ℕ, zero, suc, _+_, _≤_, _<_}
+use Prim.Native.Nat.{ℕ, _<_}
 use mathlib.Core.Path.{_≡_, refl, sym, ap, _∙_, subst}
-use mathlib.Core.Bool.{Bool, true, false, _&&_, not}
+use mathlib.Core.Bool.{true, _&&_, not}
 use mathlib.Core.List.{List}
 use mathlib.Core.Option.{Option, none, some}
 use native.Mathlib.Omega.{arith}
-use native.Mathlib.Decide.{decLt}
 use lib.Dec.{leb}
 use lib.ListN.{length}
 use Rattle.sheet.specs.declared.answer.Answer.{Answer}
 use Rattle.sheet.specs.declared.answer.Answer.the-variants.{Accepted, Refused}
 use Rattle.sheet.specs.declared.task.Task.{Task}
 use Rattle.sheet.specs.declared.task.TaskSet.{TaskSet}
-use Rattle.sheet.specs.Answers.{refusedIf, _orElse_, firstOver, badHeader, badRecord, badFigure, badMask, notHeavy, noTask}
+use Rattle.sheet.specs.Answers.{refusedIf, firstOver, badHeader, badRecord, badFigure, badMask, notHeavy, noTask}
 use Rattle.sheet.specs.Format.{processorsOf, countOf, offsetOf, lengthOf, levelAt, nodesAt, taskAt, tasksBelow, taskSetOf, taskIn, missingTask, zeroTask}
 use Rattle.basics.specs.Numbers.{within}
 use Rattle.sheet.specs.Level.{levelLawful}
 use Rattle.sheet.specs.Rules.{shapeLawful, figuresLawful, masksLawful, isHeavy, taskAnswer}
 use Rattle.reader.specs.Reading.{headerLawful, headerAnswer, placeAnswer, endAnswer, shapeAnswer, recordAnswer, readingOf, readOf, readAnswer}
 use Rattle.basics.proofs.Cells.{cells-length, cells-at}
+use Rattle.sheet.proofs.Faults.{both-accepted, rule-kept, over-accepted}
 use Rattle.basics.proofs.Logic.{left-true, right-true, all-four, within-bounds}
 use Rattle.shares.specs.declared.share.Share.{Share}
 use Rattle.basics.specs.Lists.{isNone}
 use Rattle.allocation.specs.Allocation.{noFit, chosenFor, shareAnswer, choiceAnswer, sharesChosen}
 use Rattle.allocation.specs.Lawful.{LawfulTask, LawfulSet}
-
--- Two causes that let pass.
-pub both-accepted : (first later : Answer) → (first orElse later) ≡ Accepted → (first ≡ Accepted) × (later ≡ Accepted)
-both-accepted Accepted later e = (refl, e)
-both-accepted (Refused number task) later e = absurd (let z : _≡_ {A = ℕ} 0 1 = cc in omega arith)
-
-pub rule-kept : (rule : Bool) (number task : ℕ) → refusedIf (not rule) number task ≡ Accepted → rule ≡ true
-rule-kept true number task e = refl
-rule-kept false number task e = absurd (let z : _≡_ {A = ℕ} 0 1 = cc in omega arith)
-
--- A cause that lets all tasks pass lets each pass.
-pub over-accepted : (offer : ℕ → Answer) (first count i : ℕ) → firstOver offer first count ≡ Accepted → first ≤ i → i < first + count → offer i ≡ Accepted
-unfolding firstOver
-over-accepted offer first zero i e from to = absurd (omega arith)
-over-accepted offer first (suc count) i e from to =
-    let both = both-accepted (offer first) (firstOver offer (suc first) count) e in
-    go (over-accepted offer (suc first) count i (both .1)) (both .0) (decLt first i)
-  where
-    go : (suc first ≤ i → i < suc first + count → offer i ≡ Accepted) → offer first ≡ Accepted → Dec (first < i) → offer i ≡ Accepted
-    go rest here (yes later) = rest later (omega arith)
-    go rest here (no not-later) = let same : i ≡ first = omega arith in ap offer same ∙ here
 
 module _ (s : List ℕ) where
   read-answer : readOf s .answer ≡ readAnswer s

@@ -21,10 +21,11 @@ use Rattle.sheet.specs.Format.{processorsOf, countOf, offsetOf, lengthOf, place
 use Rattle.sheet.specs.Level.{bytesBeforeMasks}
 use Rattle.sheet.specs.Encoding.{recordBytes, directoryBytes, sheetBytes}
 use Rattle.reader.specs.Reading.{headerLawful, placeAnswer, endAnswer, readOf}
+use Rattle.sheet.proofs.Faults.{rule-kept, over-accepted}
 use Rattle.sheet.proofs.Parts.{record-part, record-size}
 use Rattle.reader.proofs.Records.{nodes-few, shape-size}
 use Rattle.allocation.specs.Wide.{SheetAgain}
-use Rattle.allocation.proofs.Accepted.{rule-kept, over-accepted, accepted-set, header-kept, behind-header, shape-kept}
+use Rattle.allocation.proofs.Accepted.{accepted-set, header-kept, behind-header, shape-kept}
 
 -- How an accepted sheet is laid out: the directory fits, each record begins where the one before it ends, and has its length.
 record Laid (s : List ℕ) : Type 0 where

@@ -3,7 +3,7 @@
 use Prim.Native.Nat.{ℕ, _+_, _≤_, _<_}
 use mathlib.Core.Bool.{true, false}
 use mathlib.Core.List.{List}
-use mathlib.Core.Path.{_≡_, refl, sym, _∙_}
+use mathlib.Core.Path.{_≡_, refl, sym, ap, _∙_}
 use native.Mathlib.Omega.{arith}
 use lib.ListN.{length, take, set, replicate}
 use Rattle.sheet.specs.declared.answer.Answer.{Answer}
@@ -15,16 +15,18 @@ use Rattle.basics.proofs.Cells.{cells-none, cells-store, cells-length, cells-at
 use Rattle.reader.specs.Reading.{readOf}
 use Rattle.shares.specs.declared.share.Share.{Share}
 use Rattle.shares.specs.Totals.{shareAt, shareTotal}
+use Rattle.allocation.specs.declared.allocate.Allocated.{Allocated}
 use Rattle.allocation.specs.declared.allocate.Allocation.{Allocation}
 use Rattle.allocation.specs.Blocks.{offsetIn, lengthIn}
 use Rattle.allocation.specs.Lawful.{LawfulSet, LawfulShares}
 use Rattle.allocation.specs.Allocation.{choiceAnswer, sixteen, sharesOf, allocationOf, noAllocation, allocationsOf, allocationAt, allocationAnswer, allocatedWith, allocatedOf}
 use Rattle.allocation.specs.means.Bounds.{SharesFit, Bounded, AllBounded}
-use Rattle.allocation.proofs.Accepted.{both-accepted, accepted-lawful}
+use Rattle.allocation.proofs.Accepted.{accepted-lawful}
 use Rattle.allocation.proofs.KeptLine.{accepted-shares}
 use Rattle.shares.proofs.Division.{remainder-less}
 use Rattle.shares.proofs.Totals.{total-part}
 use Rattle.allocation.proofs.Blocks.{shares-blocks}
+use Rattle.sheet.proofs.Faults.{both-accepted}
 use Rattle.sheet.proofs.Limits.{limit-most}
 use Rattle.allocation.proofs.Lawfulness.{figures-kept}
 use Rattle.allocation.proofs.Sixteen.{share-same, sixteen-take, offset-same}
@@ -101,11 +103,15 @@ pub answer-with : (a : Answer) (count : ℕ) (allocations : List Allocation) →
 answer-with Accepted count allocations = refl
 answer-with (Refused number task) count allocations = refl
 
-module _ (s : List ℕ) where
-  pub answer-is : allocatedOf s .answer ≡ allocationAnswer s
-  unfolding allocatedOf
-  answer-is = answer-with (allocationAnswer s) _ _
+-- The answer of a sheet, and two sheets for which the same is fixed.
+pub answer-is : (s : List ℕ) → allocatedOf s .answer ≡ allocationAnswer s
+unfolding allocatedOf
+answer-is s = answer-with (allocationAnswer s) _ _
 
+pub answer-same : (s t : List ℕ) → allocatedOf s ≡ allocatedOf t → allocationAnswer s ≡ allocationAnswer t
+answer-same s t same = sym (answer-is s) ∙ ap (λ (a : Allocated). a .answer) same ∙ answer-is t
+
+module _ (s : List ℕ) where
   pub answer-read : {number task : ℕ} → readOf s .answer ≡ Refused number task → allocationAnswer s ≡ Refused number task
   unfolding allocationAnswer
   answer-read e = rw e

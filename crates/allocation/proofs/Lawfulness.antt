@@ -8,7 +8,7 @@ use Rattle.sheet.specs.declared.task.Figures.{Figures}
 use Rattle.basics.specs.Numbers.{within}
 use Rattle.sheet.specs.Level.{isHigh, isLow, figureLimit}
 use Rattle.sheet.specs.Rules.{inRange, inOrder, lowLawful, figuresLawful, isHeavy}
-use Rattle.basics.proofs.Logic.{left-true, right-true, all-four, within-bounds}
+use Rattle.basics.proofs.Logic.{left-true, right-true, all-five, within-bounds}
 
 -- What the figures of a lawful task keep.
 pub record Kept (level : ℕ) (f : Figures) : Type 0 where
@@ -35,24 +35,18 @@ module _ (level : ℕ) (f : Figures) (lawful : figuresLawful level f ≡ true) w
   pub figures-kept : Kept level f
   unfolding inRange inOrder
   figures-kept =
-      let ranges = all-four
-      (within 1 (figureLimit level) (f .deadline) && within 1 (figureLimit level) (f .nominal .work))
-      (within 1 (figureLimit level) (f .overload .work))
-      (within 1 (figureLimit level) (f .nominal .span))
-      (within 1 (figureLimit level) (f .overload .span)) in-range in
-      let deadline = left-true (within 1 (figureLimit level) (f .deadline)) (within 1 (figureLimit level) (f .nominal .work)) (ranges .0) in
-      let orders = all-four
-      (leb (f .nominal .span) (f .nominal .work) && leb (f .overload .span) (f .overload .work))
-      (leb (f .nominal .work) (f .overload .work))
-      (leb (f .nominal .span) (f .overload .span))
-      _ in-order in
+      let limit = figureLimit level in
+      let ranges = all-five (within 1 limit (f .deadline)) (within 1 limit (f .nominal .work)) (within 1 limit (f .overload .work))
+      (within 1 limit (f .nominal .span)) (within 1 limit (f .overload .span)) in-range in
+      let orders = all-five (leb (f .nominal .span) (f .nominal .work)) (leb (f .overload .span) (f .overload .work))
+      (leb (f .nominal .work) (f .overload .work)) (leb (f .nominal .span) (f .overload .span)) _ in-order in
       record {
-        deadline-from = within-bounds 1 (figureLimit level) _ deadline .0;
-        deadline-to = within-bounds 1 (figureLimit level) _ deadline .1;
-        span-from = within-bounds 1 (figureLimit level) _ (ranges .2) .0;
-        span-work = leb-true _ _ (left-true (leb (f .nominal .span) (f .nominal .work)) _ (orders .0));
-        works = leb-true _ _ (orders .1);
-        spans = leb-true _ _ (orders .2);
+        deadline-from = within-bounds 1 limit (f .deadline) (ranges .0) .0;
+        deadline-to = within-bounds 1 limit (f .deadline) (ranges .0) .1;
+        span-from = within-bounds 1 limit (f .nominal .span) (ranges .3) .0;
+        span-work = leb-true _ _ (orders .0);
+        works = leb-true _ _ (orders .2);
+        spans = leb-true _ _ (orders .3);
       }
 
   -- A low task has CN = CO and LN = LO.

@@ -24,7 +24,7 @@ use Rattle.allocation.specs.Choice.{optionsOf, choices, fits, rank, chos
 use Rattle.allocation.specs.Way.{MayTake, TakesNothing, FittingWay, BestWay}
 use Rattle.allocation.specs.Allocation.{noShare, noFit, tasksOf, chosenFor, shareAnswer, choiceAnswer}
 use Rattle.allocation.specs.Verdict.{CanTake, Verdict, no-share, no-fit, accepted}
-use Rattle.allocation.proofs.Accepted.{over-accepted}
+use Rattle.sheet.proofs.Faults.{over-accepted}
 use Rattle.basics.proofs.Members.{empty-none}
 use Rattle.allocation.proofs.Optimal.{Takes, takes-choice, choice-takes}
 use Rattle.allocation.proofs.Options.{option-may, may-option}

@@ -1,39 +1,30 @@
 -- What an accepted import says of its graph and its terms, since no cause of 17, 18 and 19 holds.
 use Prim.Native.Nat.{ℕ, _≤_}
-use mathlib.Core.Bool.{Bool, true, false, not, _&&_, _||_, false≢true}
+use mathlib.Core.Bool.{Bool, true, false, not, _&&_, _||_}
 use mathlib.Core.List.{List}
 use mathlib.Core.Option.{Option, some}
-use mathlib.Core.Path.{_≡_, refl, sym, ap, _∙_}
+use mathlib.Core.Path.{_≡_, sym, ap, _∙_}
 use lib.Dec.{eqb, leb}
 use borrow.Author.Tests.{leb-true, eqb-true}
 use Rattle.basics.specs.Numbers.{within}
 use Rattle.basics.proofs.Logic.{left-true, right-true, within-bounds}
 use Rattle.sheet.specs.declared.answer.Answer.{Answer}
-use Rattle.sheet.specs.declared.answer.Answer.the-variants.{Accepted, Refused}
+use Rattle.sheet.specs.declared.answer.Answer.the-variants.{Accepted}
 use Rattle.sheet.specs.Answers.{noTask, refusedIf, _orElse_}
 use Rattle.sheet.specs.Level.{isHigh}
+use Rattle.sheet.proofs.Faults.{both-accepted, rule-kept}
 use Rattle.sheet.specs.Rules.{inRange}
 use Rattle.graph_text.specs.Graph.{Graph, graphOf, isRising}
 use Rattle.importer.specs.declared.terms.Terms.{Terms}
 use Rattle.importer.specs.Task.{termsLawful, figuresOf}
 use Rattle.importer.specs.Import.{badText, badGraph, figureOutside, roomFor, isAskedWell, graphLawful, answerFor, importAnswer}
 
--- A refusal is no acceptance; a rule whose cause accepts is kept, alone and in front of others.
-pub refused-not : {number task : ℕ} → Refused number task ≡ Accepted → ⊥
-refused-not e = false≢true (ap accepts e)
-  where
-    accepts : Answer → Bool
-    accepts Accepted = true
-    accepts (Refused number task) = false
-
-pub alone-kept : (rule : Bool) (number task : ℕ) → refusedIf (not rule) number task ≡ Accepted → rule ≡ true
-alone-kept true number task e = refl
-alone-kept false number task e = absurd (refused-not e)
-
-pub rule-kept : (rule : Bool) (number task : ℕ) (later : Answer) → (refusedIf (not rule) number task orElse later) ≡ Accepted →
+-- A rule in front of other causes that let pass.
+pub first-kept : (rule : Bool) (number task : ℕ) (later : Answer) → (refusedIf (not rule) number task orElse later) ≡ Accepted →
     (rule ≡ true) × (later ≡ Accepted)
-rule-kept true number task later e = (refl, e)
-rule-kept false number task later e = absurd (refused-not e)
+first-kept rule number task later e =
+    let both = both-accepted (refusedIf (not rule) number task) later e in
+    (rule-kept rule number task (both .0), both .1)
 
 -- Terms that are lawful.
 pub record LawfulTerms (t : Terms) : Type 0 where
@@ -66,15 +57,15 @@ pub record Kept (g : Graph) (t : Terms) : Type 0 where
 graph-kept : (g : Graph) (t : Terms) (room : ℕ) → answerFor (some g) t room ≡ Accepted → Kept g t
 unfolding isAskedWell graphLawful
 graph-kept g t room e =
-    let asked = rule-kept (isAskedWell g t room) badText noTask _ e in
-    let lawful = rule-kept (graphLawful g) badGraph noTask _ (asked .1) in
+    let asked = first-kept (isAskedWell g t room) badText noTask _ e in
+    let lawful = first-kept (graphLawful g) badGraph noTask _ (asked .1) in
     let counted = within-bounds 1 32 (g .count) (left-true (within 1 32 (g .count)) (isRising g) (lawful .0)) in
     record {
       terms = terms-kept t (left-true (termsLawful t) (leb (roomFor (g .count)) room) (asked .0));
       some-nodes = counted .0;
       few-nodes = counted .1;
       rising = right-true (within 1 32 (g .count)) (isRising g) (lawful .0);
-      ranged = alone-kept (inRange (t .level) (figuresOf g t)) figureOutside noTask (lawful .1);
+      ranged = rule-kept (inRange (t .level) (figuresOf g t)) figureOutside noTask (lawful .1);
     }
 
 pub accepted-kept : (text : List ℕ) (t : Terms) (room : ℕ) (g : Graph) →

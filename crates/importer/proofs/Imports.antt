@@ -20,7 +20,7 @@ use Rattle.sheet.specs.Encoding.{figureBytes, recordBytes}
 use Rattle.sheet.specs.Rules.{inRange}
 use Rattle.sheet.proofs.Encoding.{masks-length, narrow-record}
 use Rattle.sheet.proofs.Wide.{first-narrow}
-use Rattle.sheet.proofs.Faults.{after-accepted, after-refused}
+use Rattle.sheet.proofs.Faults.{after-accepted, after-refused, refused-not, rule-kept}
 use Rattle.basics.specs.Numbers.{u16Bytes}
 use Rattle.basics.proofs.Logic.{within-bounds}
 use Rattle.graph_text.specs.Text.{numeralLimit}
@@ -34,7 +34,7 @@ use Rattle.importer.specs.declared.terms.Terms.{Terms}
 use Rattle.importer.specs.Task.{termsLawful, scaled, overloadTimeOf, figuresOf, taskFrom}
 use Rattle.importer.specs.Import.{badText, badGraph, figureOutside, roomFor, isAskedWell, graphLawful, answerFor, importAnswer, recordFor, importedRecord, imported}
 use Rattle.importer.specs.means.Nodes.{TimesSmall, ReadSmall, scaledTimes, nodesTask, nodesAnswer}
-use Rattle.importer.proofs.Acceptance.{refused-not, alone-kept, rule-kept, terms-kept}
+use Rattle.importer.proofs.Acceptance.{first-kept, terms-kept}
 
 -- What is read of a text stays within what sums lean on.
 zeros-small : (n : ℕ) (v : ℕ) → getD (replicate n 0) v 0 ≤ numeralLimit
@@ -93,8 +93,8 @@ unfolding nodesAnswer
 fine graph t room h =
     let asked-rule = graph .lawful && (termsLawful t && leb (roomFor (graph .count)) room) in
     let graph-rule = within 1 32 (graph .count) && graph .rising in
-    let first = rule-kept asked-rule badText noTask (refusedIf (not graph-rule) badGraph noTask) h in
-    let second = alone-kept graph-rule badGraph noTask (first .1) in
+    let first = first-kept asked-rule badText noTask (refusedIf (not graph-rule) badGraph noTask) h in
+    let second = rule-kept graph-rule badGraph noTask (first .1) in
     let asked = and-eq-true-iff (graph .lawful) (termsLawful t && leb (roomFor (graph .count)) room) .0 (first .0) in
     let with-room = and-eq-true-iff (termsLawful t) (leb (roomFor (graph .count)) room) .0 (asked .1) in
     let shape = and-eq-true-iff (within 1 32 (graph .count)) (graph .rising) .0 second in

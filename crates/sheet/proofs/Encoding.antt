@@ -6,8 +6,8 @@ use mathlib.Core.Path.{_≡_, refl, sym, ap, _∙_}
 use native.Mathlib.Omega.{arith}
 use native.Mathlib.Nat.{mod-lt}
 use lib.Dec.{ltb}
-use lib.ListN.{length, getD, drop, replicate}
-use borrow.Author.Tests.{ltb-true, lt-ltb}
+use lib.ListN.{length, getD, replicate}
+use borrow.Author.Tests.{ltb-true}
 use Rattle.basics.specs.Lists.{all, cellsFrom}
 use Rattle.sheet.specs.declared.task.Task.{Task}
 use Rattle.basics.specs.Numbers.{byteAt, u16At, u32At, u16Bytes, u32Bytes}
@@ -16,7 +16,7 @@ use Rattle.sheet.specs.Format.{levelAt, nodesAt, figureAt, figuresAt, ma
 use Rattle.sheet.specs.Encoding.{figureBytes, masksBytes, recordBytes}
 use Rattle.sheet.specs.Laws.{figureRoom, Encodable, RoundTrip, RecordLength, RecordOfBytes}
 use Rattle.basics.proofs.Bytes.{byte-behind, u16-behind, u32-behind, u16-whole, u32-whole}
-use Rattle.basics.proofs.Cells.{cells-none}
+use Rattle.basics.proofs.Cells.{cells-whole}
 use Rattle.basics.proofs.Logic.{left-true, right-true}
 
 -- The first mask, and those behind it.
@@ -30,27 +30,18 @@ module _ (mask : ℕ) (s : List ℕ) where
   mask-next d =
       u32-behind (mask % 256 ∷ mask / 256 % 256 ∷ mask / 65536 % 256 ∷ mask / 16777216 % 256 ∷ []) s (4 * d) (4 * suc d) (omega arith)
 
--- Cells that are read from the bytes of masks hold the masks: the first k by their bytes, the others are 0 on both sides.
-masks-read : (masks : List ℕ) (k first count : ℕ) (f : ℕ → ℕ) (back : List ℕ) → count ≡ first + k → k ≤ length masks
-    → all (λ mask. ltb mask (2 ^ 32)) masks ≡ true
-    → drop k masks ≡ replicate (length masks - k) 0
-    → ((d v : ℕ) → v ≡ first + d → f v ≡ u32At (masksBytes k masks ++ back) (4 * d))
-    → cellsFrom first (length masks) f 0 count ≡ masks
-unfolding masksBytes cellsFrom u32Bytes
-masks-read masks zero first count f back c few fit none reads =
-    let all : length masks - 0 ≡ length masks = omega arith in
-    cells-none f 0 first (length masks) count (omega arith) ∙ sym (none ∙ ap (λ (n : ℕ). replicate n 0) all)
-masks-read [] (suc k) first count f back c few fit none reads = absurd (omega arith)
-masks-read (mask ∷ masks) (suc k) first count f back c few fit none reads =
-    let small = ltb-true mask (2 ^ 32) (left-true (ltb mask (2 ^ 32)) (all (λ m. ltb m (2 ^ 32)) masks) fit) in
-    let others = right-true (ltb mask (2 ^ 32)) (all (λ m. ltb m (2 ^ 32)) masks) fit in
-    let head : f first ≡ mask = reads 0 first (omega arith) ∙ mask-first mask (masksBytes k masks ++ back) small in
-    let left : suc (length masks) - suc k ≡ length masks - k = omega arith in
-    let tail : cellsFrom (suc first) (length masks) f 0 count ≡ masks =
-    masks-read masks k (suc first) count f back (omega arith) (omega arith) others (none ∙ ap (λ (n : ℕ). replicate n 0) left) (λ d v e. reads (suc d) v (omega arith) ∙ mask-next mask (masksBytes k masks ++ back) d) in
-    rw (lt-ltb first count (omega arith), head, tail)
+-- Mask j of the first k, by its bytes.
+mask-at : (masks : List ℕ) (k j : ℕ) (back : List ℕ) → k ≤ length masks → all (λ mask. ltb mask (2 ^ 32)) masks ≡ true → j < k →
+    u32At (masksBytes k masks ++ back) (4 * j) ≡ getD masks j 0
+unfolding masksBytes u32Bytes
+mask-at masks zero j back few fit h = absurd (omega arith)
+mask-at [] (suc k) j back few fit h = absurd (omega arith)
+mask-at (mask ∷ masks) (suc k) zero back few fit h =
+    mask-first mask (masksBytes k masks ++ back) (ltb-true mask (2 ^ 32) (left-true (ltb mask (2 ^ 32)) _ fit))
+mask-at (mask ∷ masks) (suc k) (suc j) back few fit h =
+    mask-next mask (masksBytes k masks ++ back) j ∙ mask-at masks k j back (omega arith) (right-true (ltb mask (2 ^ 32)) _ fit) (omega arith)
 
--- A task's record with figures of the given width, and its bytes up to the masks.
+-- A task's record with figures of the given width, up to its masks and with them.
 abbrev upToMasks : Bool → Task → List ℕ
 upToMasks wide t =
     t .level
@@ -62,15 +53,7 @@ upToMasks wide t =
     ++ figureBytes wide (t .figures .overload .span)
 
 abbrev pub recordWith : Bool → Task → List ℕ
-recordWith wide t =
-    t .level
-    ∷ t .nodes
-    ∷ figureBytes wide (t .figures .deadline)
-    ++ figureBytes wide (t .figures .nominal .work)
-    ++ figureBytes wide (t .figures .overload .work)
-    ++ figureBytes wide (t .figures .nominal .span)
-    ++ figureBytes wide (t .figures .overload .span)
-    ++ masksBytes (t .nodes) (t .predecessors)
+recordWith wide t = upToMasks wide t ++ masksBytes (t .nodes) (t .predecessors)
 
 -- What such a record says: each figure by its place, and the masks behind them.
 record Told (wide : Bool) (t : Task) (back : List ℕ) : Type 0 where
@@ -160,11 +143,12 @@ module _ (t : Task) (front back : List ℕ) where
   unfolding masksAt
   masks-whole fits =
       let at = length front + bytesBeforeMasks (levelAt (front ++ whole) (length front)) in
+      let mask : ℕ → ℕ = λ v. u32At (front ++ whole) (at + 4 * v) in
       let few : t .nodes ≤ length (t .predecessors) = omega (arith, fits .nodes, fits .masks) in
-      let none : drop (t .nodes) (t .predecessors) ≡ replicate (length (t .predecessors) - t .nodes) 0 = fits .masks-none ∙ ap (λ (n : ℕ). replicate (n - t .nodes) 0) (sym (fits .masks)) in
-      ap (λ (n : ℕ). cellsFrom 0 n (λ v. u32At (front ++ whole) (at + 4 * v)) 0 (nodesAt (front ++ whole) (length front))) (sym (fits .masks))
-      ∙ masks-read (t .predecessors) (t .nodes) 0 (nodesAt (front ++ whole) (length front)) (λ v. u32At (front ++ whole) (at + 4 * v)) back
-      (omega (arith, nodes-read)) few (fits .masks-fit) none mask-read
+      ap (λ (n : ℕ). cellsFrom 0 n mask 0 (nodesAt (front ++ whole) (length front))) (sym (fits .masks))
+      ∙ cells-whole mask 0 0 (t .predecessors) 0 (t .nodes) (nodesAt (front ++ whole) (length front)) (omega (arith, nodes-read)) few
+      (λ v j e h. mask-read j v e ∙ mask-at (t .predecessors) (t .nodes) j back few (fits .masks-fit) h)
+      (fits .masks-none ∙ ap (λ (n : ℕ). replicate (n - t .nodes) 0) (sym (fits .masks)))
 
 pub round-trip : RoundTrip
 unfolding RoundTrip taskAt figuresAt recordBytes

@@ -1,7 +1,8 @@
 -- S3.2, causes in order: where a rule is kept the next cause speaks, and the first refusal is the answer.
 use Prim.Native.Nat.{ℕ, zero, suc, _≤_, _<_, _+_, _-_}
-use mathlib.Core.Bool.{Bool, true, false, not}
-use mathlib.Core.Path.{_≡_, refl}
+use mathlib.Core.Bool.{Bool, true, false, not, false≢true}
+use mathlib.Core.Path.{_≡_, refl, ap, _∙_}
+use native.Mathlib.Decide.{decLt}
 use native.Mathlib.Omega.{arith}
 use native.Mathlib.Numerals.{add-one}
 use lib.Dec.{eqb}
@@ -23,7 +24,23 @@ kept rule number task e = rw e
 pub broken : (rule : Bool) (number task : ℕ) → rule ≡ false → refusedIf (not rule) number task ≡ Refused number task
 broken rule number task e = rw e
 
--- The same where the rule is that two numbers are equal.
+-- A refusal is no acceptance. Where causes let pass, each does, and a rule that is not refused is kept.
+pub refused-not : {number task : ℕ} → Refused number task ≡ Accepted → ⊥
+refused-not e = false≢true (ap accepts e)
+  where
+    accepts : Answer → Bool
+    accepts Accepted = true
+    accepts (Refused number task) = false
+
+pub both-accepted : (first later : Answer) → (first orElse later) ≡ Accepted → (first ≡ Accepted) × (later ≡ Accepted)
+both-accepted Accepted later e = (refl, e)
+both-accepted (Refused number task) later e = absurd (refused-not e)
+
+pub rule-kept : (rule : Bool) (number task : ℕ) → refusedIf (not rule) number task ≡ Accepted → rule ≡ true
+rule-kept true number task e = refl
+rule-kept false number task e = absurd (refused-not e)
+
+-- A rule that two numbers are equal.
 pub kept-equal : (x y number task : ℕ) → x ≡ y → refusedIf (not (eqb x y)) number task ≡ Accepted
 kept-equal x y number task e = kept (eqb x y) number task (eq-eqb x y e)
 
@@ -55,6 +72,19 @@ module _ (cause : ℕ → Answer) where
   over-all n =
       let all : n - 0 ≡ n = omega arith in
       rw all
+
+-- A cause that lets all tasks pass lets each pass.
+pub over-accepted : (cause : ℕ → Answer) (first count i : ℕ) → firstOver cause first count ≡ Accepted → first ≤ i → i < first + count →
+    cause i ≡ Accepted
+unfolding firstOver
+over-accepted cause first zero i e from to = absurd (omega arith)
+over-accepted cause first (suc count) i e from to =
+    let both = both-accepted (cause first) (firstOver cause (suc first) count) e in
+    go (over-accepted cause (suc first) count i (both .1)) (both .0) (decLt first i)
+  where
+    go : (suc first ≤ i → i < suc first + count → cause i ≡ Accepted) → cause first ≡ Accepted → Dec (first < i) → cause i ≡ Accepted
+    go rest here (yes later) = rest later (omega arith)
+    go rest here (no not-later) = let same : i ≡ first = omega arith in ap cause same ∙ here
 
 -- A cause that lets each task pass lets all pass.
 pub all-pass : (cause : ℕ → Answer) (first count : ℕ) → ((i : ℕ) → first ≤ i → i < first + count → cause i ≡ Accepted) →

@@ -16,7 +16,7 @@ or-false true = refl
 or-false false = refl
 
 -- A level that is not wide lies below 16.
-pub narrow-below : (level : ℕ) → isWide level ≡ false → level < 16
+narrow-below : (level : ℕ) → isWide level ≡ false → level < 16
 unfolding isWide
 narrow-below level e = leb-false 16 level e
 

@@ -60,26 +60,10 @@ abbrev wideNode : List ℕ
 wideNode =
     17 ∷ 1 ∷ 128 ∷ 26 ∷ 6 ∷ 0 ∷ 224 ∷ 147 ∷ 4 ∷ 0 ∷ 0 ∷ 53 ∷ 12 ∷ 0 ∷ 112 ∷ 17 ∷ 1 ∷ 0 ∷ 64 ∷ 13 ∷ 3 ∷ 0 ∷ 0 ∷ 0 ∷ 0 ∷ 0 ∷ []
 
--- Tasks that a record can hold.
-encodable : Encodable taskE
+-- A task that a record can hold, in the wide form.
+encodable : Encodable dyeLine
 unfolding isWide
 encodable =
-    record {
-      level = omega arith;
-      nodes = omega arith;
-      deadline = omega arith;
-      nominal-work = omega arith;
-      overload-work = omega arith;
-      nominal-span = omega arith;
-      overload-span = omega arith;
-      masks = refl;
-      masks-fit = refl;
-      masks-none = refl;
-    }
-
-wide-encodable : Encodable dyeLine
-unfolding isWide
-wide-encodable =
     record {
       level = omega arith;
       nodes = omega arith;

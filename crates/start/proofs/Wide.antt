@@ -13,13 +13,12 @@ use Rattle.sheet.specs.Format.{taskIn}
 use Rattle.sheet.specs.Wide.{wideTask, wideSet}
 use Rattle.reader.specs.Reading.{readOf}
 use Rattle.reader.proofs.Worked.{dyeSheet, worked}
-use Rattle.allocation.specs.declared.allocate.Allocated.{Allocated}
 use Rattle.allocation.specs.declared.allocate.Allocation.{Allocation}
 use Rattle.allocation.specs.Allocation.{allocationAt, allocationAnswer, allocatedOf}
 use Rattle.allocation.specs.Lawful.{LawfulSet}
 use Rattle.allocation.specs.Wide.{wideForm, WideRead, WideAllocated}
 use Rattle.allocation.proofs.Accepted.{accepted-lawful}
-use Rattle.allocation.proofs.Allocations.{answer-is}
+use Rattle.allocation.proofs.Allocations.{answer-same}
 use Rattle.allocation.proofs.Sheets.{wide-task, wide-read}
 use Rattle.allocation.proofs.Wide.{wide-allocated}
 use Rattle.entries.specs.declared.state.TaskState.{TaskState}
@@ -64,8 +63,7 @@ unfolding WideStarted WideRead WideAllocated startOf
 wide-started s accepted =
     let set = readOf s .set in
     let fixed = wide-allocated s accepted in
-    let answers : allocationAnswer (wideForm s) ≡ allocationAnswer s = sym (answer-is (wideForm s)) ∙ ap (λ (a : Allocated). a .answer) fixed ∙ answer-is s in
-    rw (answers, fixed, wide-read s accepted, fresh-wide set (accepted-lawful s accepted) (allocatedOf s .allocations))
+    rw (answer-same (wideForm s) s fixed, fixed, wide-read s accepted, fresh-wide set (accepted-lawful s accepted) (allocatedOf s .allocations))
     (started-wide (allocationAnswer s) (freshState set (allocatedOf s .allocations)))
 
 -- There is such a sheet: a dye line with records of both forms.
