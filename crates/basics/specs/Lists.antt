@@ -1,5 +1,5 @@
 -- Lists by enumeration, and tests and counts over the numbers below a bound.
-use Prim.Native.Nat.{ℕ, zero, suc, _+_}
+use Prim.Native.Nat.{ℕ, zero, suc, _+_, max}
 use mathlib.Core.Bool.{Bool, true, false, cond, _&&_, _||_}
 use mathlib.Core.List.{List, [], _∷_, _++_}
 use mathlib.Core.Option.{Option, none, some}
@@ -30,6 +30,11 @@ abbrev pub all : {A : Type 0} → (A → Bool) → List A → Bool
 all test [] = true
 all test (x ∷ xs) = test x && all test xs
 
+-- Whether some member passes a test.
+abbrev pub any : {A : Type 0} → (A → Bool) → List A → Bool
+any test [] = false
+any test (x ∷ xs) = test x || any test xs
+
 -- The first member that passes a test, or none.
 abbrev pub find : {A : Type 0} → (A → Bool) → List A → Option A
 find test [] = none
@@ -44,6 +49,11 @@ isEmpty (x ∷ xs) = false
 abbrev pub isIn : ℕ → List ℕ → Bool
 isIn i [] = false
 isIn i (j ∷ list) = eqb i j || isIn i list
+
+-- The greatest of some numbers, 0 where there are none.
+abbrev pub greatest : List ℕ → ℕ
+greatest [] = 0
+greatest (x ∷ xs) = max x (greatest xs)
 
 -- Whether there is nothing.
 abbrev pub isNone : {A : Type 0} → Option A → Bool

@@ -4,11 +4,11 @@ use mathlib.Core.Path.{_≡_, refl}
 use mathlib.Core.List.{List, [], _∷_}
 use native.Mathlib.Omega.{arith}
 use lib.Dec.{lit≤}
-use Rattle.basics.specs.Lists.{range}
+use Rattle.basics.specs.Lists.{range, greatest}
 use Rattle.nodes.specs.Sets.{has, members}
 use Rattle.model.specs.Row.{predecessorsOf, precedes}
 use Rattle.model.specs.Budget.{sumBelow, Keeps}
-use Rattle.chains.specs.Chains.{greatest, longestAmong, chainAt, chainsBelow, spanOf, budgetOf}
+use Rattle.chains.specs.Chains.{longestAmong, chainAt, chainsBelow, spanOf, budgetOf}
 use Rattle.chains.specs.Laws.{LowerOnly, GreatestAlong, SpanIsGreatest, OwnBudget, GrownTo, Growth}
 use Rattle.chains.specs.means.Bounds.{timeAt, Small}
 use Rattle.chains.proofs.Laws.{span-is-greatest, own-budget, growth}

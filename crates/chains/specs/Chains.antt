@@ -1,17 +1,12 @@
 -- S14.7: the work and the span that times of nodes come to: their sum, and their longest chain.
-use Prim.Native.Nat.{ℕ, zero, suc, _+_, max}
+use Prim.Native.Nat.{ℕ, zero, suc, _+_}
 use mathlib.Core.List.{List, [], _∷_, _++_, map}
 use lib.ListN.{getD}
-use Rattle.basics.specs.Lists.{range}
+use Rattle.basics.specs.Lists.{range, greatest}
 use Rattle.nodes.specs.Sets.{members}
 use Rattle.sheet.specs.declared.task.Budget.{Budget}
 use Rattle.model.specs.Row.{predecessorsOf}
 use Rattle.model.specs.Budget.{sumBelow}
-
--- The greatest of some numbers, 0 where there are none.
-abbrev pub greatest : List ℕ → ℕ
-greatest [] = 0
-greatest (x ∷ xs) = max x (greatest xs)
 
 -- The longest of the chains that end at one of these nodes, 0 where there is none; chains holds for each node the longest that ends
 -- at it.

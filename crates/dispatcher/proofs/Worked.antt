@@ -11,7 +11,7 @@ use Rattle.sheet.specs.Answers.{numberOf, taskOf}
 use Rattle.sheet.specs.Level.{levelLawful, isHigh, isLow, figureLimit, isWide}
 use Rattle.sheet.specs.Rules.{maskLawful, masksLawful}
 use Rattle.shares.specs.Low.{isKept}
-use Rattle.model.specs.Row.{isSubset, allEnded, predecessorsOf, isReady, ready, running, runningSet, releasedRow, joined, tickedRow, isLate, survives, switchedRow}
+use Rattle.model.specs.Row.{isSubset, allEnded, predecessorsOf, isReady, ready, running, runningSet, releasedRow, joined, tickedRow, hasHighJob, isLate, survives, switchedRow}
 use Rattle.model.specs.Step.{unknownTask, lowInCritical, tooEarly, wrongCount, notRunning, rowAt, granted, releaseRefusal, tickRefusal, released, ticked, step}
 use Rattle.entries.specs.declared.state.TaskState.{TaskState}
 use Rattle.entries.specs.Entry.{fixedOf, jobOf, rowOf, withRow}
@@ -145,7 +145,7 @@ pub record Worked : Type 0 where
   pub board-calm : boardOf (calm false) (replicate 10 7) ≡ replicate 10 255
 
 worked : Worked
-unfolding has range levelLawful maskLawful allBelow masksLawful isHigh isLow isKept isSubset allEnded predecessorsOf isReady ready running runningSet releasedRow joined tickedRow isLate survives switchedRow unknownTask lowInCritical tooEarly wrongCount notRunning rowAt granted releaseRefusal tickRefusal released ticked step fixedOf jobOf rowOf withRow entrySound entriesOf modelOf withModel isSound releaseOf tickOf idle block boardBytes boardAnswer boardOf figureLimit isWide
+unfolding has range levelLawful maskLawful allBelow masksLawful isHigh isLow isKept isSubset allEnded predecessorsOf isReady ready running runningSet releasedRow joined tickedRow hasHighJob isLate survives switchedRow unknownTask lowInCritical tooEarly wrongCount notRunning rowAt granted releaseRefusal tickRefusal released ticked step fixedOf jobOf rowOf withRow entrySound entriesOf modelOf withModel isSound releaseOf tickOf idle block boardBytes boardAnswer boardOf figureLimit isWide
 worked =
     record {
       typical-most = refl;

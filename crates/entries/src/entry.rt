@@ -6,7 +6,7 @@ ghost use Rattle.basics.specs.Lists.{keptIf};
 ghost use lib.ListN.{take};
 ghost use Rattle.nodes.specs.Sets.{members, setOf};
 ghost use Rattle.shares.specs.Totals.{shareIn};
-ghost use Rattle.model.specs.Row.{isSubset, allEnded, ready, releasedRow, tickedRow, isLate, survives, switchedRow};
+ghost use Rattle.model.specs.Row.{isSubset, allEnded, ready, releasedRow, tickedRow, hasHighJob, isLate, survives, switchedRow};
 ghost use Rattle.entries.specs.Entry.{fixedOf, rowOf, withRow};
 use crate::state::TaskState;
 use shares::share::Share;
@@ -105,11 +105,18 @@ pub fn ticked(e: TaskState, report: u32) -> TaskState
     next
 }
 
+// S8.6: whether this is a high task with an alive job.
+fn has_high_job(e: TaskState) -> bool
+    ensures { λ r. ⌜ r ≡ hasHighJob (rowOf e) ⌝ }
+{
+    is_high(e.level) & e.job.alive
+}
+
 // S8.6: whether an alive job of a high task is as old as V, or older.
 pub fn is_late(e: TaskState) -> bool
     ensures { λ r. ⌜ r ≡ isLate (rowOf e) ⌝ }
 {
-    is_high(e.level) & e.job.alive & (e.virtual_deadline <= e.age)
+    has_high_job(e) & (e.virtual_deadline <= e.age)
 }
 
 // S8.6: whether a switch leaves the task's job: that of a high task, and that of a low one that is kept.

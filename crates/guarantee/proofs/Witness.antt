@@ -32,16 +32,16 @@ use Rattle.allocation.specs.Choice.{lowOptions, pairsWithin, highOptions, optio
 use Rattle.keeping.specs.Kept.{lowNumbers, holdable, firstHeld, typicalShareAt, leftOver, keptTasks, keptShare, withKept}
 use Rattle.allocation.specs.Allocation.{chosenFor, shareAnswer, choiceAnswer, sharesWith, sharesOf, allocationAnswer}
 use Rattle.model.specs.Budget.{sumBelow, Chain, alone, link, along}
-use Rattle.model.specs.Row.{isSubset, allEnded, predecessorsOf, precedes, isReady, ready, running, runningSet, releasedRow, joined, tickedRow, isLate, survives, switchedRow}
+use Rattle.model.specs.Row.{isSubset, allEnded, predecessorsOf, precedes, isReady, ready, running, runningSet, releasedRow, joined, tickedRow, hasHighJob, isLate, survives, switchedRow}
 use Rattle.model.specs.Step.{Model, Call, release, tick, step, rowAt, granted, runningAt, unknownTask, lowInCritical, tooEarly, wrongCount, notRunning, releaseRefusal, tickRefusal, released, ticked}
 use Rattle.model.specs.Run.{after, isAccepted, ticksIn, releasesIn, isRunning, isDue}
 use Rattle.model.specs.Plan.{freshRow, fresh}
-use Rattle.model.specs.Claim.{begun, KeepsBudget, NominalJob, Ended, StaysTypical, Deadline, EndInTime, Nominal, KeptDeadline}
+use Rattle.model.specs.Claim.{begun, KeepsBudget, JobWithin, HighJobsWithin, Ended, StaysTypical, Deadline, EndInTime, Nominal, KeptDeadline}
 use Rattle.model.specs.Beside.{LowDeadline, TypicalUntil}
 use Rattle.start.specs.Start.{startOf}
 use Rattle.guarantee.specs.Runs.{allModelSaid}
 use Rattle.guarantee.specs.Guarantee.{sharesFor, modelFor, Guarantee, BesideGuarantee, tasksFor}
-use Rattle.guarantee.specs.Witness.{twoTasks, highTask, longLengths, overrun, overrunSaid, shortLengths, usual, lowTask, lowAlone, oneKept, keptTask, keptLengths, overSwitch, overSwitchSaid, InTimeAsked, NominalAsked, DeadlineMet, NominalMet, LowMet, KeptMet}
+use Rattle.guarantee.specs.Witness.{twoTasks, highTask, longLengths, overrun, overrunSaid, shortLengths, usual, lowTask, lowAlone, oneKept, keptTask, keptLengths, overSwitch, overSwitchSaid, InTimeAsked, DeadlineMet, NominalMet, LowMet, KeptMet}
 use Rattle.guarantee.proofs.Theorem.{answer-returned, guarantee, beside-guarantee}
 use Rattle.guarantee.proofs.Truths.{allTrue, true-reports, allTypical, typical-until, at-releases}
 
@@ -281,7 +281,7 @@ record Runs : Type 0 where
   pub kept-alive : rowAt (after keptStart (take 7 overSwitch)) 1 .job .alive ≡ true
 
 runs : Runs
-unfolding fresh freshRow virtualDeadlineOf isLow divisionOf virtualDeadline has range isHigh isKept isSubset allEnded predecessorsOf isReady ready running runningSet releasedRow joined tickedRow isLate survives switchedRow step rowAt granted runningAt unknownTask lowInCritical tooEarly wrongCount notRunning releaseRefusal tickRefusal released ticked isAccepted isRunning isDue
+unfolding fresh freshRow virtualDeadlineOf isLow divisionOf virtualDeadline has range isHigh isKept isSubset allEnded predecessorsOf isReady ready running runningSet releasedRow joined tickedRow hasHighJob isLate survives switchedRow step rowAt granted runningAt unknownTask lowInCritical tooEarly wrongCount notRunning releaseRefusal tickRefusal released ticked isAccepted isRunning isDue
 runs =
     record {
       begins = refl;
@@ -364,15 +364,15 @@ kept-asked =
     (runs .kept-begins) refl kept-keeps (runs .kept-true) (runs .kept-due) (runs .kept-ticks) refl
 
 -- Of the three releases of the other run that of the low task asks nothing.
-usual-asked : NominalAsked both start usual
-unfolding NominalAsked taskIn isHigh
+usual-asked : HighJobsWithin (λ t. t .figures .nominal) both start usual
+unfolding HighJobsWithin taskIn isHigh
 usual-asked =
-    at-releases (λ i m since. isHigh (taskIn both i .level) ≡ true → NominalJob (taskIn both i) i m since) start usual (
+    at-releases (λ i m since. isHigh (taskIn both i .level) ≡ true → JobWithin (taskIn both i) (taskIn both i .figures .nominal) i m since) start usual (
       λ _ level. nominal first (drop 1 usual) (runs .short-true),
       (λ _ level. absurd (false≢true level), (λ _ level. nominal (after start (take 11 usual)) (drop 11 usual) (runs .short-again), tt)),
     )
   where
-    nominal : (m : Model) (since : List Call) → allTrue 0 shortLengths (λ _. 0) m since ≡ true → NominalJob high 0 m since
+    nominal : (m : Model) (since : List Call) → allTrue 0 shortLengths (λ _. 0) m since ≡ true → JobWithin high (high .figures .nominal) 0 m since
     nominal m since h = record { lengths = shortLengths; keeps = short-keeps; reports = true-reports 0 shortLengths m since h }
 
 -- All of them hold of the sheet, whose model this is.
@@ -397,7 +397,7 @@ nominal-met =
       started = started;
       high = ap (λ (t : Task). isHigh (t .level)) task-is;
       jobs = ap (λ (m : Model). releasesIn 0 m usual) model-is ∙ runs .jobs;
-      asked = subst₂ (λ (ts : TaskSet) (m : Model). NominalAsked ts m usual) (sym read-set) (sym model-is) usual-asked;
+      asked = subst₂ (λ (ts : TaskSet) (m : Model). HighJobsWithin (λ t. t .figures .nominal) ts m usual) (sym read-set) (sym model-is) usual-asked;
     }
 
 -- What is asked of the low job, with the mode.
@@ -442,7 +442,7 @@ job-ended =
 
 -- S10.9 of the other: the mode stays typical.
 pub mode-typical : StaysTypical (modelFor twoTasks) usual
-unfolding Guarantee Nominal NominalAsked modelFor
+unfolding Guarantee Nominal modelFor
 mode-typical = guarantee twoTasks started usual .nominal (nominal-met .asked)
 
 -- S10.10 of the third: the low job has ended.

@@ -15,7 +15,7 @@ use Rattle.shares.specs.Low.{isKept}
 use Rattle.shares.specs.Totals.{shareAt}
 use Rattle.model.specs.Step.{Model, Call, release, tick, rowAt}
 use Rattle.model.specs.Run.{after, isAccepted, releasesIn, TrueReports}
-use Rattle.model.specs.Claim.{ReleaseIn, begun, KeepsBudget, DeadlinePassed, NominalJob}
+use Rattle.model.specs.Claim.{ReleaseIn, begun, KeepsBudget, DeadlinePassed, HighJobsWithin}
 use Rattle.model.specs.Beside.{TypicalUntil}
 use Rattle.dispatcher.specs.declared.tick.TickAnswer.the-variants.{Ran, Switched, Refused as TickRefused}
 use Rattle.start.specs.Start.{startOf}
@@ -169,12 +169,6 @@ pub record InTimeAsked (isSuch : ℕ → Bool) (budget : Budget) (start : Model)
   pub reports : TrueReports i lengths (begun job) (job .since)
   pub passed : DeadlinePassed t i (begun job) (job .since)
 
--- S10.9: what the nominal clause asks of a run: that each job of a high task keeps the nominal budget, with true reports.
-unfoldable pub NominalAsked : TaskSet → Model → List Call → Type 0
-NominalAsked ts start calls =
-    (i : ℕ) (job : ReleaseIn start i calls) →
-    isHigh (taskIn ts i .level) ≡ true → NominalJob (taskIn ts i) i (begun job) (job .since)
-
 -- S10.7 is met by a job that overruns its nominal budget.
 pub record DeadlineMet : Type 0 where
   -- Start accepts the sheet.
@@ -194,7 +188,7 @@ pub record NominalMet : Type 0 where
   pub high : isHigh (highTask .level) ≡ true
   pub jobs : releasesIn 0 (modelFor twoTasks) usual ≡ 2
   -- All that the nominal clause asks holds of it.
-  pub asked : NominalAsked (tasksFor twoTasks) (modelFor twoTasks) usual
+  pub asked : HighJobsWithin (λ t. t .figures .nominal) (tasksFor twoTasks) (modelFor twoTasks) usual
 
 -- S10.10 is met by a low job in typical mode, and by its task's next release.
 pub record LowMet : Type 0 where

@@ -13,7 +13,7 @@ use Rattle.shares.specs.declared.share.Share.{Share}
 use Rattle.shares.specs.Low.{isKept}
 use Rattle.shares.specs.Test.{passes}
 use Rattle.shares.proofs.Ends.{overload-ends, virtual-positive, virtual-within}
-use Rattle.model.specs.Row.{Fixed, Row, isLate, survives}
+use Rattle.model.specs.Row.{Fixed, Row, hasHighJob, isLate, survives}
 use Rattle.model.specs.Step.{Call, rowAt}
 use Rattle.sheet.specs.Format.{taskIn}
 use Rattle.shares.specs.Totals.{shareAt}
@@ -30,7 +30,7 @@ unfolding survives
 high-survives f high = ap (λ (t : Bool). t || isKept (f .level) (f .share)) high
 
 not-late : (r : Row) → isHigh (r .fixed .level) ≡ true → r .job .alive ≡ true → isLate r ≡ false → r .age < r .fixed .virtualDeadline
-unfolding isLate
+unfolding isLate hasHighJob
 not-late r high alive e =
     let not-past = rw (high, alive) at e in omega (arith, leb-false)
 

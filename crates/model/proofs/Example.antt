@@ -19,7 +19,7 @@ use Rattle.model.specs.Plan.{freshRow, fresh, LawfulTask, PassingPair, L
 use Rattle.model.specs.Claim.{KeepsBudget, DeadlinePassed}
 use Rattle.basics.specs.Lists.{range}
 use Rattle.nodes.specs.Sets.{has}
-use Rattle.model.specs.Row.{isSubset, allEnded, precedes, predecessorsOf, isReady, ready, running, runningSet, releasedRow, joined, tickedRow, isLate, survives, switchedRow}
+use Rattle.model.specs.Row.{isSubset, allEnded, precedes, predecessorsOf, isReady, ready, running, runningSet, releasedRow, joined, tickedRow, hasHighJob, isLate, survives, switchedRow}
 use Rattle.model.specs.Step.{release, tick, step, rowAt, granted, releaseRefusal, tickRefusal, released, ticked}
 use Rattle.model.specs.Run.{after, isAccepted}
 use Rattle.model.proofs.Worked.{alone}
@@ -125,7 +125,7 @@ nominal-alone = record { positive = positive; work = lit≤ tt; span = span }
 
 -- S10.7: the deadline of a job of it passes with the 45th tick after the release.
 passed-alone : DeadlinePassed (taskIn sheetA 0) 0 (after alone (release 0 ∷ [])) (replicate 45 (tick (0 ∷ [])))
-unfolding taskIn has range isHigh isSubset allEnded predecessorsOf isReady ready running runningSet releasedRow joined tickedRow isLate survives switchedRow step rowAt granted releaseRefusal tickRefusal released ticked isAccepted
+unfolding taskIn has range isHigh isSubset allEnded predecessorsOf isReady ready running runningSet releasedRow joined tickedRow hasHighJob isLate survives switchedRow step rowAt granted releaseRefusal tickRefusal released ticked isAccepted
 passed-alone =
     record {
       before = replicate 44 (tick (0 ∷ []));

@@ -12,7 +12,7 @@ use Rattle.sheet.specs.declared.task.Budget.{Budget}
 use Rattle.sheet.specs.declared.task.TaskSet.{TaskSet}
 use Rattle.shares.specs.declared.share.Share.{Share}
 use Rattle.shares.proofs.Ends.{nominal-ends}
-use Rattle.model.specs.Row.{Fixed, Row, allEnded, joined, tickedRow, isLate}
+use Rattle.model.specs.Row.{Fixed, Row, allEnded, joined, tickedRow, hasHighJob, isLate}
 use Rattle.model.specs.Step.{Model, Call, release, tick, Refusal, Step, step, stepBy, refusalOf, rowAt, noRow, released, tickedRows, lowestLate, switchedTo, switching, ticked}
 use Rattle.basics.specs.Lists.{isNone}
 use Rattle.model.specs.Run.{answers, isAccepted, isTick, isReleaseOf}
@@ -20,7 +20,7 @@ use Rattle.sheet.specs.Format.{taskIn}
 use Rattle.shares.specs.Totals.{shareAt}
 use Rattle.sheet.specs.Level.{isHigh}
 use Rattle.model.specs.Plan.{freshRow, fresh, Planned}
-use Rattle.model.specs.Claim.{ReleaseIn, begun, KeepsBudget, NominalJob, isSwitched, noneSwitched, StaysTypical, Nominal}
+use Rattle.model.specs.Claim.{ReleaseIn, begun, KeepsBudget, JobWithin, HighJobsWithin, isSwitched, noneSwitched, StaysTypical, Nominal}
 use Rattle.model.proofs.Steps.{next, accepted-step, refused-step, length-ticked, get-ticked, tick-tests, tick-at, Turn, same, begins, ticks, turn}
 use Rattle.model.proofs.Lasting.{fixed-step, same-fixed, length-step}
 use Rattle.model.proofs.Fresh.{fresh-length, fresh-row}
@@ -62,7 +62,7 @@ none-late-intro j (r ∷ rows) h =
 
 -- No job is late if it is below V, where it is an alive one of a high task.
 below-not-late : (r : Row) → (isHigh (r .fixed .level) ≡ true → r .job .alive ≡ true → r .age < r .fixed .virtualDeadline) → isLate r ≡ false
-unfolding isLate
+unfolding isLate hasHighJob
 below-not-late r below = go (isLate r) refl (isHigh (r .fixed .level)) refl (r .job .alive) refl
   where
     go : (t : Bool) → isLate r ≡ t → (x : Bool) → isHigh (r .fixed .level) ≡ x → (y : Bool) → r .job .alive ≡ y → t ≡ false
@@ -258,7 +258,7 @@ module _ (ts : TaskSet) (shares : List Share) (planned : Planned ts shares) wher
 
   -- S10.9.
   pub nominal : (calls : List Call) → Nominal ts shares calls
-  unfolding Nominal fresh begun
+  unfolding Nominal HighJobsWithin fresh begun
   nominal calls honest =
       calm-stays (fresh ts shares) calls
       (record {
@@ -278,7 +278,7 @@ module _ (ts : TaskSet) (shares : List Share) (planned : Planned ts shares) wher
           level : isHigh (taskIn ts i .level) ≡ true
           level = level-high i known high
 
-          own : NominalJob (taskIn ts i) i (begun job) (job .since)
+          own : JobWithin (taskIn ts i) (taskIn ts i .figures .nominal) i (begun job) (job .since)
           own = honest i job level
 
           -- The job's budget is within the nominal one.

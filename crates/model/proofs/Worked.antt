@@ -8,7 +8,7 @@ use Rattle.basics.specs.Lists.{range, keep}
 use Rattle.nodes.specs.Sets.{has}
 use Rattle.sheet.specs.Level.{isHigh, isLow}
 use Rattle.shares.specs.Low.{isKept}
-use Rattle.model.specs.Row.{Row, isSubset, allEnded, predecessorsOf, isReady, ready, running, runningSet, releasedRow, joined, tickedRow, isLate, survives, switchedRow}
+use Rattle.model.specs.Row.{Row, isSubset, allEnded, predecessorsOf, isReady, ready, running, runningSet, releasedRow, joined, tickedRow, hasHighJob, isLate, survives, switchedRow}
 use Rattle.model.specs.Step.{Model, Call, release, tick, accepted, ran, switched, refused, step, rowAt, granted, runningAt, unknownTask, lowInCritical, tooEarly, wrongCount, notRunning, releaseRefusal, tickRefusal, released, ticked}
 use Rattle.model.specs.Run.{after, answers, isAccepted, ticksIn, isRunning, runsIn, isDue}
 
@@ -180,7 +180,7 @@ pub record Worked : Type 0 where
   pub afresh : changedAt (after (after alone endsInTime) (quiet 36 ++ release 0 ∷ [])) 0 ≡ record { age = 0; ended = 0; alive = true }
 
 worked : Worked
-unfolding has range isHigh isLow isKept isSubset allEnded predecessorsOf isReady ready running runningSet releasedRow joined tickedRow isLate survives switchedRow step rowAt granted runningAt unknownTask lowInCritical tooEarly wrongCount notRunning releaseRefusal tickRefusal released ticked isAccepted isRunning isDue
+unfolding has range isHigh isLow isKept isSubset allEnded predecessorsOf isReady ready running runningSet releasedRow joined tickedRow hasHighJob isLate survives switchedRow step rowAt granted runningAt unknownTask lowInCritical tooEarly wrongCount notRunning releaseRefusal tickRefusal released ticked isAccepted isRunning isDue
 worked =
     record {
       in-time = refl;

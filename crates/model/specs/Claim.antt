@@ -80,11 +80,17 @@ pub record Capacity (ts : TaskSet) (shares : List Share) (m : Model) : Type 0 wh
   pub each : (i : ℕ) → length (runningAt m i) ≤ shareIn (m .critical) (shareAt shares i)
   pub together : sumBelow (length (m .rows)) (λ i. length (runningAt m i)) ≤ ts .processors
 
--- S10.9: a job whose lengths keep the nominal budget of its task, with true reports.
-pub record NominalJob (t : Task) (i : ℕ) (m : Model) (since : List Call) : Type 0 where
+-- S10.5 and S10.6: a job of task i whose lengths keep a budget, with true reports.
+pub record JobWithin (t : Task) (b : Budget) (i : ℕ) (m : Model) (since : List Call) : Type 0 where
   pub lengths : ℕ → ℕ
-  pub keeps : KeepsBudget t (t .figures .nominal) lengths
+  pub keeps : KeepsBudget t b lengths
   pub reports : TrueReports i lengths m since
+
+-- S10.5 and S10.6: each job of a high task keeps this budget, with true reports.
+unfoldable pub HighJobsWithin : (Task → Budget) → TaskSet → Model → List Call → Type 0
+HighJobsWithin budget ts start calls =
+    (i : ℕ) (job : ReleaseIn start i calls) →
+    isHigh (taskIn ts i .level) ≡ true → JobWithin (taskIn ts i) (budget (taskIn ts i)) i (begun job) (job .since)
 
 -- Whether the answer says that a tick switched.
 abbrev pub isSwitched : Answer → Bool
@@ -107,9 +113,7 @@ pub record StaysTypical (start : Model) (calls : List Call) : Type 0 where
 -- of low tasks.
 unfoldable pub Nominal : TaskSet → List Share → List Call → Type 0
 Nominal ts shares calls =
-    ((i : ℕ) (job : ReleaseIn (fresh ts shares) i calls) →
-    isHigh (taskIn ts i .level) ≡ true → NominalJob (taskIn ts i) i (begun job) (job .since)) →
-    StaysTypical (fresh ts shares) calls
+    HighJobsWithin (λ t. t .figures .nominal) ts (fresh ts shares) calls → StaysTypical (fresh ts shares) calls
 
 -- S10.7 to S10.9 and S10.11 over one list of calls. Every prefix of a list is a list, so this speaks of every moment.
 pub record Demand3 (ts : TaskSet) (shares : List Share) (calls : List Call) : Type 0 where

@@ -92,9 +92,13 @@ tickedRow r report =
           };
     }
 
+-- S8.6: whether this is a high task with an alive job.
+unfoldable pub hasHighJob : Row → Bool
+hasHighJob r = isHigh (r .fixed .level) && r .job .alive
+
 -- S8.6: whether this is a high task with an alive job whose age is V or more.
 unfoldable pub isLate : Row → Bool
-isLate r = isHigh (r .fixed .level) && r .job .alive && leb (r .fixed .virtualDeadline) (r .age)
+isLate r = hasHighJob r && leb (r .fixed .virtualDeadline) (r .age)
 
 -- S8.6: whether a switch leaves the task's job: that of a high task, and that of a low one that is kept.
 unfoldable pub survives : Fixed → Bool
