@@ -1,6 +1,6 @@
--- Tests: joined by `&&`, equal to one another, and two comparisons that hold together.
+-- Tests: joined by `&&` and `||`, equal to one another, and two comparisons that hold together.
 use Prim.Native.Nat.{ℕ, _≤_, _<_}
-use mathlib.Core.Bool.{Bool, true, false, _&&_, false≢true}
+use mathlib.Core.Bool.{Bool, true, false, _&&_, _||_, false≢true}
 use mathlib.Core.Path.{_≡_, refl, sym, _∙_}
 use native.Mathlib.Omega.{arith}
 use native.Mathlib.Decide.{decLe}
@@ -21,6 +21,15 @@ left-true false b h = h
 pub right-true : (a b : Bool) → (a && b) ≡ true → b ≡ true
 right-true true b h = h
 right-true false b h = absurd (false≢true h)
+
+-- Both parts of a disjunction that does not hold.
+pub left-false : (a b : Bool) → (a || b) ≡ false → a ≡ false
+left-false true b h = h
+left-false false b h = refl
+
+pub right-false : (a b : Bool) → (a || b) ≡ false → b ≡ false
+right-false true b h = absurd (false≢true (sym h))
+right-false false b h = h
 
 -- The parts of four and of five tests that hold together.
 pub all-four : (a b c d : Bool) → (a && b && c && d) ≡ true → (a ≡ true) × (b ≡ true) × (c ≡ true) × (d ≡ true)

@@ -1,6 +1,6 @@
 -- S10.10: releases of a task lie D ticks apart. The age of a job is at most the number of accepted ticks since its release, and a
 -- Release is accepted only at age D.
-use Prim.Native.Nat.{ℕ, _+_, _≤_, _<_}
+use Prim.Native.Nat.{ℕ, suc, _+_, _≤_, _<_, min}
 use mathlib.Core.Path.{_≡_, refl, sym, ap, _∙_}
 use mathlib.Core.Bool.{Bool, true, false, cond, not, _&&_, _||_, false≢true}
 use mathlib.Core.List.{List, [], _∷_, _++_}
@@ -20,7 +20,7 @@ use Rattle.model.specs.Run.{after, isAccepted, isTick, isReleaseOf, coun
 use Rattle.model.specs.Plan.{freshRow, fresh, Planned}
 use Rattle.model.specs.Claim.{ReleaseIn, begun, DeadlinePassed}
 use Rattle.model.specs.Beside.{ReleasesApart}
-use Rattle.model.proofs.Steps.{next, Turn, same, begins, ticks, Settled, stays-critical, stays-typical, turns, turn, release-at}
+use Rattle.model.proofs.Steps.{next, Turn, same, begins, ticks, TickAt, Settled, in-critical, in-typical, turns, turn, release-at}
 use Rattle.model.proofs.Lasting.{fixed-step, fixed-after, same-fixed, length-step}
 use Rattle.model.proofs.Fresh.{rows-after}
 use Rattle.model.proofs.Released.{after-append, known-task, since-release, fixed-begun}
@@ -42,18 +42,24 @@ release-aged m i e =
     go false false false true n = absurd (false≢true n)
     go false false false false n = refl
 
+-- A tick makes a task older by 1, up to D.
+pub age-tick : (m : Model) (i : ℕ) (reports : List ℕ) → TickAt m i reports →
+    rowAt (next m (tick reports)) i .age ≡ min (suc (rowAt m i .age)) (rowAt m i .fixed .deadline)
+unfolding tickedRow switchedRow
+age-tick m i reports at = part (at .settled)
+  where
+    part : Settled (next m (tick reports)) i (tickedRow (rowAt m i) (getD reports i 0)) →
+        rowAt (next m (tick reports)) i .age ≡ tickedRow (rowAt m i) (getD reports i 0) .age
+    part (in-critical n e) = ap (λ (r : Row). r .age) e
+    part (in-typical n e l) = ap (λ (r : Row). r .age) e
+    part (turns n e) = ap (λ (r : Row). r .age) e
+
 -- No call but an accepted tick makes a job older, and a tick by 1 at most.
 age-step : (m : Model) (x : Call) (i : ℕ) → i < length (m .rows) →
     rowAt (next m x) i .age ≤ rowAt m i .age + cond (isTick m x) 1 0
-unfolding releasedRow tickedRow switchedRow
+unfolding releasedRow
 age-step m x i known = go (turn m i x known)
   where
-    part : (reports : List ℕ) → Settled m (next m (tick reports)) i (tickedRow (rowAt m i) (getD reports i 0)) →
-        rowAt (next m (tick reports)) i .age ≡ tickedRow (rowAt m i) (getD reports i 0) .age
-    part reports (stays-critical b n e) = ap (λ (r : Row). r .age) e
-    part reports (stays-typical b n e l) = ap (λ (r : Row). r .age) e
-    part reports (turns b n e) = ap (λ (r : Row). r .age) e
-
     go : Turn m i x → rowAt (next m x) i .age ≤ rowAt m i .age + cond (isTick m x) 1 0
     go (same t r mode e) = omega (arith, ap (λ (r : Row). r .age) e)
     go (begins e a at) =
@@ -62,11 +68,11 @@ age-step m x i known = go (turn m i x known)
         omega (
           arith,
           ap (λ (y : Call). rowAt (next m y) i .age) e,
-          part reports (at .settled),
+          age-tick m i reports at,
           ap {B = ℕ} (λ (b : Bool). cond b 1 0) (ap (isTick m) e ∙ ap (isAccepted m) (sym e) ∙ a),
         )
 
-age-after : (m : Model) (calls : List Call) (i : ℕ) → i < length (m .rows) →
+pub age-after : (m : Model) (calls : List Call) (i : ℕ) → i < length (m .rows) →
     rowAt (after m calls) i .age ≤ rowAt m i .age + ticksIn m calls
 age-after m [] i known = omega arith
 age-after m (x ∷ calls) i known =
@@ -105,11 +111,11 @@ module _ (ts : TaskSet) (shares : List Share) (planned : Planned ts shares) {cal
   known : i < ts .count
   known = known-task ts shares planned (job .before) i (job .accepted)
 
-  row-known : i < length (begun job .rows)
+  pub row-known : i < length (begun job .rows)
   unfolding begun
   row-known = rw (length-step (after (fresh ts shares) (job .before)) (release i), rows-after ts shares planned (job .before)) known
 
-  age-begun : rowAt (begun job) i .age ≡ 0
+  pub age-begun : rowAt (begun job) i .age ≡ 0
   unfolding begun releasedRow
   age-begun = ap (λ (r : Row). r .age) (release-at (after (fresh ts shares) (job .before)) i (job .accepted) .row)
 

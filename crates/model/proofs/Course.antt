@@ -15,7 +15,7 @@ use Rattle.model.specs.Row.{Row, runningSet, joined, tickedRow, isLate, 
 use Rattle.model.specs.Step.{Model, Call, tick, rowAt, granted, runningAt}
 use Rattle.model.specs.Run.{after, isAccepted, isTick, isReleaseOf, releasesIn, isRunning, runsOn, runsIn, isDue, TrueReports}
 use Rattle.model.proofs.Nodes.{all-ended-at, all-ended-intro}
-use Rattle.model.proofs.Steps.{next, Turn, same, begins, ticks, TickAt, Settled, stays-critical, stays-typical, turns, turn, release-of}
+use Rattle.model.proofs.Steps.{next, Turn, same, begins, ticks, TickAt, Settled, in-critical, in-typical, turns, turn, release-of, false-and}
 use Rattle.model.proofs.Lasting.{length-step, kept-by-call}
 use Rattle.model.proofs.Job.{pace, Live, Over, OneMore, AfterTick, goes-on, ends, live-tick}
 
@@ -71,9 +71,6 @@ survivor-switched r h =
 ticked-fixed : (r : Row) (report : ℕ) → tickedRow r report .fixed ≡ r .fixed
 unfolding tickedRow
 ticked-fixed r report = refl
-
-false-and : (x y : Bool) → x ≡ false → (x && y) ≡ false
-false-and x y e = ap (λ (t : Bool). t && y) e
 
 -- A job that has ended stays so until the next Release of its task.
 over-ticked : (r : Row) (report : ℕ) → Over r → Over (tickedRow r report)
@@ -195,14 +192,14 @@ module _ {len : ℕ → ℕ} {work span : ℕ} (i : ℕ) (m : Model) {c : ℕ �
           on (e ∙ survivor-switched part (ap survives (ticked-fixed (rowAt m i) (getD reports i 0)) ∙ s)) l one (λ f. absurd (true≢false (sym critical ∙ f)))
       by-switch false s critical e l one = dropped a s critical part (ticked-fixed (rowAt m i) (getD reports i 0)) l one
 
-      go : AfterTick live (m .critical) part (ranAfter i m (tick reports) c) → Settled m (next m (tick reports)) i part →
+      go : AfterTick live (m .critical) part (ranAfter i m (tick reports) c) → Settled (next m (tick reports)) i part →
           MovedBy (tick reports)
-      go (goes-on l one) (stays-critical b critical e) = on e l one (λ f. absurd (true≢false (sym critical ∙ f)))
-      go (goes-on l one) (stays-typical b typical e calm) = on e l one (λ _. calm)
-      go (goes-on l one) (turns b critical e) = by-switch (survives (rowAt m i .fixed)) refl critical e l one
-      go (ends o) (stays-critical b critical e) = ended (subst Over (sym e) o)
-      go (ends o) (stays-typical b typical e calm) = ended (subst Over (sym e) o)
-      go (ends o) (turns b critical e) = ended (subst Over (sym e) (over-switched part o))
+      go (goes-on l one) (in-critical critical e) = on e l one (λ f. absurd (true≢false (sym critical ∙ f)))
+      go (goes-on l one) (in-typical typical e calm) = on e l one (λ _. calm)
+      go (goes-on l one) (turns critical e) = by-switch (survives (rowAt m i .fixed)) refl critical e l one
+      go (ends o) (in-critical critical e) = ended (subst Over (sym e) o)
+      go (ends o) (in-typical typical e calm) = ended (subst Over (sym e) o)
+      go (ends o) (turns critical e) = ended (subst Over (sym e) (over-switched part o))
 
   -- One call of an alive job.
   pub live-step : (x : Call) (calls : List Call) → i < length (m .rows) → isReleaseOf i m x ≡ false →

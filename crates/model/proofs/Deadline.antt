@@ -15,13 +15,16 @@ use Rattle.shares.specs.Test.{passes}
 use Rattle.shares.proofs.Ends.{overload-ends, virtual-positive, virtual-within}
 use Rattle.model.specs.Row.{Fixed, Row, hasHighJob, isLate, survives}
 use Rattle.model.specs.Step.{Call, rowAt}
+use Rattle.model.specs.Run.{after, ticksIn, releasesIn, TrueReports}
 use Rattle.sheet.specs.Format.{taskIn}
 use Rattle.shares.specs.Totals.{shareAt}
 use Rattle.sheet.specs.Level.{isHigh}
-use Rattle.model.specs.Plan.{freshRow, Planned}
-use Rattle.model.specs.Claim.{EndInTime, Deadline}
-use Rattle.model.proofs.Released.{plannedFixed, high-fixed}
-use Rattle.model.proofs.Ending.{Moment, Ticked, ended-by-deadline}
+use Rattle.model.specs.Plan.{freshRow, fresh, Planned}
+use Rattle.model.specs.Claim.{ReleaseIn, begun, KeepsBudget, EndInTime, Deadline}
+use Rattle.model.proofs.Job.{Over}
+use Rattle.model.proofs.Released.{plannedFixed, high-fixed, known-task, over-ended}
+use Rattle.model.proofs.Apart.{alone-since, ticks-since}
+use Rattle.model.proofs.Ending.{Moment, Ticked, Invariant, AtRelease, over-by-deadline}
 use Rattle.model.proofs.Closing.{Closes, Bounded, closing}
 
 -- S8.6: the job of a high task survives a switch.
@@ -107,24 +110,43 @@ module _ (ts : TaskSet) (shares : List Share) (planned : Planned ts shares) (i :
       (pair .positive) (pair .ordered) (planned .lawful i known .figures .spans) passing
       (rw (high-fixed ts shares i level .1) at early) span work
 
+module _ (ts : TaskSet) (shares : List Share) (planned : Planned ts shares) (calls : List Call) (i : ℕ)
+    (job : ReleaseIn (fresh ts shares) i calls) (lengths : ℕ → ℕ) (level : isHigh (taskIn ts i .level) ≡ true) where
+  abbrev b : Budget
+  b = taskIn ts i .figures .overload
+
+  invariant : i < ts .count →
+      Invariant lengths (b .work) (b .span) i (plannedFixed ts shares i)
+      (λ now calls. Timely lengths (b .work) (b .span) i (plannedFixed ts shares i) now)
+  invariant known =
+      closing lengths (b .work) (b .span) i (plannedFixed ts shares i)
+      (high-survives (plannedFixed ts shares i) (high-is ts shares planned i known level))
+      (timely lengths (b .work) (b .span) i (plannedFixed ts shares i) (high-is ts shares planned i known level)
+      (virtual-in ts shares planned i known level))
+      (closes ts shares planned i known level)
+
+  at-release : i < ts .count → (now : Moment lengths (b .work) (b .span) i (plannedFixed ts shares i)) →
+      AtRelease ts shares planned calls i job lengths (b .work) (b .span) now →
+      Timely lengths (b .work) (b .span) i (plannedFixed ts shares i) now
+  at-release known now start =
+      record {
+        early = omega (arith, start .full₁);
+        calm = λ _. omega (arith, start .ticks, virtual-some ts shares planned i known level);
+      }
+
+  -- A high job with D ticks behind it is over, if its task was not released again.
+  pub high-over : KeepsBudget (taskIn ts i) b lengths → TrueReports i lengths (begun job) (job .since) →
+      releasesIn i (begun job) (job .since) ≡ 0 → taskIn ts i .figures .deadline ≤ ticksIn (begun job) (job .since) →
+      Over (rowAt (after (fresh ts shares) calls) i)
+  high-over keeps reports none enough =
+      over-by-deadline ts shares planned calls i job lengths b
+      {Good = λ now calls. Timely lengths (b .work) (b .span) i (plannedFixed ts shares i) now} invariant at-release keeps reports
+      none enough
+
 -- S10.7.
 pub deadline : (ts : TaskSet) (shares : List Share) → Planned ts shares → (calls : List Call) → Deadline ts shares calls
 unfolding Deadline EndInTime
 deadline ts shares planned calls i job lengths level keeps reports passed =
-    ended-by-deadline ts shares planned calls i job lengths b
-    {Good = λ now calls. Timely lengths (b .work) (b .span) i (plannedFixed ts shares i) now}
-    (λ known.
-    closing lengths (b .work) (b .span) i (plannedFixed ts shares i)
-    (high-survives (plannedFixed ts shares i) (high-is ts shares planned i known level))
-    (timely lengths (b .work) (b .span) i (plannedFixed ts shares i) (high-is ts shares planned i known level)
-    (virtual-in ts shares planned i known level))
-    (closes ts shares planned i known level))
-    (λ known now start.
-    record {
-      early = omega (arith, start .full₁);
-      calm = λ _. omega (arith, start .ticks, virtual-some ts shares planned i known level);
-    })
-    keeps reports passed
-  where
-    b : Budget
-    b = taskIn ts i .figures .overload
+    over-ended ts shares planned calls i (known-task ts shares planned (job .before) i (job .accepted))
+    (high-over ts shares planned calls i job lengths level keeps reports (alone-since ts shares planned i job passed)
+    (ticks-since ts shares planned i job passed))

@@ -142,24 +142,22 @@ module _ (ts : TaskSet) (shares : List Share) (planned : Planned ts shares) (cal
     pub full₁ : now .live .full₁ ≡ 0
     pub full₂ : now .live .full₂ ≡ 0
 
-  pub ended-by-deadline : (lengths : ℕ → ℕ) (b : Budget)
+  pub over-by-deadline : (lengths : ℕ → ℕ) (b : Budget)
       {Good : Moment lengths (b .work) (b .span) i (plannedFixed ts shares i) → List Call → Type 0} →
       (i < ts .count → Invariant lengths (b .work) (b .span) i (plannedFixed ts shares i) Good) →
       (i < ts .count → (now : Moment lengths (b .work) (b .span) i (plannedFixed ts shares i)) →
       AtRelease lengths (b .work) (b .span) now → Good now (job .since)) →
       KeepsBudget (taskIn ts i) b lengths → TrueReports i lengths (begun job) (job .since) →
-      DeadlinePassed (taskIn ts i) i (begun job) (job .since) →
-      Ended (taskIn ts i) (rowAt (after (fresh ts shares) calls) i)
+      releasesIn i (begun job) (job .since) ≡ 0 → taskIn ts i .figures .deadline ≤ ticksIn (begun job) (job .since) →
+      Over (rowAt (after (fresh ts shares) calls) i)
   unfolding begun freshRow
-  ended-by-deadline lengths b invariant good keeps reports passed =
-      over-ended ts shares planned calls i known
-      (subst (λ (m : Model). Over (rowAt m i)) (sym (since-release ts shares planned i job))
+  over-by-deadline lengths b invariant good keeps reports none enough =
+      subst (λ (m : Model). Over (rowAt m i)) (sym (since-release ts shares planned i job))
       (run-out (invariant known) (job .since) start
       (rw (length-step (after (fresh ts shares) (job .before)) (release i), rows-after ts shares planned (job .before)) known)
       (good known start
       (record { model = refl; ticks = refl; full₁ = omega (arith, live .ticks); full₂ = omega (arith, live .ticks) }))
-      (true-from-start i lengths (begun job) (job .since) reports) (alone-since ts shares planned i job passed)
-      (omega (arith, ticks-since ts shares planned i job passed))))
+      (true-from-start i lengths (begun job) (job .since) reports) none (omega (arith, enough)))
     where
       live : Live lengths (b .work) (b .span) (rowAt (begun job) i) (λ _. 0) 0
       live = live-at-release ts shares planned (job .before) i b lengths (job .accepted) keeps
@@ -173,3 +171,16 @@ module _ (ts : TaskSet) (shares : List Share) (planned : Planned ts shares) (cal
             live = live;
             fixed = fixed-begun ts shares planned (job .before) i i known;
           }
+
+  pub ended-by-deadline : (lengths : ℕ → ℕ) (b : Budget)
+      {Good : Moment lengths (b .work) (b .span) i (plannedFixed ts shares i) → List Call → Type 0} →
+      (i < ts .count → Invariant lengths (b .work) (b .span) i (plannedFixed ts shares i) Good) →
+      (i < ts .count → (now : Moment lengths (b .work) (b .span) i (plannedFixed ts shares i)) →
+      AtRelease lengths (b .work) (b .span) now → Good now (job .since)) →
+      KeepsBudget (taskIn ts i) b lengths → TrueReports i lengths (begun job) (job .since) →
+      DeadlinePassed (taskIn ts i) i (begun job) (job .since) →
+      Ended (taskIn ts i) (rowAt (after (fresh ts shares) calls) i)
+  ended-by-deadline lengths b {Good} invariant good keeps reports passed =
+      over-ended ts shares planned calls i known
+      (over-by-deadline lengths b {Good = Good} invariant good keeps reports (alone-since ts shares planned i job passed)
+      (ticks-since ts shares planned i job passed))

@@ -11,13 +11,14 @@ use lib.Bits.{bitOr, or-lt}
 use lib.ListN.{length, getD, length-map, List·getD-map, List·getD-eq-default}
 use lib.Pow.{pow-pos}
 use lib.Seq.{map-set-same}
+use Rattle.basics.specs.Lists.{any}
 use Rattle.nodes.proofs.Bits.{has-zero}
-use Rattle.model.specs.Row.{Fixed, Row, isSubset, allEnded, runningSet, releasedRow, joined, tickedRow, switchedRow, fixedPart}
-use Rattle.model.specs.Step.{Model, Call, release, tick, Step, rowAt, noRow, granted, released, tickedRows, lowestLate, switchedTo, switching, ticked}
+use Rattle.model.specs.Row.{Fixed, Row, isSubset, allEnded, runningSet, releasedRow, joined, tickedRow, hasHighJob, switchedRow, fixedPart}
+use Rattle.model.specs.Step.{Model, Call, release, tick, Step, rowAt, noRow, granted, released, tickedRows, lowestLate, switchedTo, returnedTo, turning, ticked}
 use Rattle.model.specs.Run.{after, isAccepted, isReleaseOf}
 use Rattle.model.specs.Beside.{SoundRow}
 use Rattle.model.proofs.Nodes.{running-below, subset-below, all-ended-at}
-use Rattle.model.proofs.Steps.{next, Turn, same, begins, ticks, Settled, stays-critical, stays-typical, turns, turn, release-of, accepted-step, refused-step}
+use Rattle.model.proofs.Steps.{next, Turn, same, begins, ticks, Settled, in-critical, in-typical, turns, turn, release-of, accepted-step, refused-step, returned-rows}
 
 fixed-ticked : (rows : List Row) (reports : List ℕ) → map fixedPart (tickedRows rows reports) ≡ map fixedPart rows
 unfolding tickedRow
@@ -30,9 +31,13 @@ unfolding switchedRow
 fixed-switched [] = refl
 fixed-switched (r ∷ rows) = ap (λ (fs : List Fixed). r .fixed ∷ fs) (fixed-switched rows)
 
-fixed-switching : (critical : Bool) (rows : List Row) → map fixedPart (switching critical rows .model .rows) ≡ map fixedPart rows
-fixed-switching true rows = refl
-fixed-switching false rows = go (lowestLate 0 rows)
+fixed-turning : (critical : Bool) (rows : List Row) → map fixedPart (turning critical rows .model .rows) ≡ map fixedPart rows
+fixed-turning true rows = go (any hasHighJob rows)
+  where
+    go : (t : Bool) → map fixedPart (returnedTo rows t .model .rows) ≡ map fixedPart rows
+    go true = refl
+    go false = ap (map fixedPart) (returned-rows rows)
+fixed-turning false rows = go (lowestLate 0 rows)
   where
     go : (o : Option ℕ) → map fixedPart (switchedTo rows o .model .rows) ≡ map fixedPart rows
     go none = refl
@@ -45,7 +50,7 @@ fixed-accepted m (release i) e =
     ∙ map-set-same fixedPart (m .rows) i (releasedRow (rowAt m i)) noRow refl
 fixed-accepted m (tick reports) e =
     ap (λ (s : Step). map fixedPart (s .model .rows)) (accepted-step m (tick reports) e)
-    ∙ fixed-switching (m .critical) (tickedRows (m .rows) reports)
+    ∙ fixed-turning (m .critical) (tickedRows (m .rows) reports)
     ∙ fixed-ticked (m .rows) reports
 
 -- No call changes what is fixed.
@@ -99,11 +104,11 @@ kept-by-call P on-tick on-switch m c i h on-release start = go (turn m i c h)
         part : P (tickedRow (rowAt m i) (getD reports i 0))
         part = on-tick (rowAt m i) (granted m i) (getD reports i 0) (at .named) start
 
-        settled : Settled m (next m (tick reports)) i (tickedRow (rowAt m i) (getD reports i 0)) →
+        settled : Settled (next m (tick reports)) i (tickedRow (rowAt m i) (getD reports i 0)) →
             P (rowAt (next m (tick reports)) i)
-        settled (stays-critical b n e) = subst P (sym e) part
-        settled (stays-typical b n e l) = subst P (sym e) part
-        settled (turns b n e) = subst P (sym e) (on-switch (tickedRow (rowAt m i) (getD reports i 0)) part)
+        settled (in-critical n e) = subst P (sym e) part
+        settled (in-typical n e l) = subst P (sym e) part
+        settled (turns n e) = subst P (sym e) (on-switch (tickedRow (rowAt m i) (getD reports i 0)) part)
 
 -- A sound row of a task with a node.
 pub record KeptSound (r : Row) : Type 0 where

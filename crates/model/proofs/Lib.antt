@@ -19,6 +19,5 @@ pub mod Closing
 pub mod Deadline
 pub mod Low
 pub mod Kept
-pub mod CriticalLasts
 pub mod Nominal
 pub mod Theorem

@@ -1,8 +1,8 @@
 -- S10.9, nominal: while every high job keeps its nominal budget under true reports, an alive one has fewer than V ticks behind it, so
 -- that no tick switches. By induction on the calls, with what is known of each alive high job and of each Release to come.
 use Prim.Native.Nat.{ℕ, suc, _+_, _≤_, _<_}
-use mathlib.Core.Path.{_≡_, refl, sym, ap, subst, _∙_}
-use mathlib.Core.Bool.{Bool, true, false, cond, not, true≢false, and-eq-true-iff}
+use mathlib.Core.Path.{_≡_, refl, sym, ap, ap₂, subst, _∙_}
+use mathlib.Core.Bool.{Bool, true, false, cond, not, _||_, true≢false, and-eq-true-iff}
 use mathlib.Core.List.{List, [], _∷_}
 use mathlib.Core.Option.{Option, none, some}
 use native.Mathlib.Omega.{arith}
@@ -13,14 +13,14 @@ use Rattle.sheet.specs.declared.task.TaskSet.{TaskSet}
 use Rattle.shares.specs.declared.share.Share.{Share}
 use Rattle.shares.proofs.Ends.{nominal-ends}
 use Rattle.model.specs.Row.{Fixed, Row, allEnded, joined, tickedRow, hasHighJob, isLate}
-use Rattle.model.specs.Step.{Model, Call, release, tick, Refusal, Step, step, stepBy, refusalOf, rowAt, noRow, released, tickedRows, lowestLate, switchedTo, switching, ticked}
+use Rattle.model.specs.Step.{Model, Call, release, tick, Refusal, Step, step, stepBy, refusalOf, rowAt, noRow, released, tickedRows, lowestLate, switchedTo, turning, ticked}
 use Rattle.basics.specs.Lists.{isNone}
-use Rattle.model.specs.Run.{answers, isAccepted, isTick, isReleaseOf}
+use Rattle.model.specs.Run.{isAccepted, isTick, isReleaseOf}
 use Rattle.sheet.specs.Format.{taskIn}
 use Rattle.shares.specs.Totals.{shareAt}
 use Rattle.sheet.specs.Level.{isHigh}
 use Rattle.model.specs.Plan.{freshRow, fresh, Planned}
-use Rattle.model.specs.Claim.{ReleaseIn, begun, KeepsBudget, JobWithin, HighJobsWithin, isSwitched, noneSwitched, StaysTypical, Nominal}
+use Rattle.model.specs.Claim.{ReleaseIn, begun, KeepsBudget, JobWithin, HighJobsWithin, isSwitched, isReturned, StaysTypical, Nominal}
 use Rattle.model.proofs.Steps.{next, accepted-step, refused-step, length-ticked, get-ticked, tick-tests, tick-at, Turn, same, begins, ticks, turn}
 use Rattle.model.proofs.Lasting.{fixed-step, same-fixed, length-step}
 use Rattle.model.proofs.Fresh.{fresh-length, fresh-row}
@@ -99,16 +99,21 @@ part-not-late m reports calls calm a i known = below-not-late part early
             omega (arith, typical-below l (one .in-typical (calm .typical) ∙ honest .none) (honest .before), l .age)
         settled (ends o) = absurd (true≢false (sym alive ∙ o .gone))
 
--- A call that leaves the mode typical and does not answer that it switched.
+-- A call that leaves the mode typical and answers neither that it switched nor that it returned.
 record Quiet (m : Model) (x : Call) : Type 0 where
   pub typical : next m x .critical ≡ false
-  pub answer : isSwitched (step m x .answer) ≡ false
+  pub unswitched : isSwitched (step m x .answer) ≡ false
+  pub unreturned : isReturned (step m x .answer) ≡ false
 
 quiet-tick : (m : Model) (reports : List ℕ) (calls : List Call) → Calm m (tick reports ∷ calls) →
     isAccepted m (tick reports) ≡ true → Quiet m (tick reports)
 unfolding ticked rowAt
 quiet-tick m reports calls calm a =
-    record { typical = ap (λ (s : Step). s .model .critical) e; answer = ap (λ (s : Step). isSwitched (s .answer)) e }
+    record {
+      typical = ap (λ (s : Step). s .model .critical) e;
+      unswitched = ap (λ (s : Step). isSwitched (s .answer)) e;
+      unreturned = ap (λ (s : Step). isReturned (s .answer)) e;
+    }
   where
     rows : List Row
     rows = tickedRows (m .rows) reports
@@ -122,17 +127,23 @@ quiet-tick m reports calls calm a =
     e : step m (tick reports) ≡ switchedTo rows none
     e =
         accepted-step m (tick reports) a
-        ∙ ap (λ (t : Bool). switching t rows) (calm .typical)
+        ∙ ap (λ (t : Bool). turning t rows) (calm .typical)
         ∙ ap (switchedTo rows) (none-late-intro 0 rows calm-at)
 
 quiet-refused : (m : Model) (x : Call) → m .critical ≡ false → isAccepted m x ≡ false → Quiet m x
 unfolding isAccepted step
 quiet-refused m x typical a =
-    record { typical = ap (λ (n : Model). n .critical) (refused-step m x a) ∙ typical; answer = go (refusalOf m x) a }
+    let answered = go (refusalOf m x) a in
+    record {
+      typical = ap (λ (n : Model). n .critical) (refused-step m x a) ∙ typical;
+      unswitched = answered .0;
+      unreturned = answered .1;
+    }
   where
-    go : (o : Option Refusal) → isNone o ≡ false → isSwitched (stepBy o m x .answer) ≡ false
+    go : (o : Option Refusal) → isNone o ≡ false →
+        (isSwitched (stepBy o m x .answer) ≡ false) × (isReturned (stepBy o m x .answer) ≡ false)
     go none e = absurd (true≢false e)
-    go (some r) e = refl
+    go (some r) e = (refl, refl)
 
 quiet-step : (m : Model) (x : Call) (calls : List Call) → Calm m (x ∷ calls) → Quiet m x
 unfolding released
@@ -147,7 +158,8 @@ quiet-step m (release i) calls calm = go (isAccepted m (release i)) refl
     go true a =
         record {
           typical = ap (λ (s : Step). s .model .critical) (accepted-step m (release i) a) ∙ calm .typical;
-          answer = ap (λ (s : Step). isSwitched (s .answer)) (accepted-step m (release i) a);
+          unswitched = ap (λ (s : Step). isSwitched (s .answer)) (accepted-step m (release i) a);
+          unreturned = ap (λ (s : Step). isReturned (s .answer)) (accepted-step m (release i) a);
         }
     go false a = quiet-refused m (release i) (calm .typical) a
 
@@ -229,13 +241,14 @@ calm-next m x calls calm =
         go (ticks reports e a at) = goes (ap (isReleaseOf i m) e)
 
 calm-stays : (m : Model) (calls : List Call) → Calm m calls → StaysTypical m calls
-calm-stays m [] calm = record { typical = calm .typical; answered = refl }
+calm-stays m [] calm = record { typical = calm .typical; unswitched = refl; unreturned = refl }
 calm-stays m (x ∷ calls) calm =
     let rest = calm-stays (next m x) calls (calm-next m x calls calm) in
+    let quiet = quiet-step m x calls calm in
     record {
       typical = rest .typical;
-      answered = ap (λ (t : Bool). cond t false (noneSwitched (answers (next m x) calls))) (quiet-step m x calls calm .answer)
-          ∙ rest .answered;
+      unswitched = ap₂ _||_ (quiet .unswitched) (rest .unswitched);
+      unreturned = ap₂ _||_ (quiet .unreturned) (rest .unreturned);
     }
 
 module _ (ts : TaskSet) (shares : List Share) (planned : Planned ts shares) where

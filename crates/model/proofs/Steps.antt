@@ -10,15 +10,19 @@ use borrow.Author.Tests.{eqb-true, leb-false, eq-eqb, ne-eqb}
 use lib.Dec.{eqb, leb}
 use lib.ListN.{length, getD, List·getD-map}
 use lib.Seq.{getD-set-same, getD-set-other}
-use Rattle.model.specs.Row.{Row, isSubset, runningSet, releasedRow, tickedRow, isLate, switchedRow}
+use Rattle.basics.proofs.Logic.{left-false, right-false}
+use Rattle.model.specs.Row.{Row, isSubset, runningSet, releasedRow, tickedRow, hasHighJob, isLate, switchedRow}
 use Rattle.sheet.specs.Answers.{noTask}
-use Rattle.model.specs.Step.{Model, Call, release, tick, Refusal, refusal, unknownTask, wrongCount, Step, step, stepBy, rowAt, noRow, granted, releaseRefusal, reportRefusal, tickRefusal, refusalOf, released, tickedRows, lowestLate, switchedTo, switching, ticked}
-use Rattle.basics.specs.Lists.{isNone}
+use Rattle.model.specs.Step.{Model, Call, release, tick, Refusal, refusal, unknownTask, wrongCount, Step, step, stepBy, rowAt, noRow, granted, releaseRefusal, reportRefusal, tickRefusal, refusalOf, released, tickedRows, lowestLate, switchedTo, returnedTo, turning, ticked}
+use Rattle.basics.specs.Lists.{any, isNone}
 use Rattle.model.specs.Run.{after, isAccepted, isTick, isReleaseOf}
 
 -- The model after one call.
 abbrev pub next : Model → Call → Model
 next m c = step m c .model
+
+pub false-and : (x y : Bool) → x ≡ false → (x && y) ≡ false
+false-and x y e = ap (λ (t : Bool). t && y) e
 
 none-is : (o : Option Refusal) → isNone o ≡ true → o ≡ none
 none-is none e = refl
@@ -72,31 +76,45 @@ switched-noRow = refl
 get-switched : (rows : List Row) (i : ℕ) → getD (map switchedRow rows) i noRow ≡ switchedRow (getD rows i noRow)
 get-switched rows i = ap (getD (map switchedRow rows) i) (sym switched-noRow) ∙ List·getD-map switchedRow rows i noRow
 
--- What an accepted tick does to task i: its part of the tick, then the switch or none.
-pub data Settled (m after : Model) (i : ℕ) (part : Row) : Type 0 where
-  stays-critical : m .critical ≡ true → after .critical ≡ true → rowAt after i ≡ part → Settled m after i part
-  stays-typical : m .critical ≡ false → after .critical ≡ false → rowAt after i ≡ part → isLate part ≡ false →
-      Settled m after i part
-  turns : m .critical ≡ false → after .critical ≡ true → rowAt after i ≡ switchedRow part → Settled m after i part
+-- Where no high job is alive, none is late.
+pub high-none : (rows : List Row) (i : ℕ) → any hasHighJob rows ≡ false → i < length rows → hasHighJob (getD rows i noRow) ≡ false
+high-none [] i e h = absurd (omega arith)
+high-none (r ∷ rows) zero e h = left-false (hasHighJob r) (any hasHighJob rows) e
+high-none (r ∷ rows) (suc i) e h = high-none rows i (right-false (hasHighJob r) (any hasHighJob rows) e) (omega arith)
 
-settle : (m : Model) (rows : List Row) (i : ℕ) → i < length rows →
-    Settled m (switching (m .critical) rows .model) i (getD rows i noRow)
+-- S8.9: a return leaves every row as it is.
+pub returned-rows : (rows : List Row) → returnedTo rows false .model .rows ≡ rows
+returned-rows [] = refl
+returned-rows (r ∷ rows) = ap (λ (rs : List Row). r ∷ rs) (returned-rows rows)
+
+early-none : (r : Row) → hasHighJob r ≡ false → isLate r ≡ false
+unfolding isLate
+early-none r e = false-and (hasHighJob r) _ e
+
+-- What an accepted tick leaves of task i: its part of the tick, in critical or in typical mode, and in typical mode the task is not late;
+-- or the tick switched.
+pub data Settled (after : Model) (i : ℕ) (part : Row) : Type 0 where
+  in-critical : after .critical ≡ true → rowAt after i ≡ part → Settled after i part
+  in-typical : after .critical ≡ false → rowAt after i ≡ part → isLate part ≡ false → Settled after i part
+  turns : after .critical ≡ true → rowAt after i ≡ switchedRow part → Settled after i part
+
+settle : (critical : Bool) (rows : List Row) (i : ℕ) → i < length rows → Settled (turning critical rows .model) i (getD rows i noRow)
 unfolding rowAt
-settle m rows i h = go (m .critical) refl
+settle true rows i h = high (any hasHighJob rows) refl
   where
-    late : (o : Option ℕ) → lowestLate 0 rows ≡ o → m .critical ≡ false →
-        Settled m (switchedTo rows o .model) i (getD rows i noRow)
-    late none e typical = stays-typical typical refl refl (none-late 0 rows i e h)
-    late (some j) e typical = turns typical refl (get-switched rows i)
-
-    go : (t : Bool) → m .critical ≡ t → Settled m (switching t rows .model) i (getD rows i noRow)
-    go true e = stays-critical e refl refl
-    go false e = late (lowestLate 0 rows) refl e
+    high : (t : Bool) → any hasHighJob rows ≡ t → Settled (returnedTo rows t .model) i (getD rows i noRow)
+    high true e = in-critical refl refl
+    high false e = in-typical refl (ap (λ (rs : List Row). getD rs i noRow) (returned-rows rows)) (early-none (getD rows i noRow) (high-none rows i e h))
+settle false rows i h = late (lowestLate 0 rows) refl
+  where
+    late : (o : Option ℕ) → lowestLate 0 rows ≡ o → Settled (switchedTo rows o .model) i (getD rows i noRow)
+    late none e = in-typical refl refl (none-late 0 rows i e h)
+    late (some j) e = turns refl (get-switched rows i)
 
 -- An accepted tick, as task i sees it.
 pub record TickAt (m : Model) (i : ℕ) (reports : List ℕ) : Type 0 where
   pub named : isSubset (getD reports i 0) (runningSet (granted m i) (rowAt m i)) ≡ true
-  pub settled : Settled m (next m (tick reports)) i (tickedRow (rowAt m i) (getD reports i 0))
+  pub settled : Settled (next m (tick reports)) i (tickedRow (rowAt m i) (getD reports i 0))
 
 -- An accepted Release of task i.
 pub record ReleaseAt (m : Model) (i : ℕ) : Type 0 where
@@ -164,10 +182,10 @@ tick-at m i reports e h =
           let here : 0 + i ≡ i = omega arith in
           rw here at (get-subset (granted m) 0 (m .rows) reports i (tests .1) (tests .0) h);
       settled =
-          subst₂ (λ (n : Model) (r : Row). Settled m n i r)
+          subst₂ (λ (n : Model) (r : Row). Settled n i r)
           (sym (ap (λ (s : Step). s .model) (accepted-step m (tick reports) e)))
           (get-ticked (m .rows) reports i (tests .0) h)
-          (settle m (tickedRows (m .rows) reports) i (rw (length-ticked (m .rows) reports) h));
+          (settle (m .critical) (tickedRows (m .rows) reports) i (rw (length-ticked (m .rows) reports) h));
     }
 
 -- A Release of another task leaves the row and the mode.

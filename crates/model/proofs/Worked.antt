@@ -9,7 +9,7 @@ use Rattle.nodes.specs.Sets.{has}
 use Rattle.sheet.specs.Level.{isHigh, isLow}
 use Rattle.shares.specs.Low.{isKept}
 use Rattle.model.specs.Row.{Row, isSubset, allEnded, predecessorsOf, isReady, ready, running, runningSet, releasedRow, joined, tickedRow, hasHighJob, isLate, survives, switchedRow}
-use Rattle.model.specs.Step.{Model, Call, release, tick, accepted, ran, switched, refused, step, rowAt, granted, runningAt, unknownTask, lowInCritical, tooEarly, wrongCount, notRunning, releaseRefusal, tickRefusal, released, ticked}
+use Rattle.model.specs.Step.{Model, Call, release, tick, accepted, ran, switched, returned, refused, step, rowAt, granted, runningAt, unknownTask, lowInCritical, tooEarly, wrongCount, notRunning, releaseRefusal, tickRefusal, released, ticked}
 use Rattle.model.specs.Run.{after, answers, isAccepted, ticksIn, isRunning, runsIn, isDue}
 
 -- A row without a job: level, nodes, masks, D, V and both shares.
@@ -81,6 +81,18 @@ keeping =
 -- A job of each of them begins; node 0 of the low jobs ends with the first tick, and the second one switches.
 abbrev switchOver : List Call
 switchOver = release 0 ∷ release 1 ∷ release 2 ∷ tick (0 ∷ 1 ∷ 1 ∷ []) ∷ tick (0 ∷ 0 ∷ 0 ∷ []) ∷ []
+
+-- A tick that reports nothing of the three.
+abbrev still : Call
+still = tick (0 ∷ 0 ∷ 0 ∷ [])
+
+-- Then the high job ends.
+abbrev overAndBack : List Call
+overAndBack = switchOver ++ tick (1 ∷ 0 ∷ 0 ∷ []) ∷ []
+
+-- The critical mode with no job alive.
+abbrev leftCritical : Model
+leftCritical = record { critical = true; rows = keeping .rows }
 
 -- The high job alone switches, and then the low tasks are released.
 abbrev releasedAfter : List Call
@@ -154,6 +166,28 @@ pub record Worked : Type 0 where
   -- S9.12: in critical mode the kept low task is released, the other refused.
   pub kept-released : answers keeping releasedAfter
       ≡ accepted ∷ ran ∷ switched 0 ∷ accepted ∷ refused (record { number = 12; task = 2 }) ∷ []
+  -- S8.9: the tick with which the last high job ends returns, and the next one runs. The kept job goes on, with its ended set; the dropped one
+  -- stays dropped. In typical mode its task is released again, at age D.
+  pub returns : answers keeping (overAndBack ++ still ∷ []) ≡ accepted ∷ accepted ∷ accepted ∷ ran ∷ switched 0 ∷ returned ∷ ran ∷ []
+  pub back-typical : after keeping overAndBack .critical ≡ false
+  pub kept-goes-on : changedAt (after keeping overAndBack) 1 ≡ record { age = 3; ended = 1; alive = true }
+  pub kept-runs-on : runningAt (after keeping overAndBack) 1 ≡ 1 ∷ []
+  pub dropped-stays : changedAt (after keeping overAndBack) 2 ≡ record { age = 3; ended = 1; alive = false }
+  pub low-again : answers (after keeping overAndBack) (replicate 5 still ++ release 2 ∷ still ∷ release 2 ∷ [])
+      ≡ replicate 5 ran ++ refused (record { number = 13; task = 2 }) ∷ ran ∷ accepted ∷ []
+  -- S8.9: it is the jobs after the tick that count. A critical mode without a high job ends with the next accepted tick, and a refused one
+  -- leaves it; a kept job does not hold it back.
+  pub none-before : answers leftCritical (tick (0 ∷ []) ∷ release 1 ∷ still ∷ still ∷ [])
+      ≡ refused (record { number = 14; task = 255 }) ∷ accepted ∷ returned ∷ ran ∷ []
+  pub refused-stays : after leftCritical (tick (0 ∷ []) ∷ []) .critical ≡ true
+  -- S8.9: the last of two high jobs returns, and one that is released in critical mode holds the return back.
+  pub last-of-two : answers mixed (three ++ silent ∷ silent ∷ tick (0 ∷ 1 ∷ 0 ∷ 0 ∷ []) ∷ tick (0 ∷ 0 ∷ 1 ∷ 0 ∷ []) ∷ [])
+      ≡ accepted ∷ accepted ∷ accepted ∷ ran ∷ switched 1 ∷ ran ∷ returned ∷ []
+  pub held-back : answers mixed
+      (three ++ silent ∷ silent ∷ release 0 ∷ tick (0 ∷ 1 ∷ 1 ∷ 0 ∷ []) ∷ tick (1 ∷ 0 ∷ 0 ∷ 0 ∷ []) ∷ [])
+      ≡ accepted ∷ accepted ∷ accepted ∷ ran ∷ switched 1 ∷ accepted ∷ ran ∷ returned ∷ []
+  -- S8.9: a tick in typical mode never returns.
+  pub typical-runs : answers keeping (still ∷ release 0 ∷ tick (1 ∷ 0 ∷ 0 ∷ []) ∷ []) ≡ ran ∷ accepted ∷ ran ∷ []
   -- S8.3: the lowest ready nodes run, as many as the share in the mode; a node that ends lets a later one start.
   pub first-nodes : runs fork (release 0 ∷ []) ≡ 0 ∷ 1 ∷ []
   pub next-nodes : runs fork (release 0 ∷ tick (1 ∷ []) ∷ []) ≡ 1 ∷ 2 ∷ []
@@ -204,6 +238,17 @@ worked =
       kept-runs = refl;
       other-dropped = refl;
       kept-released = refl;
+      returns = refl;
+      back-typical = refl;
+      kept-goes-on = refl;
+      kept-runs-on = refl;
+      dropped-stays = refl;
+      low-again = refl;
+      none-before = refl;
+      refused-stays = refl;
+      last-of-two = refl;
+      held-back = refl;
+      typical-runs = refl;
       first-nodes = refl;
       next-nodes = refl;
       in-critical = refl;

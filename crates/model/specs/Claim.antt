@@ -1,9 +1,10 @@
 -- The promises of S10.7 to S10.9 and S10.11, read off the model: what holds of a task set, its shares and a list of calls from the start.
 use Prim.Native.Nat.{ℕ, _+_, _≤_}
 use mathlib.Core.Path.{_≡_}
-use mathlib.Core.Bool.{Bool, true, false, cond}
+use mathlib.Core.Bool.{Bool, true, false}
 use mathlib.Core.List.{List, [], _∷_, _++_}
 use lib.ListN.{length}
+use Rattle.basics.specs.Lists.{any}
 use Rattle.sheet.specs.declared.task.Budget.{Budget}
 use Rattle.sheet.specs.declared.task.Task.{Task}
 use Rattle.sheet.specs.declared.task.TaskSet.{TaskSet}
@@ -11,7 +12,7 @@ use Rattle.shares.specs.declared.share.Share.{Share}
 use Rattle.shares.specs.Low.{isKept}
 use Rattle.shares.specs.Totals.{shareIn, shareAt}
 use Rattle.model.specs.Row.{Row, precedes, allEnded}
-use Rattle.model.specs.Step.{Model, Call, release, tick, Answer, accepted, ran, switched, refused, step, rowAt, runningAt}
+use Rattle.model.specs.Step.{Model, Call, release, tick, Answer, accepted, ran, switched, returned, refused, step, rowAt, runningAt}
 use Rattle.model.specs.Run.{after, answers, isAccepted, ticksIn, releasesIn, TrueReports}
 use Rattle.model.specs.Budget.{sumBelow, Keeps}
 use Rattle.sheet.specs.Format.{taskIn}
@@ -97,17 +98,22 @@ abbrev pub isSwitched : Answer → Bool
 isSwitched accepted = false
 isSwitched ran = false
 isSwitched (switched task) = true
+isSwitched returned = false
 isSwitched (refused r) = false
 
--- Whether none of the answers says so.
-abbrev pub noneSwitched : List Answer → Bool
-noneSwitched [] = true
-noneSwitched (a ∷ answers) = cond (isSwitched a) false (noneSwitched answers)
+-- Whether it says that a tick returned.
+abbrev pub isReturned : Answer → Bool
+isReturned accepted = false
+isReturned ran = false
+isReturned (switched task) = false
+isReturned returned = true
+isReturned (refused r) = false
 
--- S10.9: the mode is typical after the list, and no answer says that a tick switched.
+-- S10.9: the mode is typical after the list, and no answer says that a tick switched or returned.
 pub record StaysTypical (start : Model) (calls : List Call) : Type 0 where
   pub typical : after start calls .critical ≡ false
-  pub answered : noneSwitched (answers start calls) ≡ true
+  pub unswitched : any isSwitched (answers start calls) ≡ false
+  pub unreturned : any isReturned (answers start calls) ≡ false
 
 -- S10.9, nominal: if each job of a high task keeps its nominal budget, with true reports, the mode stays typical. Nothing is asked
 -- of low tasks.
@@ -115,7 +121,8 @@ unfoldable pub Nominal : TaskSet → List Share → List Call → Type 0
 Nominal ts shares calls =
     HighJobsWithin (λ t. t .figures .nominal) ts (fresh ts shares) calls → StaysTypical (fresh ts shares) calls
 
--- S10.7 to S10.9 and S10.11 over one list of calls. Every prefix of a list is a list, so this speaks of every moment.
+-- S10.7 to S10.9 and S10.11 over one list of calls, whatever number of switches and returns is in it. Every prefix of a list is a list, so
+-- this speaks of every moment.
 pub record Demand3 (ts : TaskSet) (shares : List Share) (calls : List Call) : Type 0 where
   pub deadline : Deadline ts shares calls
   pub capacity : Capacity ts shares (after (fresh ts shares) calls)

@@ -92,7 +92,7 @@ tickedRow r report =
           };
     }
 
--- S8.6: whether this is a high task with an alive job.
+-- S8.6, S8.9: whether this is a high task with an alive job.
 unfoldable pub hasHighJob : Row → Bool
 hasHighJob r = isHigh (r .fixed .level) && r .job .alive
 

@@ -5,9 +5,10 @@ use mathlib.Core.List.{List, [], _∷_, map}
 use mathlib.Core.Option.{Option, none, some}
 use lib.Dec.{eqb, leb, ltb}
 use lib.ListN.{length, getD, set}
+use Rattle.basics.specs.Lists.{any}
 use Rattle.sheet.specs.Answers.{noTask}
 use Rattle.shares.specs.Totals.{shareIn}
-use Rattle.model.specs.Row.{Row, isSubset, running, runningSet, releasedRow, tickedRow, isLate, survives, switchedRow}
+use Rattle.model.specs.Row.{Row, isSubset, running, runningSet, releasedRow, tickedRow, hasHighJob, isLate, survives, switchedRow}
 
 -- S10.2: the model holds the mode, critical or not, and a row for each task.
 pub record Model : Type 0 where
@@ -24,11 +25,13 @@ pub record Refusal : Type 0 where
   pub number : ℕ
   pub task : ℕ
 
--- S3.1 and S8.7: a Release was accepted; a tick ran, or switched the mode because of a task; or the call was refused.
+-- S3.1 and S8.7: a Release was accepted; a tick ran, switched the mode because of a task, or returned to the typical mode; or the call
+-- was refused.
 pub data Answer : Type 0 where
   accepted : Answer
   ran : Answer
   switched : ℕ → Answer
+  returned : Answer
   refused : Refusal → Answer
 
 -- An answer and the model after the call.
@@ -139,14 +142,20 @@ abbrev pub switchedTo : List Row → Option ℕ → Step
 switchedTo rows none = record { answer = ran; model = record { critical = false; rows = rows } }
 switchedTo rows (some i) = record { answer = switched i; model = record { critical = true; rows = map switchedRow rows } }
 
--- S8.6: the critical mode lasts; the typical one ends where a task is late, and the lowest such task is named.
-abbrev pub switching : Bool → List Row → Step
-switching true rows = record { answer = ran; model = record { critical = true; rows = rows } }
-switching false rows = switchedTo rows (lowestLate 0 rows)
+-- S8.9: the critical mode lasts while a high job is alive; where none is, the mode turns typical. Every job stays as it is.
+abbrev pub returnedTo : List Row → Bool → Step
+returnedTo rows true = record { answer = ran; model = record { critical = true; rows = rows } }
+returnedTo rows false = record { answer = returned; model = record { critical = false; rows = rows } }
 
--- S8.5 and S8.6: an accepted Tick: first every task's part, then the switch.
+-- S8.6 and S8.9: what becomes of the mode, by the mode before the tick and the rows after their parts of it: the critical one may
+-- return, the typical one may switch, and no tick does both.
+abbrev pub turning : Bool → List Row → Step
+turning true rows = returnedTo rows (any hasHighJob rows)
+turning false rows = switchedTo rows (lowestLate 0 rows)
+
+-- S8.5, S8.6 and S8.9: an accepted Tick: first every task's part, then the mode.
 unfoldable pub ticked : Model → List ℕ → Step
-ticked m reports = switching (m .critical) (tickedRows (m .rows) reports)
+ticked m reports = turning (m .critical) (tickedRows (m .rows) reports)
 
 -- An accepted call.
 abbrev pub acceptedStep : Model → Call → Step
