@@ -20,4 +20,6 @@ pub mod Deadline
 pub mod Low
 pub mod Kept
 pub mod Nominal
+pub mod Return
+pub mod Back
 pub mod Theorem
