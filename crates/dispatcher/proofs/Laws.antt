@@ -9,11 +9,12 @@ use mathlib.Core.Option.{Option, none, some}
 use native.Mathlib.Omega.{arith}
 use borrow.Author.Tests.{not-true}
 use lib.ListN.{length, getD, take, drop, length-map, length-take, List·getD-map}
+use Rattle.basics.specs.Lists.{any}
 use Rattle.basics.proofs.Logic.{within-bounds}
 use Rattle.sheet.specs.declared.answer.Answer.the-variants.{Refused}
 use Rattle.shares.specs.Totals.{shareIn}
-use Rattle.model.specs.Row.{Fixed, Job, Row, allEnded, fixedPart as rowFixed}
-use Rattle.model.specs.Step.{Model, Call, release, tick, Refusal, step, stepBy, releaseRefusal, tickRefusal, released, ticked, switching, switchedTo, lowestLate, tickedRows, noRow, rowAt}
+use Rattle.model.specs.Row.{Fixed, Job, Row, allEnded, hasHighJob, fixedPart as rowFixed}
+use Rattle.model.specs.Step.{Model, Call, release, tick, Refusal, step, stepBy, releaseRefusal, tickRefusal, released, ticked, turning, switchedTo, returnedTo, lowestLate, tickedRows, noRow, rowAt}
 use Rattle.model.proofs.Lasting.{KeptSound, fixed-step, length-step, sound-step}
 use Rattle.entries.specs.declared.state.TaskState.{TaskState}
 use Rattle.dispatcher.specs.declared.state.State.{State}
@@ -179,8 +180,12 @@ release-back s i {number} {task} refused = go (isSound s) (releaseRefusal (model
     go false o e = refl
 
 -- An accepted tick is answered by no refusal.
-not-refused : (critical : Bool) (rows : List Row) {number task : ℕ} → tickAnswer (switching critical rows .answer) ≡ TickRefused number task → ⊥
-not-refused true rows e = let never : _≡_ {A = ℕ} 0 1 = cc in omega arith
+not-refused : (critical : Bool) (rows : List Row) {number task : ℕ} → tickAnswer (turning critical rows .answer) ≡ TickRefused number task → ⊥
+not-refused true rows {number} {task} e = go (any hasHighJob rows) e
+  where
+    go : (t : Bool) → tickAnswer (returnedTo rows t .answer) ≡ TickRefused number task → ⊥
+    go true e = let never : _≡_ {A = ℕ} 0 1 = cc in omega arith
+    go false e = let never : _≡_ {A = ℕ} 0 1 = cc in omega arith
 not-refused false rows {number} {task} e = go (lowestLate 0 rows) e
   where
     go : (o : Option ℕ) → tickAnswer (switchedTo rows o .answer) ≡ TickRefused number task → ⊥

@@ -1,7 +1,7 @@
 -- Tick on a state: what one pass over the tasks finds and writes, and the tick's answer and state by it.
 use Prim.Native.Nat.{ℕ, zero, suc, _+_, _≤_, _<_}
 use mathlib.Core.Path.{_≡_, refl, sym, ap, ap₂, _∙_}
-use mathlib.Core.Bool.{Bool, true, false, cond, not, _&&_, _||_, false≢true}
+use mathlib.Core.Bool.{Bool, true, false, cond, not, _&&_, _||_}
 use mathlib.Core.List.{List, [], _∷_, _++_, map}
 use mathlib.Core.Option.{Option, none, some}
 use native.Mathlib.Omega.{arith}
@@ -10,15 +10,17 @@ use borrow.Author.Tests.{eq-eqb, ne-eqb}
 use lib.Dec.{leb, eqb}
 use lib.ListN.{length, getD, set, take, drop, length-map}
 use lib.Seq.{drop-cons, take-all, length-take-le}
+use Rattle.basics.specs.Lists.{any}
 use Rattle.sheet.specs.Answers.{noTask}
 use Rattle.basics.specs.Numbers.{within}
-use Rattle.model.specs.Row.{Fixed, Row, isSubset, runningSet, tickedRow, isLate, switchedRow, fixedPart as rowFixed}
-use Rattle.model.specs.Step.{Model, Refusal, refusal, wrongCount, notRunning, step, ticked, noRow, rowAt, granted, reportRefusal, tickRefusal, tickedRows, lowestLate, switching}
-use Rattle.model.proofs.Steps.{length-ticked}
+use Rattle.model.specs.Row.{Fixed, Row, isSubset, runningSet, tickedRow, hasHighJob, isLate, switchedRow, fixedPart as rowFixed}
+use Rattle.model.specs.Step.{Model, Refusal, refusal, wrongCount, notRunning, step, ticked, noRow, rowAt, granted, reportRefusal, tickRefusal, tickedRows, lowestLate, returnedTo, turning}
+use Rattle.model.proofs.Steps.{length-ticked, returned-rows}
 use Rattle.entries.specs.declared.state.TaskState.{TaskState}
 use Rattle.dispatcher.specs.declared.state.State.{State}
 use Rattle.dispatcher.specs.declared.tick.Ticked.{Ticked}
-use Rattle.dispatcher.specs.declared.tick.TickAnswer.the-variants.{Ran, Switched, Refused as TickRefused}
+use Rattle.dispatcher.specs.declared.tick.TickAnswer.{TickAnswer}
+use Rattle.dispatcher.specs.declared.tick.TickAnswer.the-variants.{Ran, Switched, Returned, Refused as TickRefused}
 use Rattle.entries.specs.Entry.{rowOf, withRow}
 use Rattle.dispatcher.specs.Holds.{entriesOf, modelOf, withModel}
 use Rattle.entries.specs.Sound.{entrySound}
@@ -67,7 +69,11 @@ reportsFrom s reports i = reportRefusal (granted (modelOf s)) i (map rowOf (drop
 unfoldable pub lateFrom : State → List ℕ → ℕ → Option ℕ
 lateFrom s reports i = lowestLate i (tickedRows (map rowOf (drop i (entriesOf s))) (drop i reports))
 
--- Both over the tasks, one after the other.
+-- Whether a task from i on has a high job after the tasks' parts of the tick.
+unfoldable pub highFrom : State → List ℕ → ℕ → Bool
+highFrom s reports i = any hasHighJob (tickedRows (map rowOf (drop i (entriesOf s))) (drop i reports))
+
+-- All three over the tasks, one after the other.
 module _ (s : State) (reports : List ℕ) (long : s .count ≤ length (s .entries)) (same : length reports ≡ s .count) where
   reports-open : (i : ℕ) → i < s .count
       → reportsFrom s reports i
@@ -82,6 +88,11 @@ module _ (s : State) (reports : List ℕ) (long : s .count ≤ length (s .entrie
   unfolding lateFrom
   late-open i h = rw (add-one i, left-next s long i h, drop-cons reports i 0 (omega arith))
 
+  high-open : (i : ℕ) → i < s .count
+      → highFrom s reports i ≡ (hasHighJob (tickedRow (rowOf (entryAt s i)) (getD reports i 0)) || highFrom s reports (i + 1))
+  unfolding highFrom
+  high-open i h = rw (add-one i, left-next s long i h, drop-cons reports i 0 (omega arith))
+
   reports-end : (i : ℕ) → s .count ≤ i → reportsFrom s reports i ≡ none
   unfolding reportsFrom
   reports-end i h = rw (left-none s long i h)
@@ -89,6 +100,10 @@ module _ (s : State) (reports : List ℕ) (long : s .count ≤ length (s .entrie
   late-end : (i : ℕ) → s .count ≤ i → lateFrom s reports i ≡ none
   unfolding lateFrom
   late-end i h = rw (left-none s long i h)
+
+  high-end : (i : ℕ) → s .count ≤ i → highFrom s reports i ≡ false
+  unfolding highFrom
+  high-end i h = rw (left-none s long i h)
 
 -- Rows ticked one after the other.
 ticked-more : (rows : List Row) (reports : List ℕ) (i : ℕ) → i < length rows → i < length reports
@@ -112,11 +127,11 @@ ticked-fixed [] reports = refl
 ticked-fixed (r ∷ rows) [] = refl
 ticked-fixed (r ∷ rows) (x ∷ reports) = ap (λ (fs : List Fixed). r .fixed ∷ fs) (ticked-fixed rows reports)
 
--- An entry is late after its part of the tick as its row is.
-pub late-after : (e : TaskState) (report : ℕ) (after : TaskState) → after ≡ withRow e (tickedRow (rowOf e) report)
-    → isLate (rowOf after) ≡ isLate (tickedRow (rowOf e) report)
+-- After its part of the tick an entry passes the tests that its row passes.
+pub test-after : (test : Row → Bool) (e : TaskState) (report : ℕ) (after : TaskState) → after ≡ withRow e (tickedRow (rowOf e) report)
+    → test (rowOf after) ≡ test (tickedRow (rowOf e) report)
 unfolding tickedRow rowOf
-late-after e report after stored = ap (λ (x : TaskState). isLate (rowOf x)) stored ∙ ap isLate (row-with e (tickedRow (rowOf e) report) refl)
+test-after test e report after stored = ap (λ (x : TaskState). test (rowOf x)) stored ∙ ap test (row-with e (tickedRow (rowOf e) report) refl)
 
 -- The rows of the first i tasks, ticked.
 abbrev pub tickedBelow : State → List ℕ → ℕ → List Row
@@ -161,48 +176,60 @@ module _ (s : State) (long : s .count ≤ length (s .entries)) where
   pub switched-whole : (i : ℕ) → s .count ≤ i → switchedBelow s i ≡ map switchedRow (modelOf s .rows)
   switched-whole i h = ap (map switchedRow) (take-all i (modelOf s .rows) (omega (arith, model-length s long)))
 
+or-grouped : (a b c : Bool) → ((a || b) || c) ≡ (a || (b || c))
+or-grouped true b c = refl
+or-grouped false b c = refl
+
 -- The first i tasks are passed: they are sound, these are the sums of their shares, the task that reported wrongly, the late one,
--- and the state with their parts of the tick.
-pub record Scanned (s : State) (reports : List ℕ) (i typical critical wrong late : ℕ) (next : State) : Type 0 where
+-- whether one of them has a high job, and the state with their parts of the tick.
+pub record Scanned (s : State) (reports : List ℕ) (i typical critical wrong late : ℕ) (high : Bool) (next : State) : Type 0 where
   pub shares : Passed s i typical critical
   pub wrongs : foundOr (refusal notRunning) wrong (reportsFrom s reports i) ≡ reportsFrom s reports 0
   pub lates : foundOr some late (lateFrom s reports i) ≡ lateFrom s reports 0
+  pub highs : (high || highFrom s reports i) ≡ highFrom s reports 0
   pub written : next ≡ writtenTo s (s .critical) (tickedBelow s reports i)
 
 module _ (s : State) (reports : List ℕ) (long : s .count ≤ length (s .entries)) where
-  pub scanned-none : Scanned s reports 0 0 0 255 255 s
+  pub scanned-none : Scanned s reports 0 0 0 255 255 false s
   scanned-none =
       record {
         shares = passed-none s long;
         wrongs = found-none (refusal notRunning) (reportsFrom s reports 0);
         lates = found-none some (lateFrom s reports 0);
+        highs = refl;
         written = sym (written-none s long);
       }
 
-  pub scanned-count : (i typical critical wrong late : ℕ) (next : State) → Scanned s reports i typical critical wrong late next → next .count ≡ s .count
+  pub scanned-count : (i typical critical wrong late : ℕ) (high : Bool) (next : State) → Scanned s reports i typical critical wrong late high next
+      → next .count ≡ s .count
   unfolding withModel
-  scanned-count i typical critical wrong late next p = ap (λ (t : State). t .count) (p .written)
+  scanned-count i typical critical wrong late high next p = ap (λ (t : State). t .count) (p .written)
 
-  pub scanned-broken : (i typical critical wrong late : ℕ) (next : State) → Scanned s reports i typical critical wrong late next
+  pub scanned-broken : (i typical critical wrong late : ℕ) (high : Bool) (next : State) → Scanned s reports i typical critical wrong late high next
       → (within 1 64 (s .processors) && within 1 16 (s .count)) ≡ true → i < s .count → entrySound (entryAt s i) ≡ false → isSound s ≡ false
-  scanned-broken i typical critical wrong late next p ranges h broken =
+  scanned-broken i typical critical wrong late high next p ranges h broken =
       sym (ranges-kept s ranges) ∙ rw (passed-broken s long i typical critical h broken (p .shares))
 
-  pub scanned-more : (i typical critical wrong late : ℕ) (next : State) (typical′ critical′ wrong′ late′ : ℕ) (missing reached : Bool) (after : TaskState)
-      → Scanned s reports i typical critical wrong late next → length reports ≡ s .count → i < s .count → i < 255
+  pub scanned-more : (i typical critical wrong late : ℕ) (high : Bool) (next : State) (typical′ critical′ wrong′ late′ : ℕ) (high′ missing reached busy : Bool) (after : TaskState)
+      → Scanned s reports i typical critical wrong late high next → length reports ≡ s .count → i < s .count → i < 255
       → entrySound (entryAt s i) ≡ true → entryAt s i .share .typical < 256 → entryAt s i .share .critical < 256
       → typical′ ≡ typical + entryAt s i .share .typical → critical′ ≡ critical + entryAt s i .share .critical
       → wrong′ ≡ cond (eqb wrong noTask && missing) i wrong → late′ ≡ cond (eqb late noTask && reached) i late
+      → high′ ≡ (high || busy)
       → missing ≡ not (isSubset (getD reports i 0) (runningSet (granted (modelOf s) i) (rowOf (entryAt s i))))
       → reached ≡ isLate (tickedRow (rowOf (entryAt s i)) (getD reports i 0))
+      → busy ≡ hasHighJob (tickedRow (rowOf (entryAt s i)) (getD reports i 0))
       → after ≡ withRow (entryAt s i) (tickedRow (rowOf (entryAt s i)) (getD reports i 0))
-      → Scanned s reports (i + 1) typical′ critical′ wrong′ late′
+      → Scanned s reports (i + 1) typical′ critical′ wrong′ late′ high′
       (record { processors = next .processors; count = next .count; critical = next .critical; entries = set (next .entries) i after })
-  scanned-more i typical critical wrong late next typical′ critical′ wrong′ late′ missing reached after p same h small sound a b ts cs ws ls m r stored =
+  scanned-more i typical critical wrong late high next typical′ critical′ wrong′ late′ high′ missing reached busy after p same h small sound a b ts cs ws ls hs m r j stored =
       record {
         shares = rw (ts, cs) (passed-more s long i typical critical h sound a b (p .shares));
         wrongs = rw ws (found-more (refusal notRunning) wrong i missing _ _ _ small (rw m (reports-open s reports long same i h)) (p .wrongs));
         lates = rw ls (found-more some late i reached _ _ _ small (rw r (late-open s reports long same i h)) (p .lates));
+        highs =
+            rw (hs, j)
+            (or-grouped high _ (highFrom s reports (i + 1)) ∙ ap (λ (t : Bool). high || t) (sym (high-open s reports long same i h)) ∙ p .highs);
         written =
             written-more s (s .critical) (tickedBelow s reports i) next i (tickedRow (rowOf (entryAt s i)) (getD reports i 0)) after (p .written)
             (ticked-below s long reports i (omega arith))
@@ -223,7 +250,7 @@ module _ (s : State) (reports : List ℕ) where
   tick-refused r sound refused = rw (sound, refused, model-own s)
 
   pub tick-accepted : isSound s ≡ true → tickRefusal (modelOf s) reports ≡ none
-      → tickedBy s (switching (s .critical) (tickedRows (modelOf s .rows) reports)) ≡ tickOf s reports
+      → tickedBy s (turning (s .critical) (tickedRows (modelOf s .rows) reports)) ≡ tickOf s reports
   unfolding tickOf step ticked modelOf
   tick-accepted sound accepted = rw (sound, accepted)
 
@@ -249,25 +276,24 @@ tick-miscounted s reports sixteen other = go (isSound s) refl
         tick-refused s reports (record { number = wrongCount; task = noTask }) sound (wrong-count s reports (omega (arith, few-entries s sound)) other)
     go false unsound = tick-unsound s reports unsound
 
--- The end of a tick, by the mode and the lowest late task.
-module _ (s : State) (rows : List Row) (late : ℕ) (lowest : lowestLate 0 rows ≡ foundOr some late none) where
-  ran-by : (critical none-late : Bool) → eqb late noTask ≡ none-late → (critical || none-late) ≡ true
-      → _≡_ {A = Ticked} (record { state = writtenTo s critical rows; answer = Ran }) (tickedBy s (switching critical rows))
-  unfolding foundOr
-  ran-by true none-late e t = refl
-  ran-by false true e t = rw (lowest, e)
-  ran-by false false e t = absurd (false≢true t)
+-- The end of a tick in critical mode, by whether a high job is alive.
+critical-by : (s : State) (rows : List Row) (high : Bool)
+    → _≡_ {A = Ticked} (record { state = writtenTo s high rows; answer = cond high Ran Returned }) (tickedBy s (returnedTo rows high))
+critical-by s rows true = refl
+critical-by s rows false = ap (λ (rs : List Row). record { state = writtenTo s false rs; answer = Returned }) (sym (returned-rows rows))
 
-  switched-by : (critical none-late : Bool) → eqb late noTask ≡ none-late → (critical || none-late) ≡ false
-      → _≡_ {A = Ticked} (record { state = writtenTo s true (map switchedRow rows); answer = Switched late }) (tickedBy s (switching critical rows))
-  unfolding foundOr
-  switched-by true none-late e t = absurd (false≢true (sym t))
-  switched-by false true e t = absurd (false≢true (sym t))
-  switched-by false false e t = rw (lowest, e)
+-- The end of a tick in typical mode, by the lowest late task.
+module _ (s : State) (rows : List Row) (late : ℕ) (lowest : lowestLate 0 rows ≡ foundOr some late none) where
+  ran-by : late ≡ 255 → _≡_ {A = Ticked} (record { state = writtenTo s false rows; answer = Ran }) (tickedBy s (turning false rows))
+  ran-by e = rw (lowest, e, found-none some none)
+
+  switched-by : (late ≡ 255 → ⊥)
+      → _≡_ {A = Ticked} (record { state = writtenTo s true (map switchedRow rows); answer = Switched late }) (tickedBy s (turning false rows))
+  switched-by other = rw (lowest, found-at some late other)
 
 -- All tasks are passed: the tick by what the pass found.
 module _ (s : State) (reports : List ℕ) (long : s .count ≤ length (s .entries)) (same : length reports ≡ s .count)
-    (i typical critical wrong late : ℕ) (next : State) (p : Scanned s reports i typical critical wrong late next) (all : s .count ≤ i)
+    (i typical critical wrong late : ℕ) (high : Bool) (next : State) (p : Scanned s reports i typical critical wrong late high next) (all : s .count ≤ i)
     (ranges : (within 1 64 (s .processors) && within 1 16 (s .count)) ≡ true) where
   scanned-sound : isSound s ≡ (leb typical (s .processors) && leb critical (s .processors))
   scanned-sound = sym (passed-all s long i typical critical all (p .shares) ∙ ranges-kept s ranges)
@@ -286,6 +312,14 @@ module _ (s : State) (reports : List ℕ) (long : s .count ≤ length (s .entrie
   unfolding modelOf lateFrom
   lowest = sym (ap (foundOr some late) (sym (late-end s reports long same i all)) ∙ p .lates)
 
+  alive : any hasHighJob (tickedRows (modelOf s .rows) reports) ≡ high
+  unfolding modelOf highFrom
+  alive = sym (p .highs) ∙ ap (λ (t : Bool). high || t) (high-end s reports long same i all) ∙ or-false high
+    where
+      or-false : (t : Bool) → (t || false) ≡ t
+      or-false true = refl
+      or-false false = refl
+
   whole : next ≡ writtenTo s (s .critical) (tickedRows (modelOf s .rows) reports)
   whole = p .written ∙ ap (writtenTo s (s .critical)) (ticked-whole s long reports i all)
 
@@ -295,31 +329,49 @@ module _ (s : State) (reports : List ℕ) (long : s .count ≤ length (s .entrie
     scanned-wrong other =
         tick-refused s reports (record { number = notRunning; task = wrong }) (scanned-sound ∙ fit) (reported ∙ found-at (refusal notRunning) wrong other)
 
-    accepted : wrong ≡ 255 → tickedBy s (switching (s .critical) (tickedRows (modelOf s .rows) reports)) ≡ tickOf s reports
+    accepted : wrong ≡ 255 → tickedBy s (turning (s .critical) (tickedRows (modelOf s .rows) reports)) ≡ tickOf s reports
     accepted right =
         tick-accepted s reports (scanned-sound ∙ fit)
         (reported ∙ ap (λ (x : ℕ). foundOr (refusal notRunning) x none) right ∙ found-none (refusal notRunning) none)
 
-    pub scanned-ran : wrong ≡ 255 → (s .critical || eqb late noTask) ≡ true → record { state = next; answer = Ran } ≡ tickOf s reports
-    scanned-ran right calm =
-        ap (λ (t : State). record { state = t; answer = Ran }) whole
-        ∙ ran-by s (tickedRows (modelOf s .rows) reports) late lowest (s .critical) (eqb late noTask) refl calm
-        ∙ accepted right
+    -- The tick's end in a mode.
+    ended : (t : Bool) → s .critical ≡ t → wrong ≡ 255 → tickedBy s (turning t (tickedRows (modelOf s .rows) reports)) ≡ tickOf s reports
+    ended t mode right =
+        ap (λ (t : Bool). tickedBy s (turning t (tickedRows (modelOf s .rows) reports))) (sym mode) ∙ accepted right
 
-    pub scanned-switched : (turned : State) → wrong ≡ 255 → (s .critical || eqb late noTask) ≡ false
+    pub scanned-critical : (answer : TickAnswer) → wrong ≡ 255 → s .critical ≡ true → answer ≡ cond high Ran Returned
+        → record { state = record { processors = next .processors; count = next .count; critical = high; entries = next .entries }; answer = answer }
+        ≡ tickOf s reports
+    unfolding withModel
+    scanned-critical answer right mode said =
+        ap₂ (λ (t : State) (a : TickAnswer). record {
+          state = record { processors = t .processors; count = t .count; critical = high; entries = t .entries };
+          answer = a;
+        }) whole said
+        ∙ critical-by s (tickedRows (modelOf s .rows) reports) high
+        ∙ ap (λ (t : Bool). tickedBy s (returnedTo (tickedRows (modelOf s .rows) reports) t)) (sym alive)
+        ∙ ended true mode right
+
+    pub scanned-ran : wrong ≡ 255 → s .critical ≡ false → late ≡ 255 → record { state = next; answer = Ran } ≡ tickOf s reports
+    scanned-ran right mode unfound =
+        ap (λ (t : State). record { state = t; answer = Ran }) (whole ∙ ap (λ (t : Bool). writtenTo s t (tickedRows (modelOf s .rows) reports)) mode)
+        ∙ ran-by s (tickedRows (modelOf s .rows) reports) late lowest unfound
+        ∙ ended false mode right
+
+    pub scanned-switched : (turned : State) → wrong ≡ 255 → s .critical ≡ false → (late ≡ 255 → ⊥)
         → turned ≡ withModel next (record { critical = true; rows = map switchedRow (modelOf next .rows) })
         → record { state = turned; answer = Switched late } ≡ tickOf s reports
-    scanned-switched turned right reached turning =
+    scanned-switched turned right mode reached turning-is =
         let rows = tickedRows (modelOf s .rows) reports in
         let held : modelOf next ≡ record { critical = s .critical; rows = rows } =
         ap modelOf whole ∙ model-with s (record { critical = s .critical; rows = rows }) (ticked-fixed (modelOf s .rows) reports) in
         let state : turned ≡ writtenTo s true (map switchedRow rows) =
-        turning
+        turning-is
         ∙ ap₂ (λ (t : State) (m : Model). withModel t (record { critical = true; rows = map switchedRow (m .rows) })) whole held
         ∙ model-again s (record { critical = s .critical; rows = rows }) (record { critical = true; rows = map switchedRow rows }) (sym (length-map rows switchedRow)) in
         ap (λ (t : State). record { state = t; answer = Switched late }) state
-        ∙ switched-by s rows late lowest (s .critical) (eqb late noTask) refl reached
-        ∙ accepted right
+        ∙ switched-by s rows late lowest reached
+        ∙ ended false mode right
 
 -- The tick's answer says the number and the task of its equal.
 pub tick-said : {x y : Ticked} → x ≡ y → (x ≡ y) × TickSays (x .answer) (tickNumber (y .answer)) (tickTask (y .answer))

@@ -3,7 +3,7 @@ use Prim.Native.Nat.{ℕ}
 use mathlib.Core.Bool.{Bool, true, false}
 use mathlib.Core.List.{List, [], _∷_}
 use mathlib.Core.Path.{_≡_, refl}
-use lib.ListN.{replicate}
+use lib.ListN.{replicate, drop}
 use Rattle.basics.specs.Lists.{range, allBelow}
 use Rattle.nodes.specs.Sets.{has}
 use Rattle.sheet.specs.declared.answer.Answer.the-variants.{Accepted, Refused}
@@ -17,7 +17,7 @@ use Rattle.entries.specs.declared.state.TaskState.{TaskState}
 use Rattle.entries.specs.Entry.{fixedOf, jobOf, rowOf, withRow}
 use Rattle.entries.specs.Sound.{entrySound}
 use Rattle.dispatcher.specs.declared.state.State.{State}
-use Rattle.dispatcher.specs.declared.tick.TickAnswer.the-variants.{Ran, Switched, Refused as TickRefused}
+use Rattle.dispatcher.specs.declared.tick.TickAnswer.the-variants.{Ran, Switched, Returned, Refused as TickRefused}
 use Rattle.dispatcher.specs.Holds.{entriesOf, modelOf, withModel}
 use Rattle.dispatcher.specs.Sound.{isSound}
 use Rattle.dispatcher.specs.Answers.{tickNumber, tickTask}
@@ -135,6 +135,15 @@ pub record Worked : Type 0 where
   pub ended-both : tickOf late (1 ∷ 1 ∷ []) .answer ≡ Ran
   -- S7.4, S8.6: the tick that brings task 0 to V leaves the kept task's job alive and drops the other low one.
   pub switch-keeps : tickOf (keepingBusy false 1 true) (0 ∷ 0 ∷ 0 ∷ []) ≡ record { state = keepingBusy true 2 false; answer = Switched 0 }
+  -- S8.9: the tick with which both nodes of task 0 end returns, and the kept job goes on; with one of them the job is alive, and the tick runs.
+  pub returned : tickOf (keepingBusy true 2 false) (3 ∷ 0 ∷ 0 ∷ []) .answer ≡ Returned
+  pub returned-number : tickNumber (tickOf (keepingBusy true 2 false) (3 ∷ 0 ∷ 0 ∷ []) .answer) ≡ 0
+  pub returned-task : tickTask (tickOf (keepingBusy true 2 false) (3 ∷ 0 ∷ 0 ∷ []) .answer) ≡ 255
+  pub returned-mode : tickOf (keepingBusy true 2 false) (3 ∷ 0 ∷ 0 ∷ []) .state .critical ≡ false
+  pub returned-kept : drop 1 (tickOf (keepingBusy true 2 false) (3 ∷ 0 ∷ 0 ∷ []) .state .entries) ≡ entry 0 1 2 2 3 true ∷ entry 0 1 1 0 3 false ∷ []
+  pub held-back : tickOf (keepingBusy true 2 false) (1 ∷ 0 ∷ 0 ∷ []) .answer ≡ Ran
+  -- S8.9: a critical mode in which no job is alive ends with the next tick; nothing else changes.
+  pub returned-calm : tickOf keeping (0 ∷ 0 ∷ 0 ∷ []) ≡ record { state = state 5 3 false (keeping .entries); answer = Returned }
   -- S8.8: in the typical mode processor 3 has no node in task 1's block, and processor 4 stands behind all blocks.
   pub board-typical : boardOf (busy false) (replicate 10 7) ≡ 0 ∷ 0 ∷ 0 ∷ 1 ∷ 1 ∷ 0 ∷ 255 ∷ 255 ∷ 255 ∷ 255 ∷ []
   -- S8.8: in the critical mode task 0 has three processors and task 1 none.
@@ -192,6 +201,13 @@ worked =
       switched-second = refl;
       ended-both = refl;
       switch-keeps = refl;
+      returned = refl;
+      returned-number = refl;
+      returned-task = refl;
+      returned-mode = refl;
+      returned-kept = refl;
+      held-back = refl;
+      returned-calm = refl;
       board-typical = refl;
       board-critical = refl;
       board-kept = refl;

@@ -1,4 +1,4 @@
-// S8.5, S8.6: Tick.
+// S8.5 to S8.7, S8.9: Tick.
 ghost use mathlib.Core.Path.{_≡_};
 ghost use mathlib.Core.Bool.{true, cond};
 ghost use mathlib.Core.List.{map};
@@ -13,6 +13,7 @@ use crate::sound::NOT_SOUND;
 use crate::sound::is_sound;
 use crate::sound::ranges_kept;
 use crate::state::State;
+use entries::entry::has_high_job;
 use entries::entry::is_late;
 use entries::entry::ready;
 use entries::entry::running;
@@ -29,10 +30,11 @@ const WRONG_COUNT: u8 = 14;
 
 const NOT_RUNNING: u8 = 15;
 
-// S8.7: a tick ran, it switched for a task, or it was refused with a number and a task.
+// S8.7: a tick ran, it switched for a task, it returned, or it was refused with a number and a task.
 pub enum TickAnswer {
     Ran,
     Switched(u8),
+    Returned,
     Refused(u8, u8),
 }
 
@@ -80,7 +82,18 @@ fn refused(state: State, number: u8, task: u8) -> Ticked
     }
 }
 
-// S8.5 to S8.7: the reported nodes end, the ages grow, and the mode may turn critical. S3.4: a refused call hands the state back.
+// S8.9: the answer of a tick in critical mode, after which a high job is alive or none is.
+fn critical_answer(high: bool) -> TickAnswer
+    ensures { λ r. ⌜ r ≡ cond high TickAnswer.Ran TickAnswer.Returned ⌝ }
+{
+    if high {
+        TickAnswer::Ran
+    } else {
+        TickAnswer::Returned
+    }
+}
+
+// S8.5 to S8.7, S8.9: the reported nodes end, the ages grow, and the mode may turn. S3.4: a refused call hands the state back.
 // The tasks are passed once: soundness, reports and each task's part of the tick.
 pub fn tick(state: State, reports: &[u32]) -> Ticked
     ensures whole { λ r. ⌜ r ≡ tickOf state (now (reports .entry)) ⌝ }
@@ -106,7 +119,9 @@ pub fn tick(state: State, reports: &[u32]) -> Ticked
         let waiting = ready(e);
         let grant = share_in(e.share, state.critical);
         let wrong = !nodes::is_within(report, running(waiting, grant));
-        pass = passed(pass, i, e.share, wrong, is_late(after));
+        let late = is_late(after);
+        let high = has_high_job(after);
+        pass = passed(pass, i, e.share, wrong, late, high);
         next.entries[i as usize] = after;
         i += 1;
     }
@@ -116,7 +131,14 @@ pub fn tick(state: State, reports: &[u32]) -> Ticked
     if pass.wrong != NO_TASK {
         return refused(state, NOT_RUNNING, pass.wrong);
     }
-    if state.critical | (pass.late == NO_TASK) {
+    if state.critical {
+        next.critical = pass.high;
+        return Ticked {
+            state: next,
+            answer: critical_answer(pass.high),
+        };
+    }
+    if pass.late == NO_TASK {
         return Ticked {
             state: next,
             answer: TickAnswer::Ran,

@@ -105,8 +105,8 @@ pub fn ticked(e: TaskState, report: u32) -> TaskState
     next
 }
 
-// S8.6: whether this is a high task with an alive job.
-fn has_high_job(e: TaskState) -> bool
+// S8.6, S8.9: whether this is a high task with an alive job.
+pub fn has_high_job(e: TaskState) -> bool
     ensures { λ r. ⌜ r ≡ hasHighJob (rowOf e) ⌝ }
 {
     is_high(e.level) & e.job.alive

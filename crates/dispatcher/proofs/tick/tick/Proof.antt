@@ -12,7 +12,7 @@ use lib.ListN.{length, length-map, getD, take}
 use Rattle.nodes.specs.Sets.{members, setOf, isWithin}
 use Rattle.basics.specs.Numbers.{within}
 use Rattle.shares.specs.Totals.{shareIn}
-use Rattle.model.specs.Row.{isSubset, ready, runningSet, tickedRow, isLate}
+use Rattle.model.specs.Row.{isSubset, ready, runningSet, tickedRow, hasHighJob, isLate}
 use Rattle.model.specs.Step.{granted}
 use Rattle.entries.specs.declared.state.TaskState.{TaskState}
 use Rattle.dispatcher.specs.declared.tick.TickAnswer.the-variants.{Refused}
@@ -24,13 +24,13 @@ use Rattle.entries.proofs.Soundness.{few-nodes}
 use Rattle.dispatcher.proofs.Soundness.{ranges-broken, count-within}
 use Rattle.dispatcher.proofs.Entries.{noEntry, entryAt, Passed}
 use Rattle.dispatcher.proofs.Rows.{granted-entry, written-at}
-use Rattle.dispatcher.proofs.Ticks.{tickedBelow, ticked-below, late-after, Scanned, scanned-none, scanned-count, scanned-broken, scanned-more, tick-unsound, tick-miscounted, handed-back, scanned-unfit, scanned-wrong, scanned-ran, scanned-switched, tick-said}
+use Rattle.dispatcher.proofs.Ticks.{tickedBelow, ticked-below, test-after, Scanned, scanned-none, scanned-count, scanned-broken, scanned-more, tick-unsound, tick-miscounted, handed-back, scanned-unfit, scanned-wrong, scanned-critical, scanned-ran, scanned-switched, tick-said}
 use Rattle.dispatcher.proofs.tick.tick.Statement.{statement}
 use Rattle.dispatcher.proofs.tick.tick.Tie as tie
 
 abbrev Inv-loop : tie.InvT-loop
 Inv-loop state reports n next₀ pass₀ i₀ next pass i =
-    (i ≤ state .count) × Scanned state reports i (pass .typical) (pass .critical) (pass .wrong) (pass .late) next
+    (i ≤ state .count) × Scanned state reports i (pass .typical) (pass .critical) (pass .wrong) (pass .late) (pass .high) next
 
 abbrev μ-loop : tie.MeasureT-loop
 μ-loop state reports n next₀ pass₀ i₀ next pass i = state .count - i
@@ -70,22 +70,47 @@ returns-2 c =
     (c .refused2 .ensures
     ∙ tick-unsound (args .state) (now (args .reports)) (ranges-broken (args .state) (sym (c .before .before .ranges-kept .ensures) ∙ not-true _ (c .before .if2 .taken))))
 
--- Places: the call, from past its first two tests; past these, from the entry that a turn has read; that entry found sound, and read, from
--- the end of its turn; past the first two tests, from past the fourth.
+-- Places: the call, from past its first two tests; past these, from the entry that a turn has read; from the end of a turn what it asked and
+-- found, last first, the entry found sound, and the entry read; past the first two tests, from past the fourth; past the fourth, from past the
+-- fifth.
 abbrev called : tie.Else2 Inv-loop μ-loop → tie.Start Inv-loop μ-loop
 called c = c .before .before .before .before
 
 abbrev entered : tie.After-e Inv-loop μ-loop → tie.Else2 Inv-loop μ-loop
 entered c = c .before .before .before .before
 
+abbrev asked-high : tie.After-passed Inv-loop μ-loop → tie.After-has-high-job Inv-loop μ-loop
+asked-high c = c .before
+
+abbrev asked-late : tie.After-passed Inv-loop μ-loop → tie.After-is-late Inv-loop μ-loop
+asked-late c = asked-high c .before
+
+abbrev compared : tie.After-passed Inv-loop μ-loop → tie.After-is-within Inv-loop μ-loop
+compared c = asked-late c .before
+
+abbrev ran : tie.After-passed Inv-loop μ-loop → tie.After-running Inv-loop μ-loop
+ran c = compared c .before
+
+abbrev given : tie.After-passed Inv-loop μ-loop → tie.After-share-in Inv-loop μ-loop
+given c = ran c .before
+
+abbrev waited : tie.After-passed Inv-loop μ-loop → tie.After-ready Inv-loop μ-loop
+waited c = given c .before
+
+abbrev grown : tie.After-passed Inv-loop μ-loop → tie.After-ticked Inv-loop μ-loop
+grown c = waited c .before
+
 abbrev checked : tie.After-passed Inv-loop μ-loop → tie.Else3 Inv-loop μ-loop
-checked c = let ready = c .before .before .before .before .before in ready .before .before .before
+checked c = grown c .before .before
 
 abbrev turn : tie.After-passed Inv-loop μ-loop → tie.After-e Inv-loop μ-loop
 turn c = checked c .before .before
 
 abbrev passed-by : tie.Else4 Inv-loop μ-loop → tie.Else2 Inv-loop μ-loop
 passed-by c = c .before .before .before .before .before
+
+abbrev fitting : tie.Else5 Inv-loop μ-loop → tie.Else4 Inv-loop μ-loop
+fitting c = c .before .before
 
 -- Past the first two tests: M and n are in range, there is an entry and a report for each task.
 ranges : (c : tie.Else2 Inv-loop μ-loop)
@@ -126,7 +151,7 @@ untouched c =
     let loop = c .before .before .loop in
     let at = entered c in
     let args = called at .args in
-    let p : Scanned _ _ _ _ _ _ _ _ = loop .inv .1 in
+    let p : Scanned _ _ _ _ _ _ _ _ _ = loop .inv .1 in
     written-at (args .state) _ (tickedBelow (args .state) (now (args .reports)) (loop .i)) (loop .next) (loop .i) (p .written)
     (ticked-below (args .state) (long at) (now (args .reports)) (loop .i) (loop .inv .0))
 
@@ -145,7 +170,7 @@ returns-3 c =
     tick-said
     (handed-back (args .state) (now (args .reports)) _ _ _ (c .refused3 .ensures) refl
     (tick-unsound (args .state) (now (args .reports))
-    (scanned-broken (args .state) (now (args .reports)) (long at) (loop .i) _ _ _ _ _ (loop .inv .1) (ranges at) (omega arith)
+    (scanned-broken (args .state) (now (args .reports)) (long at) (loop .i) _ _ _ _ _ _ (loop .inv .1) (ranges at) (omega arith)
     (ap entrySound (sym (untouched read)) ∙ sym (c .before .before .entry-sound .ensures) ∙ not-true _ (c .before .if3 .taken)))))
 
 -- Past the third test the entry is sound.
@@ -180,13 +205,16 @@ is-within-requires c κs = search needs
 is-late-requires : tie.Need-is-late-requires Inv-loop μ-loop
 is-late-requires c κs = search needs
 
+has-high-job-requires : tie.Need-has-high-job-requires Inv-loop μ-loop
+has-high-job-requires c κs = search needs
+
 passed-requires : tie.Need-passed-requires Inv-loop μ-loop
 passed-requires c κs =
-    let ready = c .before .before .before .before in
+    let ready = c .before .before .before .before .before in
     let read = ready .before .before .before .before .before in
     let loop = read .before .before .loop in
     let at = entered read in
-    let scanned : Scanned _ _ _ _ _ _ _ _ = loop .inv .1 in
+    let scanned : Scanned _ _ _ _ _ _ _ _ _ = loop .inv .1 in
     let p : Passed _ _ _ _ = scanned .shares in
     (omega (arith, p .typical-small, few at), omega (arith, p .critical-small, few at))
 
@@ -208,8 +236,6 @@ loop-less c = omega arith
 loop-again : tie.Need-loop-again Inv-loop μ-loop
 loop-again c =
     let read = turn c in
-    let waited = c .before .before .before .before .before in
-    let report-read = waited .before .before in
     let loop = read .before .before .loop in
     let at = entered read in
     let args = called at .args in
@@ -217,9 +243,11 @@ loop-again c =
     let reports = now (args .reports) in
     let report = getD reports (loop .i) 0 in
     let e = entryAt s (loop .i) in
-    let stored : c .before .before .before .before .before .before .ticked .result ≡ withRow e (tickedRow (rowOf e) report) =
-    c .before .before .before .before .before .before .ticked .ensures ∙ ap (λ (x : TaskState). withRow x (tickedRow (rowOf x) report)) (untouched read) in
-    let late : c .before .is-late .result ≡ isLate (rowOf (c .before .before .before .before .before .before .ticked .result)) = c .before .is-late .ensures in
+    let after = grown c .ticked .result in
+    let stored : after ≡ withRow e (tickedRow (rowOf e) report) =
+    grown c .ticked .ensures ∙ ap (λ (x : TaskState). withRow x (tickedRow (rowOf x) report)) (untouched read) in
+    let late : asked-late c .is-late .result ≡ isLate (rowOf after) = asked-late c .is-late .ensures in
+    let high : asked-high c .has-high-job .result ≡ hasHighJob (rowOf after) = asked-high c .has-high-job .ensures in
     let found = getD (loop .next .entries) (loop .i) noEntry in
     let typicals : c .passed .result .typical ≡ loop .pass .typical + found .share .typical = c .passed .ensures .0 in
     let criticals : c .passed .result .critical ≡ loop .pass .critical + found .share .critical = c .passed .ensures .1 .0 in
@@ -227,36 +255,39 @@ loop-again c =
     typicals ∙ ap (λ (x : TaskState). loop .pass .typical + x .share .typical) (untouched read) in
     let critical : c .passed .result .critical ≡ loop .pass .critical + e .share .critical =
     criticals ∙ ap (λ (x : TaskState). loop .pass .critical + x .share .critical) (untouched read) in
-    let grant : c .before .before .before .before .share-in .result ≡ granted (modelOf s) (loop .i) =
-    c .before .before .before .before .share-in .ensures
+    let grant : given c .share-in .result ≡ granted (modelOf s) (loop .i) =
+    given c .share-in .ensures
     ∙ ap (λ (x : TaskState). shareIn (s .critical) (x .share)) (untouched read)
     ∙ sym (granted-entry s (long at) (loop .i) (omega arith)) in
-    let waiting : c .before .before .before .before .before .ready .result ≡ setOf (ready (rowOf e)) =
-    c .before .before .before .before .before .ready .ensures ∙ ap (λ (x : TaskState). setOf (ready (rowOf x))) (untouched read) in
-    let runs : c .before .before .before .running .result ≡ runningSet (granted (modelOf s) (loop .i)) (rowOf e) =
-    c .before .before .before .running .ensures
+    let waiting : waited c .ready .result ≡ setOf (ready (rowOf e)) =
+    waited c .ready .ensures ∙ ap (λ (x : TaskState). setOf (ready (rowOf x))) (untouched read) in
+    let runs : ran c .running .result ≡ runningSet (granted (modelOf s) (loop .i)) (rowOf e) =
+    ran c .running .ensures
     ∙ ap₂ (λ (n : ℕ) (set : ℕ). setOf (take n (members 32 set))) grant waiting
     ∙ lowest-ready (granted (modelOf s) (loop .i)) e (few-nodes e (sound (checked c))) in
-    let inside : c .before .before .is-within .result ≡ isSubset report (runningSet (granted (modelOf s) (loop .i)) (rowOf e)) =
-    c .before .before .is-within .ensures
+    let inside : compared c .is-within .result ≡ isSubset report (runningSet (granted (modelOf s) (loop .i)) (rowOf e)) =
+    compared c .is-within .ensures
     ∙ ap (isWithin 32 report) runs
-    ∙ within-subset report _ (omega (arith, report-read .shared-slice-known2 .given (loop .i))) in (
+    ∙ within-subset report _ (omega (arith, grown c .before .shared-slice-known2 .given (loop .i))) in (
       omega arith,
-      scanned-more s reports (long at) (loop .i) _ _ _ _ (loop .next) _ _ _ _ (not (c .before .before .is-within .result)) (c .before .is-late .result)
-          (c .before .before .before .before .before .before .ticked .result)
+      scanned-more s reports (long at) (loop .i) _ _ _ _ _ (loop .next) _ _ _ _ _ (not (compared c .is-within .result)) (asked-late c .is-late .result)
+          (asked-high c .has-high-job .result)
+          after
           (loop .inv .1)
           (same at)
           (omega arith)
           (omega (arith, few at))
           (sound (checked c))
-          (omega (arith, typical, c .passed .ensures .1 .1 .1 .1 .0))
-          (omega (arith, critical, c .passed .ensures .1 .1 .1 .1 .1))
+          (omega (arith, typical, c .passed .ensures .1 .1 .1 .1 .1 .0))
+          (omega (arith, critical, c .passed .ensures .1 .1 .1 .1 .1 .1))
           typical
           critical
           (c .passed .ensures .1 .1 .0)
           (c .passed .ensures .1 .1 .1 .0)
+          (c .passed .ensures .1 .1 .1 .1 .0)
           (ap not inside)
-          (late ∙ late-after e report _ stored)
+          (late ∙ test-after isLate e report _ stored)
+          (high ∙ test-after hasHighJob e report _ stored)
           stored,
     )
 
@@ -273,7 +304,7 @@ returns-4 c =
     let args = called at .args in
     tick-said
     (c .refused4 .ensures
-    ∙ scanned-unfit (args .state) (now (args .reports)) (long at) (same at) (loop .i) _ _ _ _ _ (loop .inv .1) (c .before .before .before .loop-test .left) (ranges at)
+    ∙ scanned-unfit (args .state) (now (args .reports)) (long at) (same at) (loop .i) _ _ _ _ _ _ (loop .inv .1) (c .before .before .before .loop-test .left) (ranges at)
     (sym (c .before .before .shares-fit .ensures) ∙ not-true _ (c .before .if4 .taken)))
 
 -- Past the fourth test the shares fit.
@@ -294,39 +325,61 @@ returns-5 c =
     let args = called at .args in
     tick-said
     (handed-back (args .state) (now (args .reports)) _ _ _ (c .refused5 .ensures) refl
-    (scanned-wrong (args .state) (now (args .reports)) (long at) (same at) (loop .i) _ _ _ _ _ (loop .inv .1) (fits .before .before .loop-test .left) (ranges at) (fit fits)
+    (scanned-wrong (args .state) (now (args .reports)) (long at) (same at) (loop .i) _ _ _ _ _ _ (loop .inv .1) (fits .before .before .loop-test .left) (ranges at) (fit fits)
     (c .before .if5 .taken)))
+
+critical-answer-requires : tie.Need-critical-answer-requires Inv-loop μ-loop
+critical-answer-requires c κs = search needs
 
 returns-6 : tie.Need-returns-6 Inv-loop μ-loop
 returns-6 c =
-    let fits = c .before .before .before .before .before in
+    let right = c .before .before in
+    let fits = fitting right in
     let loop = fits .before .before .before .loop in
     let at = passed-by fits in
     let args = called at .args in
     tick-said
-    (scanned-ran (args .state) (now (args .reports)) (long at) (same at) (loop .i) _ _ _ _ _ (loop .inv .1) (fits .before .before .loop-test .left) (ranges at) (fit fits)
-    (c .before .before .before .if5 .left)
-    (c .if6 .taken))
-
-switched-all-requires : tie.Need-switched-all-requires Inv-loop μ-loop
-switched-all-requires c κs =
-    let fits = c .before .before .before .before .before in
-    let at = passed-by fits in
-    let args = called at .args in
-    let loop = fits .before .before .before .loop in
-    rw (scanned-count (args .state) (now (args .reports)) (long at) (loop .i) _ _ _ _ _ (loop .inv .1)) (few at)
+    (scanned-critical (args .state) (now (args .reports)) (long at) (same at) (loop .i) _ _ _ _ _ _ (loop .inv .1) (fits .before .before .loop-test .left) (ranges at) (fit fits)
+    (c .critical-answer .result)
+    (right .if5 .left)
+    (c .before .if6 .taken)
+    (c .critical-answer .ensures))
 
 returns-7 : tie.Need-returns-7 Inv-loop μ-loop
 returns-7 c =
-    let fits = c .before .before .before .before .before .before in
+    let typical = c .before .before in
+    let fits = fitting (typical .before) in
     let loop = fits .before .before .before .loop in
     let at = passed-by fits in
     let args = called at .args in
     tick-said
-    (scanned-switched (args .state) (now (args .reports)) (long at) (same at) (loop .i) _ _ _ _ _ (loop .inv .1) (fits .before .before .loop-test .left) (ranges at) (fit fits)
+    (scanned-ran (args .state) (now (args .reports)) (long at) (same at) (loop .i) _ _ _ _ _ _ (loop .inv .1) (fits .before .before .loop-test .left) (ranges at) (fit fits)
+    (typical .before .if5 .left)
+    (typical .if6 .left)
+    (c .if7 .taken))
+
+switched-all-requires : tie.Need-switched-all-requires Inv-loop μ-loop
+switched-all-requires c κs =
+    let typical = c .before .before in
+    let fits = fitting (typical .before) in
+    let at = passed-by fits in
+    let args = called at .args in
+    let loop = fits .before .before .before .loop in
+    rw (scanned-count (args .state) (now (args .reports)) (long at) (loop .i) _ _ _ _ _ _ (loop .inv .1)) (few at)
+
+returns-8 : tie.Need-returns-8 Inv-loop μ-loop
+returns-8 c =
+    let typical = c .before .before .before in
+    let fits = fitting (typical .before) in
+    let loop = fits .before .before .before .loop in
+    let at = passed-by fits in
+    let args = called at .args in
+    tick-said
+    (scanned-switched (args .state) (now (args .reports)) (long at) (same at) (loop .i) _ _ _ _ _ _ (loop .inv .1) (fits .before .before .loop-test .left) (ranges at) (fit fits)
     (c .switched-all .result)
-    (c .before .before .before .before .if5 .left)
-    (c .before .if6 .left)
+    (typical .before .if5 .left)
+    (typical .if6 .left)
+    (c .before .if7 .left)
     (c .switched-all .ensures))
 
 pub tick-spec : {M : Type 1} → statement M
@@ -359,6 +412,7 @@ tick-spec =
     running-requires
     is-within-requires
     is-late-requires
+    has-high-job-requires
     passed-requires
     cast-after
     mul-after
@@ -371,6 +425,8 @@ tick-spec =
     returns-4
     refused-requires-5
     returns-5
+    critical-answer-requires
     returns-6
+    returns-7
     switched-all-requires
-    returns-7)
+    returns-8)
