@@ -22,7 +22,7 @@ use Rattle.dispatcher.specs.Holds.{modelOf, withRows, withModel}
 use Rattle.dispatcher.specs.Sound.{isSound}
 use Rattle.dispatcher.specs.Answers.{notSound}
 use Rattle.dispatcher.specs.declared.tick.TickAnswer.{TickAnswer}
-use Rattle.dispatcher.specs.declared.tick.TickAnswer.the-variants.{Ran, Switched, Refused as TickRefused}
+use Rattle.dispatcher.specs.declared.tick.TickAnswer.the-variants.{Ran, Switched, Returned, Refused as TickRefused}
 use Rattle.dispatcher.specs.Calls.{releasedBy, releaseOf, tickedBy, tickOf}
 use Rattle.dispatcher.specs.Board.{boardAnswer, boardedOf, boardLeft, boardOf}
 use Rattle.dispatcher.proofs.Laws.{release-back, tick-back}
@@ -45,6 +45,7 @@ tick-left-by : {A : Type 0} (a : TickAnswer) (left before : A) → ((number task
 unfolding tickWord
 tick-left-by Ran left before h refused = absurd (omega arith)
 tick-left-by (Switched task) left before h refused = absurd (omega arith)
+tick-left-by Returned left before h refused = absurd (omega arith)
 tick-left-by (TickRefused number task) left before h refused = h number task refl
 
 start-leaves : (sheet line : List ℕ) → Leaves (startCall sheet line) line

@@ -14,6 +14,8 @@ pub const ACCEPTED: u32 = 65280;
 
 const SWITCH: u32 = 65536;
 
+const RETURN: u32 = 131072;
+
 // S13.5: number 100, task 255.
 pub const NOT_STATE: u32 = 65380;
 
@@ -24,6 +26,7 @@ pub fn tick_word(a: TickAnswer) -> u32
     match a {
         TickAnswer::Ran => ACCEPTED,
         TickAnswer::Switched(task) => SWITCH + 256 * (task as u32),
+        TickAnswer::Returned => RETURN + ACCEPTED,
         TickAnswer::Refused(number, task) => (number as u32) + 256 * (task as u32),
     }
 }

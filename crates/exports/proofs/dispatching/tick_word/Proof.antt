@@ -1,4 +1,4 @@
--- `exports::dispatching::tick_word` meets its contract, by the three cases of the answer. Assumes nothing.
+-- `exports::dispatching::tick_word` meets its contract, by the four cases of the answer. Assumes nothing.
 use mathlib.Core.Path.{sym, ap}
 use Rattle.exports.specs.Ticks.{tickWord}
 use borrow.Author.Needs.{needs}
@@ -20,6 +20,12 @@ mul-result c = search needs
 add-result : tie.Need-add-result
 add-result c = search needs
 
+enum-told-2 : tie.Need-enum-told-2
+enum-told-2 c = search needs
+
+add-result-2 : tie.Need-add-result-2
+add-result-2 c = search needs
+
 enum-known-a-2 : tie.Need-enum-known-a-2
 enum-known-a-2 c = search needs
 
@@ -32,8 +38,8 @@ cast-result-3 c = search needs
 mul-result-2 : tie.Need-mul-result-2
 mul-result-2 c = search needs
 
-add-result-2 : tie.Need-add-result-2
-add-result-2 c = search needs
+add-result-3 : tie.Need-add-result-3
+add-result-3 c = search needs
 
 returns : tie.Need-returns
 unfolding tickWord
@@ -45,7 +51,11 @@ returns-2 c = sym (ap tickWord (c .before .a .given .1))
 
 returns-3 : tie.Need-returns-3
 unfolding tickWord
-returns-3 c = sym (ap tickWord (c .before .a2 .given .1))
+returns-3 c = sym (ap tickWord (c .enum-told2 .given .1))
+
+returns-4 : tie.Need-returns-4
+unfolding tickWord
+returns-4 c = sym (ap tickWord (c .before .a2 .given .1))
 
 pub tick-word-spec : {M : Type 1} → statement M
 tick-word-spec =
@@ -56,11 +66,14 @@ tick-word-spec =
     cast-result
     mul-result
     add-result
+    enum-told-2
+    add-result-2
     enum-known-a-2
     cast-result-2
     cast-result-3
     mul-result-2
-    add-result-2
+    add-result-3
     returns
     returns-2
-    returns-3)
+    returns-3
+    returns-4)
