@@ -14,6 +14,8 @@ use Rattle.model.specs.Run.{after}
 use Rattle.model.specs.Beside.{Beside}
 use Rattle.model.specs.Plan.{Planned}
 use Rattle.model.proofs.Theorem.{demand3, beside}
+use Rattle.model.proofs.Return.{return-law}
+use Rattle.model.proofs.Back.{back-in-time}
 use Rattle.dispatcher.specs.declared.state.State.{State}
 use Rattle.dispatcher.specs.Holds.{modelOf}
 use Rattle.dispatcher.specs.Sound.{isSound}
@@ -72,6 +74,8 @@ module _ (sheet : List ℕ) (accepted : startOf sheet .answer ≡ Accepted) wher
         capacity = whole .capacity;
         nominal = whole .nominal;
         kept = whole .kept;
+        returns = return-law (after (modelFor sheet) calls);
+        back = back-in-time (tasksFor sheet) (sharesFor sheet) sheet-planned calls;
       }
 
   besides : (calls : List Call) → Beside (tasksFor sheet) (sharesFor sheet) calls

@@ -1,4 +1,4 @@
--- What S10.7 and S10.9 to S10.11 ask can be met. The sheets are read and planned by computation; their models are run by computation,
+-- What S10.7, S10.9 to S10.11 and S10.13 ask can be met. The sheets are read and planned by computation; their models are run by computation,
 -- and the reports pass the test of true ones.
 use Prim.Native.Nat.{ℕ, zero, suc, _+_, _≤_, _<_}
 use mathlib.Core.Bool.{true, true≢false, Bool, false≢true}
@@ -33,15 +33,16 @@ use Rattle.keeping.specs.Kept.{lowNumbers, holdable, firstHeld, typicalShareAt,
 use Rattle.allocation.specs.Allocation.{chosenFor, shareAnswer, choiceAnswer, sharesWith, sharesOf, allocationAnswer}
 use Rattle.model.specs.Budget.{sumBelow, Chain, alone, link, along}
 use Rattle.model.specs.Row.{isSubset, allEnded, predecessorsOf, precedes, isReady, ready, running, runningSet, releasedRow, joined, tickedRow, hasHighJob, isLate, survives, switchedRow}
-use Rattle.model.specs.Step.{Model, Call, release, tick, step, rowAt, granted, runningAt, unknownTask, lowInCritical, tooEarly, wrongCount, notRunning, releaseRefusal, tickRefusal, released, ticked}
+use Rattle.model.specs.Step.{Model, Call, release, tick, switched, step, rowAt, granted, runningAt, unknownTask, lowInCritical, tooEarly, wrongCount, notRunning, releaseRefusal, tickRefusal, released, ticked}
 use Rattle.model.specs.Run.{after, isAccepted, ticksIn, releasesIn, isRunning, isDue}
 use Rattle.model.specs.Plan.{freshRow, fresh}
 use Rattle.model.specs.Claim.{begun, KeepsBudget, JobWithin, HighJobsWithin, Ended, StaysTypical, Deadline, EndInTime, Nominal, KeptDeadline}
+use Rattle.model.specs.Return.{longestDeadline, SwitchIn, turned, waitsForReturn, ReturnWithin, BackInTime}
 use Rattle.model.specs.Beside.{LowDeadline, TypicalUntil}
 use Rattle.start.specs.Start.{startOf}
 use Rattle.guarantee.specs.Runs.{allModelSaid}
 use Rattle.guarantee.specs.Guarantee.{sharesFor, modelFor, Guarantee, BesideGuarantee, tasksFor}
-use Rattle.guarantee.specs.Witness.{twoTasks, highTask, longLengths, overrun, overrunSaid, shortLengths, usual, lowTask, lowAlone, oneKept, keptTask, keptLengths, overSwitch, overSwitchSaid, InTimeAsked, DeadlineMet, NominalMet, LowMet, KeptMet}
+use Rattle.guarantee.specs.Witness.{twoTasks, highTask, longLengths, overrun, overrunSaid, shortLengths, usual, lowTask, lowAlone, oneKept, keptTask, keptLengths, overSwitch, keptAgain, keptAgainSaid, thereAndBack, thereAndBackSaid, InTimeAsked, DeadlineMet, NominalMet, LowMet, KeptMet, BackMet}
 use Rattle.guarantee.proofs.Theorem.{answer-returned, guarantee, beside-guarantee}
 use Rattle.guarantee.proofs.Truths.{allTrue, true-reports, allTypical, typical-until, at-releases}
 
@@ -248,6 +249,10 @@ beforeDue = take 10 (drop 1 overrun)
 abbrev noReports : Call
 noReports = tick (0 ∷ 0 ∷ [])
 
+-- The model just after the second release of task 0 in the run that returns.
+abbrev second : Model
+second = step (after start (take 12 thereAndBack)) (release 0) .model
+
 -- The runs on the model, by computation.
 record Runs : Type 0 where
   -- The first call of each run is accepted.
@@ -271,9 +276,21 @@ record Runs : Type 0 where
   pub low-ticks : ticksIn firstLow (take 2 (drop 1 lowAlone)) + 1 ≡ 3
   pub low-typical : allTypical firstLow (drop 1 lowAlone) ≡ true
   pub low-again : isAccepted (after start lowAlone) (release 1) ≡ true
+  -- The run that switches and returns twice: its answers, its first switch, the reports of both high jobs, and what follows the switch.
+  pub back-said : allModelSaid start thereAndBack ≡ thereAndBackSaid
+  pub back-switch : step (after start (take 5 thereAndBack)) noReports .answer ≡ switched 0
+  pub back-true : allTrue 0 longLengths (λ _. 0) first (drop 1 thereAndBack) ≡ true
+  pub back-waits : waitsForReturn (after start (take 6 thereAndBack)) (drop 6 thereAndBack) ≡ true
+  pub back-ticks : ticksIn (after start (take 6 thereAndBack)) (drop 6 thereAndBack) ≡ 12
+  -- Its second high job: its release behind the first one's, true reports, and its D-th tick.
+  pub second-begins : isAccepted (after start (take 12 thereAndBack)) (release 0) ≡ true
+  pub second-later : releasesIn 0 start (take 12 thereAndBack) ≡ 1
+  pub second-true : allTrue 0 longLengths (λ _. 0) second (drop 13 thereAndBack) ≡ true
+  pub second-due : isAccepted (after second (take 7 (drop 13 thereAndBack))) noReports ≡ true
+  pub second-ticks : ticksIn second (take 7 (drop 13 thereAndBack)) + 1 ≡ 8
   -- The run of the kept job: its release, its answers and true reports, its D-th tick, and the job and the mode before that.
   pub kept-begins : isAccepted (after keptStart (take 3 overSwitch)) (release 1) ≡ true
-  pub kept-said : allModelSaid keptStart (overSwitch ++ release 1 ∷ []) ≡ overSwitchSaid
+  pub kept-said : allModelSaid keptStart keptAgain ≡ keptAgainSaid
   pub kept-true : allTrue 1 keptLengths (λ _. 0) firstKept (drop 4 overSwitch) ≡ true
   pub kept-due : isAccepted (after firstKept (take 3 (drop 4 overSwitch))) (tick (4 ∷ 4 ∷ [])) ≡ true
   pub kept-ticks : ticksIn firstKept (take 3 (drop 4 overSwitch)) + 1 ≡ 4
@@ -299,6 +316,16 @@ runs =
       low-ticks = refl;
       low-typical = refl;
       low-again = refl;
+      back-said = refl;
+      back-switch = refl;
+      back-true = refl;
+      back-waits = refl;
+      back-ticks = refl;
+      second-begins = refl;
+      second-later = refl;
+      second-true = refl;
+      second-due = refl;
+      second-ticks = refl;
       kept-begins = refl;
       kept-said = refl;
       kept-true = refl;
@@ -375,6 +402,28 @@ usual-asked =
     nominal : (m : Model) (since : List Call) → allTrue 0 shortLengths (λ _. 0) m since ≡ true → JobWithin high (high .figures .nominal) 0 m since
     nominal m since h = record { lengths = shortLengths; keeps = short-keeps; reports = true-reports 0 shortLengths m since h }
 
+-- Of the five releases of the run that returns those of the low task ask nothing.
+back-jobs : HighJobsWithin (λ t. t .figures .overload) both start thereAndBack
+unfolding HighJobsWithin taskIn isHigh
+back-jobs =
+    at-releases (λ i m since. isHigh (taskIn both i .level) ≡ true → JobWithin (taskIn both i) (taskIn both i .figures .overload) i m since)
+    start thereAndBack (
+      λ _ level. within first (drop 1 thereAndBack) (runs .back-true),
+      (
+        λ _ level. absurd (false≢true level),
+        (
+          λ _ level. absurd (false≢true level),
+          (
+            λ _ level. absurd (false≢true level),
+            (λ _ level. within second (drop 13 thereAndBack) (runs .second-true), tt),
+          ),
+        ),
+      ),
+    )
+  where
+    within : (m : Model) (since : List Call) → allTrue 0 longLengths (λ _. 0) m since ≡ true → JobWithin high (high .figures .overload) 0 m since
+    within m since h = record { lengths = longLengths; keeps = long-keeps; reports = true-reports 0 longLengths m since h }
+
 -- All of them hold of the sheet, whose model this is.
 pub deadline-met : DeadlineMet
 unfolding Guarantee
@@ -425,12 +474,71 @@ kept-met =
     record {
       started = kept-started;
       said =
-          guarantee oneKept kept-started (overSwitch ++ release 1 ∷ []) .answers
-          ∙ ap (λ (m : Model). allModelSaid m (overSwitch ++ release 1 ∷ [])) kept-model
+          guarantee oneKept kept-started keptAgain .answers
+          ∙ ap (λ (m : Model). allModelSaid m keptAgain) kept-model
           ∙ runs .kept-said;
       critical = ap (λ (m : Model). after m (take 7 overSwitch) .critical) kept-model ∙ runs .kept-critical;
       alive = ap (λ (m : Model). rowAt (after m (take 7 overSwitch)) 1 .job .alive) kept-model ∙ runs .kept-alive;
       asked = subst₂ KeptAsked (sym kept-set) (sym kept-shares) kept-asked;
+    }
+
+-- What is asked of the first switch of the run that returns.
+record BackAsked (ts : TaskSet) (m : Model) : Type 0 where
+  pub switch : SwitchIn m thereAndBack
+  pub jobs : HighJobsWithin (λ t. t .figures .overload) ts m thereAndBack
+  pub waits : waitsForReturn (turned switch) (switch .since) ≡ true
+  pub enough : longestDeadline ts ≤ ticksIn (turned switch) (switch .since) + 1
+
+back-asked : BackAsked both start
+unfolding turned longestDeadline isHigh
+back-asked =
+    record {
+      switch =
+          record {
+            before = take 5 thereAndBack;
+            reports = 0 ∷ 0 ∷ [];
+            since = drop 6 thereAndBack;
+            list = refl;
+            task = 0;
+            answer = runs .back-switch;
+          };
+      jobs = back-jobs;
+      waits = runs .back-waits;
+      enough = rw (runs .back-ticks) (lit≤ tt);
+    }
+
+-- What is asked of its second high job.
+record SecondAsked (m : Model) (t : Task) : Type 0 where
+  pub asked : InTimeAsked isHigh (t .figures .overload) m t 0 thereAndBack longLengths
+  pub later : releasesIn 0 m (asked .job .before) ≡ 1
+
+second-asked : SecondAsked start high
+unfolding isHigh asked-of
+second-asked =
+    record {
+      asked =
+          asked-of isHigh (high .figures .overload) start high 0 (take 12 thereAndBack) (take 7 (drop 13 thereAndBack)) (0 ∷ 0 ∷ []) [] longLengths
+          (runs .second-begins) refl long-keeps (runs .second-true) (runs .second-due) (runs .second-ticks) refl;
+      later = runs .second-later;
+    }
+
+pub back-met : BackMet
+unfolding Guarantee
+back-met =
+    let switch : BackAsked (tasksFor twoTasks) (modelFor twoTasks) = subst₂ BackAsked (sym read-set) (sym model-is) back-asked in
+    let second-job : SecondAsked (modelFor twoTasks) highTask = subst₂ SecondAsked (sym model-is) (sym task-is) second-asked in
+    record {
+      started = started;
+      said =
+          guarantee twoTasks started thereAndBack .answers
+          ∙ ap (λ (m : Model). allModelSaid m thereAndBack) model-is
+          ∙ runs .back-said;
+      switch = switch .switch;
+      jobs = switch .jobs;
+      waits = switch .waits;
+      enough = switch .enough;
+      asked = second-job .asked;
+      later = second-job .later;
     }
 
 -- S10.7 of the one run: its job has ended.
@@ -458,3 +566,15 @@ unfolding Guarantee KeptDeadline modelFor
 kept-ended =
     let a = kept-met .asked in
     guarantee oneKept kept-started overSwitch .kept 1 (a .job) keptLengths (a .level-is) (a .keeps) (a .reports) (a .passed)
+
+-- S10.13 of the run that returns: a tick returns before the longest deadline has passed.
+pub mode-back : ReturnWithin (longestDeadline (tasksFor twoTasks)) (turned (back-met .switch)) (back-met .switch .since)
+unfolding Guarantee BackInTime modelFor
+mode-back = guarantee twoTasks started thereAndBack .back (back-met .switch) (back-met .jobs) (back-met .waits) (back-met .enough)
+
+-- S10.7 of its second high job, which is released after a return: it has ended.
+pub second-ended : Ended highTask (rowAt (after (modelFor twoTasks) thereAndBack) 0)
+unfolding Guarantee Deadline EndInTime modelFor
+second-ended =
+    let a = back-met .asked in
+    guarantee twoTasks started thereAndBack .deadline 0 (a .job) longLengths (a .level-is) (a .keeps) (a .reports) (a .passed)

@@ -11,6 +11,7 @@ use Rattle.model.specs.Step.{Model, Call}
 use Rattle.model.specs.Run.{after}
 use Rattle.model.specs.Plan.{fresh}
 use Rattle.model.specs.Claim.{Deadline, Capacity, Nominal, KeptDeadline}
+use Rattle.model.specs.Return.{ReturnLaw, BackInTime}
 use Rattle.model.specs.Beside.{Beside}
 use Rattle.dispatcher.specs.declared.state.State.{State}
 use Rattle.dispatcher.specs.Holds.{modelOf}
@@ -39,14 +40,22 @@ pub record Guaranteed (sheet : List ℕ) (calls : List Call) : Type 0 where
   pub answers : allSaid (startState sheet) calls ≡ allModelSaid (modelFor sheet) calls
   -- S10.3: the state holds what the model holds.
   pub states : modelOf (stateAfter (startState sheet) calls) ≡ after (modelFor sheet) calls
-  -- S10.7: a high job that keeps the overload budget, with true reports, has ended with its D-th tick.
+  -- S10.7: a high job that keeps the overload budget, with true reports, has ended with its D-th tick, over any number of switches and
+  -- returns.
   pub deadline : Deadline (tasksFor sheet) (sharesFor sheet) calls
   -- S10.8: no task runs more nodes than its share, and all of them together run at most M.
   pub capacity : Capacity (tasksFor sheet) (sharesFor sheet) (after (modelFor sheet) calls)
-  -- S10.9: while each high job keeps the nominal budget, with true reports, the mode stays typical and no tick says that it switched.
+  -- S10.9: while each high job keeps the nominal budget, with true reports, the mode stays typical and no tick says that it switched or
+  -- returned.
   pub nominal : Nominal (tasksFor sheet) (sharesFor sheet) calls
   -- S10.11: a job of a kept low task that keeps its budget, with true reports, has ended with its D-th tick.
   pub kept : KeptDeadline (tasksFor sheet) (sharesFor sheet) calls
+  -- S10.12: a tick that comes next returns just where it finds the mode critical and leaves no high job alive; then every task may be
+  -- released as from the typical mode.
+  pub returns : (reports : List ℕ) → ReturnLaw (after (modelFor sheet) calls) reports
+  -- S10.13: while each high job keeps the overload budget, with true reports, a switch is followed by a return before the longest deadline
+  -- of the high tasks has passed, unless a high task is released in between.
+  pub back : BackInTime (tasksFor sheet) (sharesFor sheet) calls
 
 -- S10.1: it holds of every sheet that Start accepts and of every list of calls, whatever their arguments and answers.
 unfoldable pub Guarantee : Type 0

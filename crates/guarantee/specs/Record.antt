@@ -9,7 +9,7 @@ use Rattle.sheet.specs.Answers.{noTask, numberOf, taskOf}
 use Rattle.model.specs.Row.{Row}
 use Rattle.model.specs.Step.{Model, Call}
 use Rattle.dispatcher.specs.declared.state.State.{State}
-use Rattle.dispatcher.specs.declared.tick.TickAnswer.the-variants.{Ran, Switched, Refused as TickRefused}
+use Rattle.dispatcher.specs.declared.tick.TickAnswer.the-variants.{Ran, Switched, Returned, Refused as TickRefused}
 use Rattle.dispatcher.specs.Answers.{tickNumber, tickTask}
 use Rattle.dispatcher.specs.Holds.{modelOf}
 use Rattle.guarantee.specs.declared.turn.Turn.{Turn}
@@ -27,12 +27,17 @@ switchedOutcome = 1
 abbrev pub refusedOutcome : ℕ
 refusedOutcome = 2
 
+-- S12.2: the outcome of a tick that returned.
+abbrev pub returnedOutcome : ℕ
+returnedOutcome = 3
+
 -- S12.2: the outcome of a call, by its answer.
 abbrev pub outcomeOf : Said → ℕ
 outcomeOf (released Accepted) = doneOutcome
 outcomeOf (released (Refused number task)) = refusedOutcome
 outcomeOf (ticked Ran) = doneOutcome
 outcomeOf (ticked (Switched task)) = switchedOutcome
+outcomeOf (ticked Returned) = returnedOutcome
 outcomeOf (ticked (TickRefused number task)) = refusedOutcome
 
 -- S3.1, S8.7: the number of the answer to a call: 0 unless it was refused.

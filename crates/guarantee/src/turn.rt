@@ -22,6 +22,8 @@ const SWITCHED: u8 = 1;
 
 const REFUSED: u8 = 2;
 
+const RETURNED: u8 = 3;
+
 // A call's answer as three numbers, beside the state that it returned.
 pub struct Turn {
     pub state: State,
@@ -77,6 +79,12 @@ fn by_tick(state: State, reports: &[u32]) -> Turn
             outcome: SWITCHED,
             number: 0,
             task,
+        },
+        TickAnswer::Returned => Turn {
+            state: next,
+            outcome: RETURNED,
+            number: 0,
+            task: NO_TASK,
         },
         TickAnswer::Refused(number, task) => refused(next, number, task),
     }

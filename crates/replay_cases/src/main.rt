@@ -1,6 +1,6 @@
 // S11.13, run through Replay (S12): A alone with shares (1, 2) and three nodes without predecessors. Start's answer is a line,
 // and so is each call's record: outcome, number, task, mode, alive, age, ended set. Lengths 4, 3, 2: ended with tick 9, no switch.
-// Lengths 4, 3, 3: tick 9 switches, and the job has ended with tick 10.
+// Lengths 4, 3, 3: tick 9 switches, the job has ended with tick 10, and that tick returns.
 ghost use Prim.Native.Nat.{_≤_, _<_};
 ghost use lib.ListN.{length};
 use basics::numbers::byte_at;

@@ -18,6 +18,9 @@ done-requires c κs = search needs
 enum-known-answer : tie.Need-enum-known-answer
 enum-known-answer c = search needs
 
+enum-told-2 : tie.Need-enum-told-2
+enum-told-2 c = search needs
+
 enum-known-answer-2 : tie.Need-enum-known-answer-2
 enum-known-answer-2 c = search needs
 
@@ -38,6 +41,12 @@ returns-2 c =
 
 returns-3 : tie.Need-returns-3
 returns-3 c =
+    let args = c .before .before .before .before .before .args in
+    let call = c .before .before .before .tick in
+    turn-ticked (args .state) (now (args .reports)) (call .result) _ (call .ensures .0) (c .enum-told2 .given .1)
+
+returns-4 : tie.Need-returns-4
+returns-4 c =
     let args = c .before .before .before .before .before .before .before .args in
     let call = c .before .before .before .before .before .tick in
     c .refused .ensures ∙ turn-ticked (args .state) (now (args .reports)) (call .result) _ (call .ensures .0) (c .before .before .answer2 .given .1)
@@ -50,8 +59,10 @@ by-tick-spec =
     enum-told
     done-requires
     enum-known-answer
+    enum-told-2
     enum-known-answer-2
     refused-requires
     returns
     returns-2
-    returns-3)
+    returns-3
+    returns-4)
