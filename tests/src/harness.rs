@@ -6,4 +6,6 @@ pub mod counts;
 pub mod long;
 pub mod proved;
 pub mod replay;
+pub mod returns;
 pub mod suites;
+pub mod watch;

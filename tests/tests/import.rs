@@ -13,7 +13,7 @@ use dibwunek_tests::makers::graphs::{
 use dibwunek_tests::makers::lengths::Budget;
 use dibwunek_tests::makers::random::Random;
 use dibwunek_tests::makers::sheets::Draft;
-use dibwunek_tests::makers::world::{story, Manner};
+use dibwunek_tests::makers::world::{story, Manner, Pace};
 use dibwunek_tests::reference::answers::Reply;
 use dibwunek_tests::reference::import::{import, import_into, Imported, Terms, HEAD};
 use dibwunek_tests::reference::planner::{self, least_deadline, Pair, TASK_BYTES};
@@ -618,7 +618,7 @@ fn imported_jobs_end_by_their_deadlines() {
         for (lengths, counts) in [(nominal, &mut nominal_counts), (overload, &mut overload_counts)] {
             let manner = Manner {
                 ticks: d as usize,
-                eager: true,
+                paces: vec![Pace::Eager],
                 kinds: vec![vec![Kind::Given(lengths)]],
                 first: vec![0],
                 liars: vec![false],

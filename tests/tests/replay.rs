@@ -3,6 +3,7 @@ use dibwunek_tests::harness::boundary::start;
 use dibwunek_tests::harness::counts::{hold, Counts};
 use dibwunek_tests::harness::proved::calls::replay;
 use dibwunek_tests::harness::proved::dispatching::Proved;
+use dibwunek_tests::harness::suites::returns::returning_story;
 use dibwunek_tests::harness::suites::{self, any_story, low_story, Subject};
 use dibwunek_tests::makers::crafts::Kind;
 use dibwunek_tests::makers::random::Random;
@@ -74,6 +75,9 @@ fn check(random: &mut Random, sheet: &[u8], log: &[u8], counts: &mut Counts) {
         true => "runs with a switch",
         false => "runs without",
     });
+    if expected.replies.contains(&Reply::Returned) {
+        counts.add("runs with a return");
+    }
     for reply in expected.replies.iter().filter(|reply| reply.number() != 0) {
         counts.add(reply.number());
     }
@@ -85,15 +89,17 @@ const KINDS: [Kind; 5] = [Kind::Nominal, Kind::Overload, Kind::Overload, Kind::B
 fn replays_of_random_lists() {
     let mut random = Random::of_test("replays");
     let mut counts = Counts::new("replays of random lists");
-    for round in 0..400 {
-        let story = match round % 2 {
+    for round in 0..600 {
+        let story = match round % 3 {
             0 => any_story(&mut random, &KINDS, true, 6),
-            _ => low_story(&mut random, 6),
+            1 => low_story(&mut random, 6),
+            _ => returning_story(&mut random, 6),
         };
         check(&mut random, &story.sheet, &log_of(&story.calls), &mut counts);
     }
-    assert_eq!(counts.of("Start 0"), 400);
-    counts.close(["runs with a switch", "runs without", "11", "12", "13", "14", "15"], 40);
+    assert_eq!(counts.of("Start 0"), 600);
+    let names = ["runs with a switch", "runs with a return", "runs without", "11", "12", "13", "14", "15"];
+    counts.close(names, 40);
 }
 
 /// Cut short, with bytes changed, put in and behind, with calls of another kind; and over sheets that are refused.
@@ -136,8 +142,7 @@ fn replays_of_damaged_logs() {
         }
         check(&mut random, &story.sheet, &log, &mut counts);
     }
-    counts.close(
-        ["Start 0", "Start 3", "Start 4", "Start 5", "runs with a switch", "runs without", "11", "13", "14", "15"],
-        5,
-    );
+    let starts = ["Start 0", "Start 3", "Start 4", "Start 5"];
+    let runs = ["runs with a switch", "runs with a return", "runs without", "11", "13", "14", "15"];
+    counts.close(starts.into_iter().chain(runs), 5);
 }

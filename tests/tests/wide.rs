@@ -10,6 +10,7 @@ use dibwunek_tests::harness::counts::{hold, Counts};
 use dibwunek_tests::harness::long::LongRun;
 use dibwunek_tests::harness::proved::dispatching::Proved;
 use dibwunek_tests::harness::proved::{self, importing, planning, starting};
+use dibwunek_tests::harness::suites::returns::returning_story;
 use dibwunek_tests::harness::suites::{any_story, low_story};
 use dibwunek_tests::makers::crafts::{exact, exact_kept, Crafted, Kind};
 use dibwunek_tests::makers::faults::{of_record, with_figures};
@@ -157,7 +158,7 @@ fn mixed_sheets_through_every_call() {
         walk(&mut random, later, 20, &mut comparison);
     }
     assert_eq!(comparison.counts.of("10"), 0);
-    let names = ["released", "ran", "switched", "board", "11", "13", "states with an age beyond two bytes"];
+    let names = ["released", "ran", "switched", "returned", "board", "11", "13", "states with an age beyond two bytes"];
     comparison.counts.close(names, 50);
 }
 
@@ -293,6 +294,7 @@ fn called_alike(twin: &[u32], line: &[u32], call: &Call, counts: &mut Counts) ->
     counts.add(match reply {
         Reply::Done => "accepted".to_string(),
         Reply::Switched(_) => "switched".to_string(),
+        Reply::Returned => "returned".to_string(),
         Reply::Refused(number, _) => number.to_string(),
     });
     (after, next)
@@ -304,9 +306,10 @@ fn wide_twins_run_alike() {
     let mut counts = Counts::new("runs of wide twins");
     let kinds = [Kind::Nominal, Kind::Overload, Kind::Overload, Kind::Beyond, Kind::Endless];
     for round in 0..300 {
-        let story = match round % 2 {
+        let story = match round % 3 {
             0 => any_story(&mut random, &kinds, true, 6),
-            _ => low_story(&mut random, 6),
+            1 => low_story(&mut random, 6),
+            _ => returning_story(&mut random, 6),
         };
         let (mut line, mut twin) = (starting::start(&story.sheet).1, starting::start(&twin_of(&story.sheet)).1);
         lines_alike(&twin, &line, || format!("Start of {:?}", story.sheet));
@@ -314,7 +317,7 @@ fn wide_twins_run_alike() {
             (twin, line) = called_alike(&twin, &line, call, &mut counts);
         }
     }
-    counts.close(["accepted", "switched", "11", "12", "13", "14", "15"], 50);
+    counts.close(["accepted", "switched", "returned", "11", "12", "13", "14", "15"], 50);
 }
 
 /// Any sound state, and the same in the wide form: D within the narrow limit is within the wide one.
@@ -335,7 +338,7 @@ fn wide_twins_of_sound_states() {
         called_alike(&twin, &line, &tick, &mut counts);
     }
     assert_eq!(counts.of("10"), 0);
-    counts.close(["accepted", "switched", "11", "12", "13", "14", "15"], 50);
+    counts.close(["accepted", "switched", "returned", "11", "12", "13", "14", "15"], 50);
 }
 
 /// The ticks of a dye line's deadline.
@@ -389,16 +392,20 @@ impl DyeLine {
         run
     }
 
-    /// The next tick must switch, or not. Gives whether the dye line's job has ended.
-    fn tick(&self, run: &mut LongRun, switches: bool) -> bool {
-        let expected = if switches { Reply::Switched(self.high as u8) } else { Reply::Done };
+    /// The next tick must answer so. Gives whether the dye line's job is over.
+    fn tick(&self, run: &mut LongRun, expected: Reply) -> bool {
         hold(&run.tick(), &expected, || format!("a tick of {:?}", self.sheet));
         !run.is_alive(self.dye)
+    }
+
+    /// The answer of a tick with which the high task turns the state critical.
+    fn switched(&self) -> Reply {
+        Reply::Switched(self.high as u8)
     }
 }
 
 /// A high job beside a low task that comes again and again until the switch, with V, drops it. It lasts as long as its
-/// shares allow: to tick D. Then it may come again.
+/// shares allow: to tick D, which returns. Then it may come again, and so may the low one.
 #[test]
 fn a_dye_line_ends_by_its_deadline() {
     let mut random = Random::of_test("dye lines");
@@ -407,22 +414,29 @@ fn a_dye_line_ends_by_its_deadline() {
         let line = DyeLine::of(|| exact(&mut random, 20_000), |_, high, task| task == high);
         let (d, v, low) = (line.deadline(), line.virtual_deadline(), 1 - line.dye);
         let mut run = line.run();
-        let mut ended = None;
         for tick in 1..=d {
             if tick <= v && run.is_due(low) {
                 run.release(low, &line.tasks[low].overload);
                 counts.add("low jobs");
             }
-            let has_ended = line.tick(&mut run, tick == v);
-            ended = ended.or(has_ended.then_some(tick));
+            let expected = match tick {
+                tick if tick == v => line.switched(),
+                tick if tick == d => Reply::Returned,
+                _ => Reply::Done,
+            };
+            assert_eq!(line.tick(&mut run, expected), tick == d, "tick {tick} of {:?}", line.sheet);
         }
-        let ended = ended.unwrap_or_else(|| panic!("a job is late: {:?}", line.sheet));
         run.release(line.dye, &line.tasks[line.dye].overload);
+        run.release(low, &line.tasks[low].overload);
         counts.add_many("ticks", d as usize);
-        counts.add(if ended == d { "dye jobs that ended in tick D" } else { "dye jobs that ended before" });
+        counts.add("dye jobs that ended in tick D");
     }
     counts.ask(["low jobs"], 1_000);
     counts.close(["dye jobs that ended in tick D"], 3);
+}
+
+fn is_kept(plan: &Plan, high: usize, task: usize) -> bool {
+    task != high && plan.tasks[task].shares.critical > 0
 }
 
 /// A kept low job, and a high one that never ends and turns the state critical in the middle of it. The low one lasts as
@@ -432,24 +446,58 @@ fn a_kept_dye_line_ends_by_its_deadline() {
     let mut random = Random::of_test("kept dye lines");
     let mut counts = Counts::new("kept dye lines");
     for _ in 0..2 {
-        let is_kept = |plan: &Plan, high: usize, task: usize| task != high && plan.tasks[task].shares.critical > 0;
         let line = DyeLine::of(|| exact_kept(&mut random, 30_000), is_kept);
         let (d, v) = (line.deadline(), line.virtual_deadline());
         let release = random.within(1..=(d - v) as usize) as u32;
         let mut run = line.run();
-        let mut ended = None;
         for tick in 1..=d {
             if tick == release {
                 run.release(line.high, &vec![u32::MAX; line.sheet.tasks[line.high].masks.len()]);
             }
-            let has_ended = line.tick(&mut run, tick + 1 == release + v);
-            ended = ended.or(has_ended.then_some(tick));
+            let expected = if tick + 1 == release + v { line.switched() } else { Reply::Done };
+            assert_eq!(line.tick(&mut run, expected), tick == d, "tick {tick} of {:?}", line.sheet);
         }
-        assert_eq!(ended, Some(d), "{:?}", line.sheet);
         run.release(line.dye, &line.tasks[line.dye].overload);
         counts.add_many("ticks", d as usize);
         counts.add("kept dye jobs that ended in tick D");
     }
+    counts.close(["kept dye jobs that ended in tick D"], 2);
+}
+
+/// A kept low job, and a high task that comes again and again and turns the state critical each time, some ticks before its
+/// job ends and the state is typical again. The low one lasts as long as its share allows: to tick D.
+#[test]
+fn a_kept_dye_line_ends_by_its_deadline_over_many_returns() {
+    let mut random = Random::of_test("kept dye lines over returns");
+    let mut counts = Counts::new("kept dye lines over returns");
+    for _ in 0..2 {
+        let line = DyeLine::of(|| exact_kept(&mut random, 30_000), is_kept);
+        let (d, v) = (line.deadline(), line.virtual_deadline());
+        let mut run = line.run();
+        let mut begun = 0;
+        for tick in 1..=d {
+            if run.is_due(line.high) && !run.is_alive(line.high) {
+                begun = tick;
+                // The first node runs from the first tick on, so that the job is alive after tick V.
+                let mut lengths = vec![1; line.sheet.tasks[line.high].masks.len()];
+                lengths[0] = v + random.within(1..=200) as u32;
+                run.release(line.high, &lengths);
+            }
+            let was_alive = run.is_alive(line.high);
+            let reply = run.tick();
+            let expected = match (was_alive, run.is_alive(line.high)) {
+                (true, true) if tick + 1 == begun + v => line.switched(),
+                (true, false) => Reply::Returned,
+                _ => Reply::Done,
+            };
+            hold(&reply, &expected, || format!("tick {tick} of {:?}", line.sheet));
+            assert_eq!(!run.is_alive(line.dye), tick == d, "tick {tick} of {:?}", line.sheet);
+            counts.add(format!("{reply:?}"));
+        }
+        run.release(line.dye, &line.tasks[line.dye].overload);
+        counts.add("kept dye jobs that ended in tick D");
+    }
+    counts.ask(["Returned"], 1_000);
     counts.close(["kept dye jobs that ended in tick D"], 2);
 }
 

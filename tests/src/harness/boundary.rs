@@ -9,11 +9,16 @@ pub const HEAD: usize = 3;
 pub const ENTRY: usize = 2 + NODES + 7;
 pub const STATE: usize = HEAD + ENTRIES * ENTRY;
 
+/// The word of the mode.
+pub const MODE: usize = 2;
+
 /// Words of an entry by their places in it.
 pub const LEVEL: usize = 0;
+pub const NODE_COUNT: usize = 1;
 pub const DEADLINE: usize = 2 + NODES;
 pub const VIRTUAL_DEADLINE: usize = DEADLINE + 1;
 pub const AGE: usize = DEADLINE + 4;
+pub const ENDED: usize = DEADLINE + 5;
 pub const ALIVE: usize = DEADLINE + 6;
 
 /// The place in a line of a word of a task's entry.
@@ -38,13 +43,12 @@ pub struct Independent;
 impl Dispatcher for Independent {
     fn release(&self, line: &[u32], task: usize) -> (Reply, Vec<u32>) {
         let released = state_of(line).and_then(|state| state.release(task));
-        returned(line, released.map(|state| (Reply::Done, state)))
+        left_by(line, released.map(|state| (Reply::Done, state)))
     }
 
     fn tick(&self, line: &[u32], reports: &[u32]) -> (Reply, Vec<u32>) {
-        let reply = |switched: Option<usize>| switched.map_or(Reply::Done, |task| Reply::Switched(task as u8));
         let ticked = state_of(line).and_then(|state| state.tick(reports));
-        returned(line, ticked.map(|Ticked { state, switched }| (reply(switched), state)))
+        left_by(line, ticked.map(|Ticked { state, outcome }| (outcome.into(), state)))
     }
 
     fn board(&self, line: &[u32], buffer: &mut [u8]) -> Reply {
@@ -66,7 +70,7 @@ pub fn start(sheet: &[u8]) -> (Reply, Vec<u32>) {
 /// Start of the independent dispatcher, on any line.
 pub fn start_on(sheet: &[u8], line: &[u32]) -> (Reply, Vec<u32>) {
     let fresh = if line.len() == STATE { dispatcher::start(sheet) } else { Err(NO_STATE) };
-    returned(line, fresh.map(|state| (Reply::Done, state)))
+    left_by(line, fresh.map(|state| (Reply::Done, state)))
 }
 
 const NO_STATE: Refusal = Refusal { cause: Cause::NoState, task: None };
@@ -76,7 +80,7 @@ fn state_of(line: &[u32]) -> Result<State, Refusal> {
 }
 
 /// What a call leaves: a refused one the line as it was.
-fn returned(line: &[u32], step: Result<(Reply, State), Refusal>) -> (Reply, Vec<u32>) {
+fn left_by(line: &[u32], step: Result<(Reply, State), Refusal>) -> (Reply, Vec<u32>) {
     match step {
         Ok((reply, state)) => (reply, to_words(&state)),
         Err(refusal) => (refusal.into(), line.to_vec()),

@@ -31,8 +31,10 @@ impl Comparison {
         let on = || format!("Tick({reports:?}) of {:?}", of_words(line));
         let step = Proved.tick(line, reports);
         hold(&step, &Independent.tick(line, reports), on);
-        if let Reply::Switched(_) = step.0 {
-            self.count_switch(line, &step.1);
+        match step.0 {
+            Reply::Switched(_) => self.count_switch(line, &step.1),
+            Reply::Returned => self.count_return(line, &step.1),
+            _ => {}
         }
         self.count("ran", line, step)
     }
@@ -53,7 +55,7 @@ impl Comparison {
 
     /// Counts what a switch did to the alive jobs of low tasks.
     fn count_switch(&mut self, before: &[u32], after: &[u32]) {
-        let [before, after] = [before, after].map(|line| of_words(line).expect("a switch leaves a state"));
+        let [before, after] = [before, after].map(state_in);
         for task in (0..usize::from(before.count)).filter(|&task| before.entries[task].alive) {
             let entry = &after.entries[task];
             let same = entry.critical == entry.typical;
@@ -67,10 +69,30 @@ impl Comparison {
         }
     }
 
+    /// Counts the high jobs whose end a return came with, and the low jobs that were alive with it.
+    fn count_return(&mut self, before: &[u32], after: &[u32]) {
+        let [before, after] = [before, after].map(state_in);
+        self.counts.add(match before.high_jobs()[..] {
+            [] => "returns with no high job before",
+            [_] => "returns with the end of a high job",
+            _ => "returns with the end of several high jobs",
+        });
+        for task in (0..usize::from(before.count)).filter(|&task| before.entries[task].alive) {
+            let entry = &after.entries[task];
+            match (entry.is_high(), entry.alive, entry.is_kept()) {
+                (true, ..) => {}
+                (_, true, true) => self.counts.add("kept jobs alive over a return"),
+                (_, true, false) => self.counts.add("other low jobs alive over a return"),
+                (_, false, _) => self.counts.add("low jobs that ended with a return"),
+            }
+        }
+    }
+
     fn count(&mut self, done: &str, before: &[u32], (reply, after): (Reply, Vec<u32>)) -> (Reply, Vec<u32>) {
         match reply {
             Reply::Done => self.counts.add(done),
             Reply::Switched(_) => self.counts.add("switched"),
+            Reply::Returned => self.counts.add("returned"),
             Reply::Refused(number, _) => {
                 assert!(before == after, "a refused call changed the line {before:?}");
                 self.counts.add(number);
@@ -80,9 +102,13 @@ impl Comparison {
     }
 }
 
+fn state_in(line: &[u32]) -> State {
+    of_words(line).expect("an accepted call is on a state, and leaves one")
+}
+
 /// The low tasks of a critical state: those of them that are released or run are kept.
 fn low_when_critical(line: &[u32]) -> Vec<usize> {
-    let state = of_words(line).expect("an accepted call is on a state");
+    let state = state_in(line);
     let low = (0..usize::from(state.count)).filter(|&task| !state.entries[task].is_high());
     low.filter(|_| state.mode == Mode::Critical).collect()
 }

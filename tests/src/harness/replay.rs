@@ -1,97 +1,28 @@
-//! Runs a list of calls from Start on a dispatcher, and holds what it answers, returns and shows on its boards to
+//! Runs a list of calls from Start on a dispatcher, and holds what it answers, leaves and shows on its boards to
 //! the model of S10.2 and to what is promised of whole lists: high jobs within their overload budgets end in time, and
-//! so do low ones within theirs, kept ones in either state; nothing switches while high jobs keep their nominal budgets,
-//! and no task runs on more than its share.
-use crate::harness::boundary::{of_words, to_words, Dispatcher};
+//! so do low ones within theirs, kept ones in either state, over any switches and returns; nothing switches or returns
+//! while high jobs keep their nominal budgets; the state is typical again when no high job is left, and soon after a
+//! switch; and no task runs on more than its share.
+use crate::harness::boundary::{to_words, Dispatcher};
 use crate::harness::counts::{hold, Counts};
-use crate::makers::lengths::Budget;
+use crate::harness::returns::{Returns, Step};
+use crate::harness::watch::Watch;
 use crate::makers::random::seed;
 use crate::makers::world::Story;
 use crate::reference::answers::Reply;
-use crate::reference::dispatcher::{Mode, State, Ticked, NODES};
+use crate::reference::dispatcher::{Entry, Mode, State, Ticked, NODES};
 use crate::reference::logs::Call;
 use crate::reference::planner::{self, Plan};
-use crate::reference::reader::{Level, Sheet, Task};
-
-/// What is known of a task's last job. Running nodes are those of the dispatcher's boards.
-struct Watch<'a> {
-    lengths: &'a [u32],
-    /// The ticks on which each node has run.
-    runs: [u32; NODES],
-    /// Whether every report so far was true.
-    truthful: bool,
-    ticks: u32,
-    /// The tick with which the last node ended.
-    ended: Option<u32>,
-    keeps_nominal: bool,
-    keeps_overload: bool,
-    /// The state at its release.
-    began: Mode,
-    /// Whether the state turned critical while it was alive, and left it so.
-    over_switch: bool,
-}
-
-impl Watch<'_> {
-    fn new<'a>(task: &Task, lengths: &'a [u32], began: Mode) -> Watch<'a> {
-        let figures = task.figures;
-        let allows = |work: u32, span: u32| Budget { work, span }.allows(&task.masks, lengths);
-        Watch {
-            lengths,
-            runs: [0; NODES],
-            truthful: true,
-            ticks: 0,
-            ended: None,
-            keeps_nominal: allows(figures.cn, figures.ln),
-            keeps_overload: allows(figures.co, figures.lo),
-            began,
-            over_switch: false,
-        }
-    }
-
-    /// An accepted tick: true reports name the running nodes whose length is run with it, and no others.
-    fn tick(&mut self, running: &[usize], report: u32) {
-        self.ticks += 1;
-        let mut ended = 0;
-        for &v in running {
-            self.runs[v] += 1;
-            ended |= u32::from(self.runs[v] == self.lengths[v]) << v;
-        }
-        self.truthful &= report == ended;
-    }
-
-    /// Counts a high job that ended in time.
-    fn count_high(&self, deadline: u32, counts: &mut Counts) {
-        counts.add("high jobs that were due");
-        let ended = self.ended.unwrap_or(deadline);
-        if ended + 1 >= deadline {
-            counts.add("of these ended within one tick of D");
-        }
-        if ended == deadline {
-            counts.add("of these ended in tick D");
-        }
-    }
-
-    /// Counts a kept low job that ended in time.
-    fn count_kept(&self, deadline: u32, counts: &mut Counts) {
-        counts.add("kept jobs that were due");
-        if self.over_switch {
-            counts.add("kept jobs alive over a switch");
-        }
-        if self.began == Mode::Critical {
-            counts.add("kept jobs released when critical");
-        }
-        if self.ended == Some(deadline) {
-            counts.add("kept jobs that ended in tick D");
-        }
-    }
-}
+use crate::reference::reader::{Level, Sheet};
 
 struct Replay<'a> {
     sheet: Sheet,
     plan: Plan,
     watches: Vec<Option<Watch<'a>>>,
-    /// Whether all high jobs so far kept their nominal budgets under true reports.
+    returns: Returns,
+    /// Whether all high jobs so far kept their nominal budgets under true reports, and their overload budgets.
     nominal: bool,
+    overload: bool,
     counts: &'a mut Counts,
 }
 
@@ -102,7 +33,8 @@ pub fn run(dispatcher: &dyn Dispatcher, fresh: Vec<u32>, story: &Story, counts: 
     let on = |place: usize| format!("call {place} of {story:?}");
     hold(&fresh, &to_words(&model), || on(0));
     let watches = sheet.tasks.iter().map(|_| None).collect();
-    let mut replay = Replay { sheet, plan, watches, nominal: true, counts };
+    let returns = Returns::new(&sheet, &plan);
+    let mut replay = Replay { sheet, plan, watches, returns, nominal: true, overload: true, counts };
     let mut state = fresh;
     for (place, call) in story.calls.iter().enumerate() {
         let (reply, next) = match call {
@@ -121,16 +53,17 @@ pub fn run(dispatcher: &dyn Dispatcher, fresh: Vec<u32>, story: &Story, counts: 
                 let running = replay.running(&board, model.mode, || on(place));
                 let (reply, next) = dispatcher.tick(&state, reports);
                 let expected = match model.tick(reports) {
-                    Ok(Ticked { state, switched }) => {
+                    Ok(Ticked { state, outcome }) => {
                         model = state;
-                        switched.map_or(Reply::Done, |task| Reply::Switched(task as u8))
+                        outcome.into()
                     }
                     Err(refusal) => refusal.into(),
                 };
                 hold(&reply, &expected, || on(place));
                 if reply.number() == 0 {
-                    replay
-                        .tick(reports, &running, reply, &of_words(&next).expect("a line stays a state"), || on(place));
+                    let step = Step::new(reports, reply, &state, &next);
+                    step.keeps_to_return(dispatcher, || on(place));
+                    replay.tick(&step, &running, || on(place));
                 }
                 (reply, next)
             }
@@ -140,11 +73,13 @@ pub fn run(dispatcher: &dyn Dispatcher, fresh: Vec<u32>, story: &Story, counts: 
         replay.counts.add(match (reply, call) {
             (Reply::Refused(number, _), _) => number.to_string(),
             (Reply::Switched(_), _) => "switched".to_string(),
+            (Reply::Returned, _) => "returned".to_string(),
             (Reply::Done, Call::Release(_)) => "released".to_string(),
             (Reply::Done, Call::Tick(_)) => "ran".to_string(),
         });
         state = next;
     }
+    replay.returns.close(replay.counts);
     replay.counts.add(if replay.nominal { "lists within nominal budgets" } else { "other lists" });
 }
 
@@ -153,7 +88,9 @@ impl<'a> Replay<'a> {
         let watch = Watch::new(&self.sheet.tasks[task], lengths, mode);
         if self.sheet.tasks[task].level == Level::High {
             self.nominal &= watch.keeps_nominal;
+            self.overload &= watch.keeps_overload;
         }
+        self.returns.release(task, self.counts);
         self.watches[task] = Some(watch);
     }
 
@@ -179,42 +116,66 @@ impl<'a> Replay<'a> {
         running
     }
 
-    fn tick(&mut self, reports: &[u32], running: &[Vec<usize>], reply: Reply, after: &State, on: impl Fn() -> String) {
-        let switched = matches!(reply, Reply::Switched(_));
-        for (i, watch) in self.watches.iter_mut().enumerate() {
-            let Some(watch) = watch else { continue };
-            let task = &self.sheet.tasks[i];
-            let entry = &after.entries[i];
-            watch.tick(&running[i], reports[i]);
-            if watch.ended.is_none() && entry.all_ended() {
-                watch.ended = Some(watch.ticks);
-            }
-            watch.over_switch |= switched && entry.alive;
-            if switched && watch.ended.is_none() && !entry.alive {
-                self.counts.add("dropped jobs");
-            }
-            if task.level == Level::High {
+    fn tick(&mut self, step: &Step, running: &[Vec<usize>], on: impl Fn() -> String) {
+        for (task, nodes) in running.iter().enumerate() {
+            let Some(mut watch) = self.watches[task].take() else { continue };
+            let was_going_on = watch.is_going_on();
+            watch.tick(nodes, step.reports[task], step.before.mode);
+            watch.left_as(&step.after.entries[task], step);
+            if self.sheet.tasks[task].level == Level::High {
                 self.nominal &= watch.truthful;
-                let v = self.plan.tasks[i].virtual_deadline;
-                if watch.ticks == v && watch.truthful && watch.keeps_nominal && watch.ended == Some(v) {
-                    self.counts.add("nominal jobs that ended in tick V");
-                }
+                self.overload &= watch.truthful;
             }
-            let deadline = task.figures.d;
-            let stays = self.plan.tasks[i].shares.critical > 0;
-            let promised = stays || after.mode == Mode::Typical;
-            if watch.ticks == deadline && watch.truthful && watch.keeps_overload && promised {
-                assert!(entry.all_ended() && !entry.alive, "seed {}: a job of task {i} is late: {}", seed(), on());
-                match (task.level, stays) {
-                    (Level::High, _) => watch.count_high(deadline, self.counts),
-                    (Level::Low, true) => watch.count_kept(deadline, self.counts),
-                    (Level::Low, false) => self.counts.add("other low jobs that were due"),
-                }
+            if was_going_on {
+                self.count_tick(task, &watch, step);
+            }
+            self.hold_to_deadline(task, &watch, &step.after.entries[task], &on);
+            self.watches[task] = Some(watch);
+        }
+        self.returns.tick(step, self.overload, self.counts, &on);
+        if self.nominal {
+            let turned = step.has_switched() || step.has_returned() || step.after.mode == Mode::Critical;
+            assert!(!turned, "seed {}: switched or returned within nominal budgets: {}", seed(), on());
+        }
+    }
+
+    /// S10.7, S10.11, and S10.10 of low jobs: with its D-th tick a job within its budget has ended, and it stays so.
+    fn hold_to_deadline(&mut self, i: usize, watch: &Watch, entry: &Entry, on: impl Fn() -> String) {
+        let task = &self.sheet.tasks[i];
+        let deadline = task.figures.d;
+        let stays = self.plan.tasks[i].shares.critical > 0;
+        let promised = watch.truthful && watch.keeps_overload && (stays || watch.typical_only);
+        if watch.ticks < deadline || !promised {
+            return;
+        }
+        assert!(entry.all_ended() && !entry.alive, "seed {}: a job of task {i} is late: {}", seed(), on());
+        if watch.ticks == deadline {
+            match (task.level, stays) {
+                (Level::High, _) => watch.count_high(deadline, self.counts),
+                (Level::Low, true) => watch.count_kept(deadline, self.counts),
+                (Level::Low, false) => self.counts.add("other low jobs that were due"),
             }
         }
-        if self.nominal {
-            let critical = switched || after.mode == Mode::Critical;
-            assert!(!critical, "seed {}: switched within nominal budgets: {}", seed(), on());
+    }
+
+    /// Counts a job that was alive before a tick by what the tick did.
+    fn count_tick(&mut self, i: usize, watch: &Watch, step: &Step) {
+        let (task, v) = (&self.sheet.tasks[i], self.plan.tasks[i].virtual_deadline);
+        let (is_high, d) = (task.level == Level::High, task.figures.d);
+        if watch.dropped {
+            self.counts.add("dropped jobs");
+        }
+        if is_high && watch.ended == Some(v) && watch.truthful && watch.keeps_nominal {
+            self.counts.add("nominal jobs that ended in tick V");
+        }
+        if is_high && step.has_returned() && watch.ticks > v {
+            self.counts.add("late jobs that ended with a return");
+        }
+        if is_high && step.has_returned() && watch.ticks == d {
+            self.counts.add("high jobs that ended with a return in tick D");
+        }
+        if step.has_returned() && watch.is_going_on() && watch.ticks >= d {
+            self.counts.add("low jobs alive over a return after tick D");
         }
     }
 }

@@ -5,11 +5,13 @@ use crate::harness::replay::run;
 use crate::makers::crafts::{crafted, crafted_task, exact, exact_kept, sheet_of, Crafted, Kind};
 use crate::makers::random::Random;
 use crate::makers::sheets::{Draft, CASE_14};
-use crate::makers::world::{longest_lasting, story, Manner, Story};
+use crate::makers::world::{longest_lasting, story, Manner, Pace, Story};
 use crate::reference::answers::Reply;
 use crate::reference::dispatcher::Mode;
 use crate::reference::planner;
 use crate::reference::reader::{Level, Sheet};
+
+pub mod returns;
 
 /// What lists are run on: a dispatcher, and the Start that gives it its fresh states.
 #[derive(Clone, Copy)]
@@ -51,12 +53,17 @@ pub fn low_story(random: &mut Random, scale: usize) -> Story {
     told(random, &sheet, &tasks, Conduct { kinds: &high, liars: true }, low)
 }
 
+/// The longest deadline of a sheet.
+fn longest(sheet: &Sheet) -> usize {
+    sheet.tasks.iter().map(|task| task.figures.d as usize).max().unwrap_or(0)
+}
+
 fn told(random: &mut Random, sheet: &Sheet, tasks: &[Crafted], high: Conduct, low: Conduct) -> Story {
-    let longest = sheet.tasks.iter().map(|task| task.figures.d as usize).max().unwrap_or(0);
+    let longest = longest(sheet);
     let conduct = |task: &Crafted| if task.task.level == Level::High { &high } else { &low };
     let manner = Manner {
         ticks: random.within(1..=3) * longest + random.within(1..=3),
-        eager: !random.once_in(3),
+        paces: vec![if random.once_in(3) { Pace::Idle } else { Pace::Eager }; tasks.len()],
         kinds: tasks.iter().map(|task| conduct(task).kinds.to_vec()).collect(),
         first: tasks.iter().map(|_| if random.once_in(2) { 0 } else { random.within(0..=longest) }).collect(),
         liars: tasks.iter().map(|task| conduct(task).liars).collect(),
@@ -65,7 +72,7 @@ fn told(random: &mut Random, sheet: &Sheet, tasks: &[Crafted], high: Conduct, lo
     story(random, sheet, tasks, &manner)
 }
 
-/// High jobs keep their nominal budgets, so nothing may switch, whatever the low jobs do.
+/// High jobs keep their nominal budgets, so nothing may switch or return, whatever the low jobs do.
 pub fn nominal_lists(subject: Subject, rounds: usize) {
     let mut random = Random::of_test("nominal lists");
     let mut counts = Counts::new("nominal lists");
@@ -75,7 +82,7 @@ pub fn nominal_lists(subject: Subject, rounds: usize) {
         subject.run(&story, &mut counts);
     }
     assert_eq!(counts.of("lists within nominal budgets"), rounds);
-    assert_eq!(counts.of("switched"), 0);
+    assert_eq!(counts.of("switched") + counts.of("returned"), 0);
     let names =
         ["released", "ran", "high jobs that were due", "nominal jobs that ended in tick V", "11", "13", "14", "15"];
     counts.close(names, rounds / 5);
@@ -90,7 +97,8 @@ pub fn overload_lists(subject: Subject, rounds: usize) {
         let story = any_story(&mut random, &[Kind::Nominal, Kind::Overload, Kind::Overload], false, scale);
         subject.run(&story, &mut counts);
     }
-    counts.close(["released", "ran", "switched", "high jobs that were due", "11", "13", "14", "15"], rounds / 5);
+    let names = ["released", "ran", "switched", "returned", "high jobs that were due", "11", "13", "14", "15"];
+    counts.close(names, rounds / 5);
 }
 
 /// Some high jobs never end or report what is not so; the others must be served as before.
@@ -133,28 +141,12 @@ pub fn exact_kept_lists(subject: Subject, rounds: usize) {
     let mut random = Random::of_test("exact kept lists");
     let mut counts = Counts::new("exact kept lists");
     for _ in 0..rounds {
-        let (sheet, tasks, high) = (0..1_000).find_map(|_| exact_kept(&mut random, 1)).expect("one is made");
-        let plan = planner::plan(&sheet).expect("crafted tasks are planned");
-        let to_switch = plan.tasks[high].virtual_deadline as usize;
-        let low = (0..tasks.len()).filter(|&task| task != high);
-        let longest = low.map(|task| sheet.tasks[task].figures.d as usize).max().unwrap_or(0);
-        let kind = |task: usize| match task == high {
-            true => Kind::Endless,
-            false => Kind::Given(tasks[task].overload.clone()),
-        };
-        let manner = Manner {
-            ticks: to_switch + 3 * longest,
-            eager: true,
-            kinds: (0..tasks.len()).map(|task| vec![kind(task)]).collect(),
-            first: tasks.iter().map(|_| random.within(0..=longest)).collect(),
-            liars: vec![false; tasks.len()],
-            refused: random.once_in(2),
-        };
-        let before = counts.of("kept jobs that were due");
-        subject.run(&story(&mut random, &sheet, &tasks, &manner), &mut counts);
-        assert!(counts.of("kept jobs that were due") > before, "no kept job was due: {sheet:?}");
+        let (sheet, tasks, high) = an_exact_kept(&mut random);
+        let story = exact_kept_story(&mut random, &sheet, &tasks, (high, &[Kind::Endless]), 0);
+        subject.run(&story, &mut counts);
     }
     assert_eq!(counts.of("kept jobs that ended in tick D"), counts.of("kept jobs that were due"));
+    assert_eq!(counts.of("returned"), 0);
     let names = [
         "switched",
         "kept jobs alive over a switch",
@@ -163,6 +155,38 @@ pub fn exact_kept_lists(subject: Subject, rounds: usize) {
     ];
     counts.ask(["dropped jobs", "12"], rounds / 20);
     counts.close(names, rounds);
+}
+
+fn an_exact_kept(random: &mut Random) -> (Sheet, Vec<Crafted>, usize) {
+    (0..1_000).find_map(|_| exact_kept(random, 1)).expect("one is made")
+}
+
+/// A list in which low jobs last to tick D, and jobs of the high task are of some kinds. It goes on until a switch and three
+/// of the low deadlines, and for some ticks more.
+fn exact_kept_story(
+    random: &mut Random,
+    sheet: &Sheet,
+    tasks: &[Crafted],
+    (high, kinds): (usize, &[Kind]),
+    more: usize,
+) -> Story {
+    let plan = planner::plan(sheet).expect("crafted tasks are planned");
+    let to_switch = plan.tasks[high].virtual_deadline as usize;
+    let low = (0..tasks.len()).filter(|&task| task != high);
+    let longest = low.map(|task| sheet.tasks[task].figures.d as usize).max().unwrap_or(0);
+    let kinds = |task: usize| match task == high {
+        true => kinds.to_vec(),
+        false => vec![Kind::Given(tasks[task].overload.clone())],
+    };
+    let manner = Manner {
+        ticks: to_switch + 3 * longest + more,
+        paces: vec![Pace::Eager; tasks.len()],
+        kinds: (0..tasks.len()).map(kinds).collect(),
+        first: tasks.iter().map(|_| random.within(0..=longest)).collect(),
+        liars: vec![false; tasks.len()],
+        refused: random.once_in(2),
+    };
+    story(random, sheet, tasks, &manner)
 }
 
 /// Case 13 (S11.13): A alone on two processors, three nodes that nothing precedes, which run one after the other.
@@ -194,28 +218,32 @@ pub fn case_13(subject: Subject) {
     assert!(state.entries[0].alive && state.mode == Mode::Critical);
 }
 
-/// High jobs that last as long as the share test allows, to the tick.
+/// High jobs that last as long as the share test allows, to the tick. Each turns the state critical with its tick V, and
+/// with its tick D it has ended, the state is typical, and the next one comes.
 pub fn exact_lists(subject: Subject, rounds: usize) {
     let mut random = Random::of_test("exact lists");
     let mut counts = Counts::new("exact lists");
+    const JOBS: usize = 3;
     for _ in 0..rounds {
         let (sheet, tasks, high) =
             std::iter::repeat_with(|| exact(&mut random, 1)).flatten().next().expect("one is made");
         let kinds = |task: &Crafted| vec![Kind::Given(task.overload.clone())];
         let deadline = tasks[high].task.figures.d as usize;
         let manner = Manner {
-            ticks: 2 * deadline,
-            eager: true,
+            ticks: JOBS * deadline,
+            paces: vec![Pace::Eager; 2],
             kinds: tasks.iter().map(kinds).collect(),
             first: vec![0; 2],
             liars: vec![false; 2],
             refused: random.once_in(2),
         };
-        let before = counts.of("of these ended in tick D");
         subject.run(&story(&mut random, &sheet, &tasks, &manner), &mut counts);
-        assert!(counts.of("of these ended in tick D") > before, "a job ended early: {sheet:?}");
     }
-    counts.close(["switched", "of these ended in tick D"], rounds);
+    for name in ["switched", "returned", "high jobs that were due", "high jobs of both modes that ended in tick D"] {
+        assert_eq!(counts.of(name), JOBS * rounds, "{name}");
+    }
+    counts
+        .close(["lists with several switches and returns", "dropped jobs", "low jobs released after a return"], rounds);
 }
 
 /// A high job that uses its overload budgets up, and a neighbour that turns the state critical at each tick of the
@@ -234,7 +262,7 @@ pub fn forced_switches(subject: Subject, rounds: usize) {
         for switch in 0..=own_switch {
             let manner = Manner {
                 ticks: to_switch + deadline + random.within(0..=2),
-                eager: true,
+                paces: vec![Pace::Eager; 2],
                 kinds: vec![vec![Kind::Given(lengths.clone())], vec![Kind::Endless]],
                 first: vec![to_switch, switch],
                 liars: vec![false, false],

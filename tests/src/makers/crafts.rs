@@ -27,6 +27,8 @@ pub enum Kind {
     Beyond,
     /// No node ever ends.
     Endless,
+    /// A tick for each node, where the overload budgets allow it.
+    Least,
     Given(Vec<u32>),
 }
 
@@ -46,13 +48,14 @@ impl Crafted {
 
     /// Lengths of a kind; none where the budgets are too small for the graph.
     pub fn lengths(&self, random: &mut Random, kind: &Kind) -> Option<Vec<u32>> {
+        let (budget, k) = (self.budget(kind), self.task.masks.len());
         let exact = match kind {
             Kind::Given(lengths) => return Some(lengths.clone()),
-            Kind::Endless => return Some(vec![u32::MAX; self.task.masks.len()]),
+            Kind::Endless => return Some(vec![u32::MAX; k]),
+            Kind::Least => return Some(vec![1; k]).filter(|lengths| budget.allows(&self.task.masks, lengths)),
             Kind::Nominal => &self.nominal,
             Kind::Overload | Kind::Beyond => &self.overload,
         };
-        let budget = self.budget(kind);
         let mut lengths = if budget.allows(&self.task.masks, exact) && random.once_in(3) {
             exact.clone()
         } else {
@@ -69,14 +72,21 @@ impl Crafted {
 
 /// Random tasks of some levels, and M with which they are accepted: the least that their shares need, or a little more.
 pub fn crafted(random: &mut Random, levels: &[Level], count: usize, scale: usize) -> (Sheet, Vec<Crafted>) {
+    crafted_by(random, count, |random, widest| {
+        let level = *random.pick(levels);
+        crafted_task(random, level, widest, scale)
+    })
+}
+
+/// The same of so many tasks of a maker, which is given the most processors of a task.
+pub fn crafted_by(
+    random: &mut Random,
+    count: usize,
+    made: impl Fn(&mut Random, usize) -> Crafted,
+) -> (Sheet, Vec<Crafted>) {
     loop {
         let widest = random.within(2..=(PROCESSORS / count).clamp(2, 8));
-        let tasks: Vec<Crafted> = (0..count)
-            .map(|_| {
-                let level = *random.pick(levels);
-                crafted_task(random, level, widest, scale)
-            })
-            .collect();
+        let tasks: Vec<Crafted> = (0..count).map(|_| made(random, widest)).collect();
         if let Some(made) = sheet_of(random, tasks) {
             return made;
         }
@@ -140,14 +150,34 @@ pub fn crafted_task(random: &mut Random, level: Level, widest: usize, scale: usi
             Level::Low => Pair { typical: critical, critical: 0 },
             Level::High => Pair { typical: random.within(1..=critical), critical },
         };
-        if let Some(crafted) = try_task(random, level, shares, scale) {
+        let graph = graph(random, shares.typical.max(shares.critical));
+        if let Some(crafted) = try_task(random, level, shares, graph, scale) {
             return crafted;
         }
     }
 }
 
-fn try_task(random: &mut Random, level: Level, shares: Pair, scale: usize) -> Option<Crafted> {
-    let (mut masks, fan) = graph(random, shares.typical.max(shares.critical));
+/// A random high task that gets along with so many processors, of nodes side by side. In the critical state it has a
+/// processor for each, so that a job of the least lengths ends with its first tick.
+pub fn flat_task(random: &mut Random, widest: usize, scale: usize) -> Crafted {
+    loop {
+        let critical = random.within(2..=widest);
+        let shares = Pair { typical: random.within(1..=critical), critical };
+        let masks = vec![0; random.within(2..=critical)];
+        if let Some(crafted) = try_task(random, Level::High, shares, (masks, 0), scale) {
+            return crafted;
+        }
+    }
+}
+
+/// A random task with these shares, and a graph as `graph` gives it.
+fn try_task(
+    random: &mut Random,
+    level: Level,
+    shares: Pair,
+    (mut masks, fan): (Vec<u32>, usize),
+    scale: usize,
+) -> Option<Crafted> {
     let nominal = nominal_lengths(random, masks.len(), fan, scale);
     let overload = match level {
         Level::Low => nominal.clone(),
@@ -274,6 +304,38 @@ fn exact_high(random: &mut Random, unit: usize) -> Option<Crafted> {
     let (overload, masks) = then_chain(random, [vec![v; a], vec![then; b]].concat(), lo);
     let [d, cn, co, ln, lo] = [v + then + lo, ln + a * each, a * v + b * then + lo, ln, lo].map(|figure| figure as u32);
     given(Level::High, Figures { d, cn, co, ln, lo }, masks, Pair { typical: a, critical: b }, overload)
+}
+
+/// A sheet of a high task as in `exact`, whose number is given first, of one with as many processors in both states, whose
+/// number is given second, and of a low one. The second one's job ends in tick D and not before in whichever state it runs,
+/// and no high task has a longer deadline. Its times are some units. None where the plan has other shares, or a figure
+/// would be too large.
+pub fn exact_pair(random: &mut Random, unit: usize) -> Option<(Sheet, Vec<Crafted>, [usize; 2])> {
+    let [first, second] = [exact_high(random, unit)?, exact_steady(random, unit)?];
+    if first.task.figures.d > second.task.figures.d {
+        return None;
+    }
+    let mut tasks = vec![first, second, exact_low(random, unit)?];
+    let turn = random.within(0..=2);
+    tasks.rotate_left(turn);
+    in_forms(random, &mut tasks);
+    let sheet = sheet(needed(&tasks) + *random.pick(&[0, 0, 1, 2]), &tasks);
+    let plan = planner::plan(&sheet).ok()?;
+    let high = [0, 1].map(|task| (task + 3 - turn) % 3);
+    high.iter().all(|&task| plan.tasks[task].shares == tasks[task].shares).then_some((sheet, tasks, high))
+}
+
+/// A high task with a share for both states. Its overload lengths keep its processors busy for D − LO ticks, and only then
+/// let a chain of length LO begin.
+fn exact_steady(random: &mut Random, unit: usize) -> Option<Crafted> {
+    let Crafted { task, overload, shares, .. } = exact_low(random, 3 * unit)?;
+    let Figures { d, co, lo, .. } = task.figures;
+    let ln = random.within(1..=lo as usize) as u32;
+    let cn = random.within(ln as usize + 1..=(co - (lo - ln)) as usize) as u32;
+    let figures = Figures { d, cn, co, ln, lo };
+    let lengths = overload.into_iter().map(|length| length as usize).collect();
+    let share = shares.typical;
+    given(Level::High, figures, task.masks, Pair { typical: share, critical: share }, lengths)
 }
 
 /// A sheet of a high task, whose number is given, and of low ones of which one at least is kept. Each low task's lengths

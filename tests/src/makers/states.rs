@@ -63,6 +63,44 @@ pub fn keeping(random: &mut Random) -> State {
     state
 }
 
+/// A random sound critical state in which no high job is alive.
+pub fn without_high_jobs(random: &mut Random) -> State {
+    let state = if random.once_in(2) { sound(random) } else { keeping(random) };
+    let mut state = State { mode: Mode::Critical, ..state };
+    for entry in &mut state.entries[..usize::from(state.count)] {
+        entry.alive = entry.alive && !entry.is_high();
+    }
+    state
+}
+
+/// A random sound critical state with high jobs, one or more, whose nodes that have not ended all run.
+pub fn with_last_nodes(random: &mut Random) -> State {
+    loop {
+        let mut state = without_high_jobs(random);
+        for entry in &mut state.entries[..usize::from(state.count)] {
+            if entry.is_high() && entry.critical > 0 && !random.once_in(3) {
+                (entry.alive, entry.ended) = (true, all_but_some(random, entry));
+            }
+        }
+        if !state.high_jobs().is_empty() {
+            return state;
+        }
+    }
+}
+
+/// All nodes but some that may run together: none precedes another, and the critical share is enough for them.
+fn all_but_some(random: &mut Random, entry: &Entry) -> Nodes {
+    let k = usize::from(entry.nodes);
+    let mut left: Vec<usize> = Vec::new();
+    for _ in 0..random.within(1..=entry.critical.into()) {
+        let v = random.within(0..=k - 1);
+        if left.iter().all(|&u| u != v && !entry.preceding[u][v] && !entry.preceding[v][u]) {
+            left.push(v);
+        }
+    }
+    std::array::from_fn(|v| v < k && !left.contains(&v))
+}
+
 fn entry(random: &mut Random, form: Form, typical: u8, critical: u8) -> Entry {
     let k = random.skewed(1..=NODES);
     let preceding = preceding(random, k);
@@ -331,6 +369,13 @@ mod tests {
             let running: usize = (0..usize::from(state.count)).map(|task| state.running(task).len()).sum();
             assert!(running <= usize::from(state.processors));
             assert_eq!(keeping(&mut random).faults(), []);
+            assert_eq!(without_high_jobs(&mut random).faults(), []);
+            let last = with_last_nodes(&mut random);
+            assert_eq!(last.faults(), []);
+            for task in last.high_jobs() {
+                let left = last.entries[task].ended[..last.entries[task].nodes.into()].iter().filter(|ended| !**ended);
+                assert_eq!(last.running(task).len(), left.count());
+            }
             for fault in FAULTS {
                 assert_eq!(unsound(&mut random, fault).faults(), [fault]);
             }

@@ -5,7 +5,7 @@ use crate::makers::random::Random;
 use crate::makers::sheets::Draft;
 use crate::makers::states;
 use crate::reference::answers::Cause;
-use crate::reference::dispatcher::State;
+use crate::reference::dispatcher::{Mode, State};
 use crate::reference::logs::Call;
 use crate::reference::planner;
 use crate::reference::reader::Sheet;
@@ -20,12 +20,25 @@ pub struct Story {
     pub lengths: BTreeMap<usize, Vec<u32>>,
 }
 
+/// When the jobs of a task come.
+#[derive(Clone, Copy, Debug, PartialEq, Eq)]
+pub enum Pace {
+    /// Each as soon as it may.
+    Eager,
+    /// Each sometime after it may.
+    Idle,
+    /// One alone, as soon as it may.
+    Once,
+    /// Each just before a tick that would return without it.
+    BeforeReturn,
+}
+
 /// How a list of calls is made.
 pub struct Manner {
     /// The accepted ticks.
     pub ticks: usize,
-    /// Whether a job comes as soon as it may, else sometime later.
-    pub eager: bool,
+    /// The pace of each task's jobs.
+    pub paces: Vec<Pace>,
     /// The kinds of each task's jobs.
     pub kinds: Vec<Vec<Kind>>,
     /// The ticks before each task's first job.
@@ -50,7 +63,13 @@ pub fn story(random: &mut Random, sheet: &Sheet, tasks: &[Crafted], manner: &Man
     let mut jobs: Vec<Option<Job>> = tasks.iter().map(|_| None).collect();
     for tick in 0..manner.ticks {
         for task in 0..tasks.len() {
-            let comes = tick >= manner.first[task] && (manner.eager || random.once_in(10));
+            let comes = tick >= manner.first[task]
+                && match manner.paces[task] {
+                    Pace::Eager => true,
+                    Pace::Idle => random.once_in(10),
+                    Pace::Once => jobs[task].is_none(),
+                    Pace::BeforeReturn => would_return(&state, &jobs),
+                };
             if !comes || state.entries[task].alive {
                 continue;
             }
@@ -73,6 +92,16 @@ pub fn story(random: &mut Random, sheet: &Sheet, tasks: &[Crafted], manner: &Man
         story.calls.push(Call::Tick(reports));
     }
     story
+}
+
+/// Whether the state is critical, and with the next tick the last node of each high job ends, by true reports.
+fn would_return(state: &State, jobs: &[Option<Job>]) -> bool {
+    let ends = |task: usize| {
+        let (entry, running) = (&state.entries[task], state.running(task));
+        let ends = |v: usize| running.contains(&v) && jobs[task].as_ref().is_some_and(|job| job.left[v] == 1);
+        (0..usize::from(entry.nodes)).all(|v| entry.ended[v] || ends(v))
+    };
+    state.mode == Mode::Critical && state.high_jobs().into_iter().all(ends)
 }
 
 /// Of some lengths of a kind, those with which a task's job lasts longest, alone under true reports.

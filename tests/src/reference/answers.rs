@@ -63,18 +63,22 @@ pub enum Reply {
     Done,
     /// A tick turned the state critical, because of this task.
     Switched(u8),
+    /// A tick turned the state typical again.
+    Returned,
     /// Refused, with its number and its task, 255 where it names none.
     Refused(u8, u8),
 }
 
 impl Reply {
-    /// The reply that an exported function's number stands for: number + 256 * task; switched is 65,536 + 256 * task.
+    /// The reply that an exported function's word stands for: number + 256 * task; a switch adds 65,536, and a return
+    /// 131,072.
     pub fn of_word(word: u32) -> Reply {
         match word.to_le_bytes() {
-            [0, 255, 0, 0] => Reply::Done,
+            [0, NO_TASK, 0, 0] => Reply::Done,
             [number @ (1..=19 | 100), task, 0, 0] => Reply::Refused(number, task),
             [0, task @ 0..=15, 1, 0] => Reply::Switched(task),
-            _ => panic!("{word} is not the number of an answer"),
+            [0, NO_TASK, 2, 0] => Reply::Returned,
+            _ => panic!("{word} is not the word of an answer"),
         }
     }
 
@@ -91,5 +95,18 @@ impl From<Refusal> for Reply {
     fn from(refusal: Refusal) -> Reply {
         let (number, task) = refusal.answer();
         Reply::Refused(number, task)
+    }
+}
+
+#[cfg(test)]
+mod tests {
+    use super::*;
+
+    #[test]
+    fn words_of_answers() {
+        assert_eq!(Reply::of_word(65_280), Reply::Done);
+        assert_eq!(Reply::of_word(15 + 256 * 3), Reply::Refused(15, 3));
+        assert_eq!(Reply::of_word(65_536 + 256 * 3), Reply::Switched(3));
+        assert_eq!(Reply::of_word(131_072 + 65_280), Reply::Returned);
     }
 }

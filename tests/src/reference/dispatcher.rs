@@ -1,6 +1,6 @@
 //! A dispatcher by S7, S8 and refusals 10 to 16 of the specification. Sets of nodes are rows of marks, and a
 //! step makes a whole state out of the one before. It shares nothing with the proved one: neither code nor definitions.
-use crate::reference::answers::{Cause, Refusal};
+use crate::reference::answers::{Cause, Refusal, Reply};
 use crate::reference::planner::{self, Plan};
 use crate::reference::reader::{self, Form, Level, Sheet};
 
@@ -80,11 +80,32 @@ pub enum Fault {
     AliveButEnded,
 }
 
-/// An accepted tick: the state after it, and the lowest task that turned it critical.
+/// What an accepted tick did to the standing state.
+#[derive(Clone, Copy, Debug, PartialEq, Eq)]
+pub enum Outcome {
+    /// Nothing.
+    Ran,
+    /// It turned it critical; the lowest task that was late.
+    Switched(usize),
+    /// It turned it typical again.
+    Returned,
+}
+
+impl From<Outcome> for Reply {
+    fn from(outcome: Outcome) -> Reply {
+        match outcome {
+            Outcome::Ran => Reply::Done,
+            Outcome::Switched(task) => Reply::Switched(task as u8),
+            Outcome::Returned => Reply::Returned,
+        }
+    }
+}
+
+/// An accepted tick: the state after it, and what it did.
 #[derive(Clone, Debug, PartialEq, Eq)]
 pub struct Ticked {
     pub state: State,
-    pub switched: Option<usize>,
+    pub outcome: Outcome,
 }
 
 /// Start: refusals 1 to 8, else the fresh state.
@@ -211,6 +232,12 @@ impl State {
         all
     }
 
+    /// The high tasks with an alive job.
+    pub fn high_jobs(&self) -> Vec<usize> {
+        let with_job = |task: &usize| self.entries[*task].is_high() && self.entries[*task].alive;
+        (0..self.own().len()).filter(with_job).collect()
+    }
+
     fn sound(&self) -> Result<(), Refusal> {
         if self.faults().is_empty() {
             Ok(())
@@ -260,18 +287,33 @@ impl State {
             entry.alive = entry.alive && !entry.all_ended();
             entry.age = entry.deadline.min(entry.age + 1);
         }
-        let late = |entry: &Entry| entry.alive && entry.is_high() && entry.age >= entry.virtual_deadline;
-        let switched = match self.mode {
-            Mode::Typical => state.own().iter().position(late),
-            Mode::Critical => None,
+        Ok(match self.mode {
+            Mode::Typical => state.switched_if_late(),
+            Mode::Critical => state.returned_if_over(),
+        })
+    }
+
+    /// The end of a tick in the typical state: it turns critical if a high job is as old as V, and drops the low jobs that
+    /// are not kept.
+    fn switched_if_late(mut self) -> Ticked {
+        let is_late = |task: &usize| self.entries[*task].age >= self.entries[*task].virtual_deadline;
+        let Some(task) = self.high_jobs().into_iter().find(is_late) else {
+            return Ticked { state: self, outcome: Outcome::Ran };
         };
-        if switched.is_some() {
-            state.mode = Mode::Critical;
-            for entry in state.entries.iter_mut().take(reports.len()) {
-                entry.alive = entry.alive && entry.stays();
-            }
+        self.mode = Mode::Critical;
+        let count = self.own().len();
+        for entry in &mut self.entries[..count] {
+            entry.alive = entry.alive && entry.stays();
         }
-        Ok(Ticked { state, switched })
+        Ticked { state: self, outcome: Outcome::Switched(task) }
+    }
+
+    /// The end of a tick in the critical state: it turns typical if no high job is left. All jobs stay as they are.
+    fn returned_if_over(self) -> Ticked {
+        match self.high_jobs()[..] {
+            [] => Ticked { state: State { mode: Mode::Typical, ..self }, outcome: Outcome::Returned },
+            _ => Ticked { state: self, outcome: Outcome::Ran },
+        }
     }
 
     /// Board: refusals 10 and 16 for a buffer of so many bytes, else what is written to it.
@@ -332,7 +374,7 @@ mod tests {
         assert_eq!(pairs(&state), [(0, 0, 0), (1, 1, 0), (3, 2, 0)]);
         for tick in 1..=7 {
             let ticked = state.tick(&[0; 3]).unwrap();
-            assert_eq!(ticked.switched, (tick == 7).then_some(1), "B's V is 7");
+            assert_eq!(ticked.outcome, if tick == 7 { Outcome::Switched(1) } else { Outcome::Ran }, "B's V is 7");
             state = ticked.state;
         }
         assert_eq!(pairs(&state), [(0, 0, 0), (2, 1, 0)]);
@@ -363,7 +405,7 @@ mod tests {
         for tick in 1..=9 {
             assert_eq!(state.board(14).unwrap(), on_one);
             let ticked = state.tick(&[0; 2]).unwrap();
-            assert_eq!(ticked.switched, (tick == 9).then_some(0), "A's V is 9");
+            assert_eq!(ticked.outcome, if tick == 9 { Outcome::Switched(0) } else { Outcome::Ran }, "A's V is 9");
             state = ticked.state;
         }
         assert_eq!(state.board(14).unwrap(), on_two);
@@ -374,7 +416,62 @@ mod tests {
         for _ in 10..18 {
             state = state.tick(&[0; 2]).unwrap().state;
         }
-        assert!(state.release(1).unwrap().entries[1].alive);
+        state = state.release(1).unwrap();
+        assert!(state.entries[1].alive && state.mode == Mode::Critical);
+        let Ticked { state, outcome } = state.tick(&[1, 0]).unwrap();
+        assert_eq!((outcome, state.mode), (Outcome::Returned, Mode::Typical));
+        assert!(!state.entries[0].alive && state.entries[1].alive && state.entries[1].age == 1);
+        assert_eq!(state.board(14).unwrap()[2..4], [1, 0], "behind A's one processor");
+        assert_eq!(state.tick(&[0; 2]).unwrap().outcome, Outcome::Ran);
+    }
+
+    /// A, B and E on eight processors: with B's overrun E is dropped, and with the last high job's end it may come again.
+    #[test]
+    fn the_typical_state_is_back_when_no_high_job_is_left() {
+        let mut state = start(&CASE_14).unwrap();
+        for task in 0..3 {
+            state = state.release(task).unwrap();
+        }
+        let mut tick = |reports: &[u32]| {
+            let ticked = state.tick(reports).unwrap();
+            state = ticked.state.clone();
+            ticked
+        };
+        let outcomes: Vec<Outcome> = (0..7).map(|_| tick(&[0; 3]).outcome).collect();
+        assert_eq!(outcomes[5..], [Outcome::Ran, Outcome::Switched(1)]);
+        assert_eq!(tick(&[0, 1, 0]).outcome, Outcome::Ran, "A's job is left");
+        assert_eq!(tick(&[0; 3]).outcome, Outcome::Ran, "A is late, but the state is critical");
+        let Ticked { state: before, .. } = tick(&[0; 3]);
+        let Ticked { mut state, outcome } = tick(&[1, 0, 0]);
+        assert_eq!((outcome, state.mode), (Outcome::Returned, Mode::Typical));
+        let told = |state: &State| -> Vec<(bool, u32, u32)> {
+            state.own().iter().map(|entry| (entry.alive, entry.age, set_of(&entry.ended))).collect()
+        };
+        assert_eq!(told(&before), [(true, 10, 0), (false, 10, 1), (false, 10, 0)]);
+        assert_eq!(told(&state), [(false, 11, 1), (false, 11, 1), (false, 11, 0)]);
+        for task in 0..3 {
+            assert_eq!(state.release(task), Err(Refusal::of(Cause::NotDue, task)));
+        }
+        for _ in 11..18 {
+            let ticked = state.tick(&[0; 3]).unwrap();
+            assert_eq!(ticked.outcome, Outcome::Ran);
+            state = ticked.state;
+        }
+        assert!(state.release(2).unwrap().entries[2].alive);
+    }
+
+    /// Critical with no high job alive, as no list of calls leaves it.
+    #[test]
+    fn a_critical_state_without_high_jobs_returns_with_its_next_tick() {
+        let mut state = State { mode: Mode::Critical, ..start(&CASE_14).unwrap() };
+        assert_eq!(state.tick(&[0; 2]), Err(Refusal::whole(Cause::ReportCount)));
+        assert_eq!(state.release(2), Err(Refusal::of(Cause::NotKept, 2)));
+        assert_eq!(state.release(0).unwrap().tick(&[0; 3]).unwrap().outcome, Outcome::Ran);
+        assert_eq!(state.release(0).unwrap().tick(&[1, 0, 0]).unwrap().outcome, Outcome::Returned);
+        state.entries[2] = Entry { alive: true, age: 3, ..state.entries[2].clone() };
+        let Ticked { state, outcome } = state.tick(&[0; 3]).unwrap();
+        assert_eq!((outcome, state.mode), (Outcome::Returned, Mode::Typical));
+        assert!(state.entries[2].alive && state.entries[2].age == 4, "a low job goes on");
     }
 
     /// Whatever its critical share above 0 is, a low task is kept.
@@ -385,7 +482,7 @@ mod tests {
         assert_eq!(state.faults(), []);
         state.entries[0].age = 8;
         let ticked = state.tick(&[0; 3]).unwrap();
-        assert_eq!(ticked.switched, Some(0));
+        assert_eq!(ticked.outcome, Outcome::Switched(0));
         assert!(ticked.state.entries[2].alive);
         assert_eq!(ticked.state.board(16).unwrap()[14..], [2, 0]);
         state.entries[2].critical = 0;

@@ -1,6 +1,6 @@
 //! Logs of calls and what a replay of them gives, by S12: written from the specification's words, on the independent
 //! dispatcher.
-use crate::reference::answers::Reply;
+use crate::reference::answers::{Reply, NO_TASK};
 use crate::reference::dispatcher::{self, set_of, Mode, State, Ticked};
 
 /// A call on a state.
@@ -78,9 +78,7 @@ fn run(mut state: State, calls: &[Call]) -> Replay {
     for call in calls {
         let step = match call {
             Call::Release(task) => state.release(*task).map(|next| (Reply::Done, next)),
-            Call::Tick(reports) => state.tick(reports).map(|Ticked { state, switched }| {
-                (switched.map_or(Reply::Done, |task| Reply::Switched(task as u8)), state)
-            }),
+            Call::Tick(reports) => state.tick(reports).map(|Ticked { state, outcome }| (outcome.into(), state)),
         };
         let reply = match step {
             Ok((reply, next)) => {
@@ -99,9 +97,10 @@ fn run(mut state: State, calls: &[Call]) -> Replay {
 /// The outcome, the number and the task of an answer.
 fn said(reply: Reply) -> [u8; 3] {
     match reply {
-        Reply::Done => [0, 0, 255],
+        Reply::Done => [0, 0, NO_TASK],
         Reply::Switched(task) => [1, 0, task],
         Reply::Refused(number, task) => [2, number, task],
+        Reply::Returned => [3, 0, NO_TASK],
     }
 }
 
@@ -139,5 +138,17 @@ mod tests {
         let ticked = [&[0, 0, 255, 0][..], &idle(45), &[0, 1, 0, 0, 0, 1, 0, 0, 0], &idle(18)].concat();
         assert_eq!(replayed.bytes, [&[0, 255][..], &released, &ticked].concat());
         assert_eq!(replay(&CASE_14[..5], &[]).bytes, [1, 255]);
+    }
+
+    /// B's V is 7: the seventh tick switches, and the eighth, with which B's node ends, returns.
+    #[test]
+    fn a_switch_and_a_return_of_case_14() {
+        let idle = Call::Tick(vec![0; 3]);
+        let calls = [vec![Call::Release(1)], vec![idle; 7], vec![Call::Tick(vec![0, 1, 0])]].concat();
+        let replayed = replay(&CASE_14, &log_of(&calls));
+        let row = |alive, age, ended| [alive, age, 0, 0, 0, ended, 0, 0, 0];
+        let held = |head: [u8; 4], b: [u8; 9]| [&head[..], &row(0, 45, 0), &b, &row(0, 18, 0)].concat();
+        let [switched, returned] = [held([1, 0, 1, 1], row(1, 7, 0)), held([3, 0, 255, 0], row(0, 8, 1))];
+        assert_eq!(replayed.bytes[2 + 31 * 7..], [switched, returned].concat());
     }
 }
