@@ -41,7 +41,9 @@ fn sheets_agree(input: &Input, sheet: &[u8]) {
 
 fn states_agree(input: &Input, line: &[u32]) {
     let name = &input.name;
-    for reports in [vec![0; input.count], input.reports.clone(), vec![2; input.count], vec![0; input.count + 1]] {
+    let idle = vec![0; input.count];
+    let wrong = [vec![2; input.count], vec![0; input.count + 1]];
+    for reports in [idle, input.reports.clone(), input.last_reports.clone()].into_iter().chain(wrong) {
         let ticks = left(line, |line| plain::tick(line, &reports));
         assert_eq!(ticks, left(line, |line| proved::tick(line, &reports)), "tick, {name}: {line:?}");
         for count in [1, input.ticks + 2] {
@@ -86,13 +88,24 @@ pub fn check(inputs: &[Input]) {
     for input in inputs {
         sheets_agree(input, &input.sheet);
         if input.accepted {
-            [&input.fresh, &input.alive, &input.late].into_iter().for_each(|line| states_agree(input, line));
+            let lines = [&input.fresh, &input.alive, &input.late, &input.last];
+            lines.into_iter().for_each(|line| states_agree(input, line));
+            turns(input);
         }
     }
     for input in named(inputs, &["small", "low", "wide-full"]) {
         changed(&input.sheet, &VALUES, |sheet| sheets_agree(input, sheet));
         changed(&input.alive, &WORDS, |line| states_agree(input, line));
+        changed(&input.last, &WORDS, |line| states_agree(input, line));
     }
+}
+
+/// The ticks that are measured as such switch and return.
+fn turns(input: &Input) {
+    let (switches, _) = left(&input.late, |line| proved::tick(line, &vec![0; input.count]));
+    assert_eq!(switches, plain::SWITCHED, "{}", input.name);
+    let (returns, _) = left(&input.last, |line| proved::tick(line, &input.last_reports));
+    assert_eq!(returns, plain::RETURNED + plain::ACCEPTED, "{}", input.name);
 }
 
 /// The terms that are measured, and each of them wrong or at an end of its range.

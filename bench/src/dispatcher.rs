@@ -28,6 +28,7 @@ pub struct State {
 pub enum TickAnswer {
     Ran,
     Switched(u8),
+    Returned,
     Refused(Refusal),
 }
 
@@ -106,8 +107,12 @@ impl TaskState {
         is_high(self.level) || self.share.critical > 0
     }
 
+    fn has_high_job(&self) -> bool {
+        is_high(self.level) && self.alive
+    }
+
     fn is_late(&self) -> bool {
-        is_high(self.level) && self.alive && self.age >= self.virtual_deadline
+        self.has_high_job() && self.age >= self.virtual_deadline
     }
 }
 
@@ -185,16 +190,11 @@ fn released(state: &mut State, task: usize) -> Answer {
 }
 
 pub fn tick(mut state: State, reports: &[u32]) -> Ticked {
-    let answer = match ticked(&mut state, reports) {
-        Ok(None) => TickAnswer::Ran,
-        Ok(Some(task)) => TickAnswer::Switched(task),
-        Err(refused) => TickAnswer::Refused(refused),
-    };
+    let answer = ticked(&mut state, reports).unwrap_or_else(TickAnswer::Refused);
     Ticked { state, answer }
 }
 
-/// The task that made the mode turn critical, if one did.
-fn ticked(state: &mut State, reports: &[u32]) -> Result<Option<u8>, Refusal> {
+fn ticked(state: &mut State, reports: &[u32]) -> Result<TickAnswer, Refusal> {
     if !state.is_sound() {
         return Err(NOT_SOUND);
     }
@@ -212,16 +212,15 @@ fn ticked(state: &mut State, reports: &[u32]) -> Result<Option<u8>, Refusal> {
         entry.age = (entry.age + 1).min(entry.deadline);
     }
     if state.critical {
-        return Ok(None);
+        state.critical = state.tasks().iter().any(TaskState::has_high_job);
+        return Ok(if state.critical { TickAnswer::Ran } else { TickAnswer::Returned });
     }
-    let late = state.tasks().iter().position(TaskState::is_late);
-    if late.is_some() {
-        state.critical = true;
-        for entry in state.tasks_mut() {
-            entry.alive &= entry.stays();
-        }
+    let Some(late) = state.tasks().iter().position(TaskState::is_late) else { return Ok(TickAnswer::Ran) };
+    state.critical = true;
+    for entry in state.tasks_mut() {
+        entry.alive &= entry.stays();
     }
-    Ok(late.map(|task| task as u8))
+    Ok(TickAnswer::Switched(late as u8))
 }
 
 pub fn board(state: State, buffer: &mut [u8]) -> Answered {

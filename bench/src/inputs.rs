@@ -2,7 +2,7 @@
 use dibwunek_tests::harness::boundary::to_words;
 use dibwunek_tests::makers::graphs::{Entry, Graph};
 use dibwunek_tests::makers::sheets::{Draft, CASE_14};
-use dibwunek_tests::reference::dispatcher::{start, State};
+use dibwunek_tests::reference::dispatcher::{self, start, Mode, State};
 use dibwunek_tests::reference::import::HEAD;
 use dibwunek_tests::reference::reader::{Figures, Form, Level, Sheet, Task};
 
@@ -24,8 +24,12 @@ pub struct Input {
     pub alive: Vec<u32>,
     /// That state with every age one tick before its job's virtual deadline.
     pub late: Vec<u32>,
+    /// The alive state in the critical mode, with the last node of each job left. Low tasks that are not kept have none.
+    pub last: Vec<u32>,
     /// For each task its lowest running node.
     pub reports: Vec<u32>,
+    /// For each task with a job in `last` its last node.
+    pub last_reports: Vec<u32>,
     /// Ticks without a report that the alive state takes before it turns critical.
     pub ticks: u32,
 }
@@ -73,12 +77,28 @@ fn mask(v: u8) -> u32 {
     }
 }
 
+/// A state with all nodes ended of each job but the last, in the critical mode.
+fn with_last_nodes(alive: &State) -> State {
+    let mut state = State { mode: Mode::Critical, ..alive.clone() };
+    for entry in state.entries.iter_mut().filter(|entry| entry.alive) {
+        entry.alive = entry.stays();
+        entry.ended[..usize::from(entry.nodes) - 1].fill(true);
+    }
+    state
+}
+
+/// The last node of a task whose job is alive, as a set.
+fn last_node(entry: &dispatcher::Entry) -> u32 {
+    u32::from(entry.alive) << entry.nodes.saturating_sub(1)
+}
+
 fn input(name: String, sheet: Vec<u8>) -> Input {
     let (processors, count) = (usize::from(sheet[0]), usize::from(sheet[1]));
     let started = start(&sheet);
     let accepted = started.is_ok();
     let fresh = started.unwrap_or_else(|_| State::zero());
     let alive = (0..count).fold(fresh.clone(), |state, task| state.release(task).unwrap_or(state));
+    let last = with_last_nodes(&alive);
     let mut late = alive.clone();
     let mut ticks = 64;
     for entry in late.entries.iter_mut().filter(|entry| entry.is_high()) {
@@ -96,6 +116,8 @@ fn input(name: String, sheet: Vec<u8>) -> Input {
         fresh: to_words(&fresh),
         alive: to_words(&alive),
         late: to_words(&late),
+        last_reports: last.entries[..count].iter().map(last_node).collect(),
+        last: to_words(&last),
         reports: vec![1; count],
         ticks,
     }

@@ -9,7 +9,8 @@ use dibwunek_tests::reference::reader::NODES;
 use std::hint::black_box;
 
 pub const ACCEPTED: u32 = 256 * NO_TASK as u32;
-const SWITCHED: u32 = 65_536;
+pub const SWITCHED: u32 = 65_536;
+pub const RETURNED: u32 = 131_072;
 const NOT_STATE: u32 = 100 + 256 * NO_TASK as u32;
 
 fn refused_word(refused: Refusal) -> u32 {
@@ -27,6 +28,7 @@ fn tick_word(answer: TickAnswer) -> u32 {
     match answer {
         TickAnswer::Ran => ACCEPTED,
         TickAnswer::Switched(task) => SWITCHED + 256 * u32::from(task),
+        TickAnswer::Returned => RETURNED + ACCEPTED,
         TickAnswer::Refused(refused) => refused_word(refused),
     }
 }

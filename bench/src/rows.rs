@@ -145,6 +145,7 @@ fn rows_of(input: &Input) -> Vec<Row> {
         rows.extend([
             in_place("tick, words", tick(&input.alive, &input.reports)),
             in_place("tick that switches, words", tick(&input.late, &vec![0; input.count])),
+            in_place("tick that returns, words", tick(&input.last, &input.last_reports)),
             in_place("release, words", release(&input.fresh, input.count - 1)),
             row("board, words", board(input)),
             row("reading the line", ticks(input, 0)),
