@@ -59,7 +59,7 @@ static long read_sheet(const char *name, uint8_t *bytes) {
     return (long)length;
 }
 
-/* Releases a task if it is due (else 13); in critical mode a low task that is not kept rests (12). */
+/* Releases a task if it is due (else 13); in critical mode a low task that is not kept rests (12), until the return. */
 static int release(unsigned tick, unsigned task) {
     uint32_t answer = dibwunek_release(state, DIBWUNEK_STATE_WORDS, task);
     unsigned v;
@@ -96,7 +96,10 @@ static int run(uint32_t *reports) {
     return 0;
 }
 
-/* Tells the dispatcher that a tick has passed, and says what came of it: a switch drops the low jobs that are not kept. */
+/*
+ * Tells the dispatcher that a tick has passed, and says what came of it: a switch before the low jobs that it drops, a return
+ * behind the jobs that have ended.
+ */
 static int pass(unsigned tick, const uint32_t *reports) {
     unsigned count = state[DIBWUNEK_COUNT], task;
     uint32_t alive[DIBWUNEK_ENTRIES], answer;
@@ -117,6 +120,9 @@ static int pass(unsigned tick, const uint32_t *reports) {
             int ended = dibwunek_field(state, task, DIBWUNEK_ENDED) == all;
             printf("tick %2u: task %u %s\n", tick, task, ended ? "has ended" : "is dropped");
         }
+    }
+    if (dibwunek_returned(answer)) {
+        printf("tick %2u: the mode turns typical again\n", tick);
     }
     return 0;
 }

@@ -86,10 +86,14 @@ static inline uint32_t dibwunek_field(const uint32_t *state, size_t task, size_t
 /* The number of the answer to a line that is no state. */
 #define DIBWUNEK_NOT_STATE 100
 
-/* What an answer says (S13.4). dibwunek_switched is 1 where a tick turned the mode critical; dibwunek_task names the cause. */
+/*
+ * What an answer says (S13.4). dibwunek_switched is 1 where a tick turned the mode critical, and dibwunek_task names the cause.
+ * dibwunek_returned is 1 where a tick turned it typical again. Else each is 0, and no answer has both.
+ */
 static inline unsigned dibwunek_number(uint32_t answer) { return answer & 255u; }
 static inline unsigned dibwunek_task(uint32_t answer) { return answer >> 8 & 255u; }
-static inline unsigned dibwunek_switched(uint32_t answer) { return answer >> 16; }
+static inline unsigned dibwunek_switched(uint32_t answer) { return answer >> 16 & 1u; }
+static inline unsigned dibwunek_returned(uint32_t answer) { return answer >> 17 & 1u; }
 
 /* How many words a state has in the linked library: DIBWUNEK_STATE_WORDS, if header and library belong together. */
 size_t dibwunek_state_words(void);
@@ -107,19 +111,23 @@ uint32_t dibwunek_plan(const uint8_t *sheet, size_t sheet_length, uint8_t *buffe
  */
 uint32_t dibwunek_start(const uint8_t *sheet, size_t sheet_length, uint32_t *state, size_t state_length);
 
-/* Release (S8.4): begins a job of a task. In critical mode a low task is refused with 12 unless it is kept. Numbers 10 to 13, 100. */
+/*
+ * Release (S8.4): begins a job of a task. In critical mode a low task is refused with 12 unless it is kept; it rests until the mode
+ * is typical again. Numbers 10 to 13, 100.
+ */
 uint32_t dibwunek_release(uint32_t *state, size_t state_length, size_t task);
 
 /*
- * Tick (S8.5, S8.6): one tick has passed. There is a report for each task: the set of its nodes that ended with this tick, of those
- * that ran. A tick that turns the mode critical drops the jobs of low tasks that are not kept: they are not alive, and not all of
- * their nodes have ended. High jobs and kept ones go on. Numbers 10, 14, 15, 100.
+ * Tick (S8.5, S8.6, S8.9): one tick has passed. There is a report for each task: the set of its nodes that ended with this tick, of
+ * those that ran. A tick that turns the mode critical drops the jobs of low tasks that are not kept: they are not alive, and not all
+ * of their nodes have ended. High jobs and kept ones go on. A tick that finds the mode critical, and after which no high task has an
+ * alive job, turns it typical again; kept jobs go on. Numbers 10, 14, 15, 100.
  */
 uint32_t dibwunek_tick(uint32_t *state, size_t state_length, const uint32_t *reports, size_t report_count);
 
 /*
  * Board (S8.8): writes M pairs of bytes, task and node, one for each processor: what runs until the next tick. A job may stand on
- * other processors once the mode has turned critical. The buffer has just 2 M bytes. Numbers 10, 16, 100.
+ * other processors once the mode has turned, critical or typical. The buffer has just 2 M bytes. Numbers 10, 16, 100.
  */
 uint32_t dibwunek_board(const uint32_t *state, size_t state_length, uint8_t *buffer, size_t buffer_length);
 

@@ -6,7 +6,9 @@
 TEXT is a sheet as text (see sheet.py), A and B are the task's typical and critical share as the plan gives them (a low
 task that is not kept has A alone), and there is one length in ticks for each node. The job is released at tick 0. On
 every tick the lowest-numbered ready nodes run, as many as the share allows. A high job that is alive at its virtual
-deadline turns the state critical. There a job with the share B goes on, and one without it is dropped.
+deadline turns the state critical. There a job with the share B goes on, and one without it is dropped. The tick with
+which a high job ends in the critical state is marked `returned`: the state is typical again, if no other high job is
+alive then.
 
 A task in the wide form has too many ticks for a line each. There, ticks in a row in which the same nodes run are one
 line, and nodes end, or the state turns, with the last of them.
@@ -14,6 +16,8 @@ line, and nodes end, or the state turns, with the last of them.
     --virtual-deadline V   another virtual deadline than the plan's, nominal span + (work - span) / A rounded down
     --switch-after T       another task turns the state critical with tick T of this job (0: before its release)
     --switch-each          one line for every such T that this job leaves open
+    --return-after T       with --switch-after, for a low task: the last high job ends with tick T of this job, and the
+                           state is typical again; a task whose job was dropped, or refused, may be released then
 
 An illustration for the host. It is no part of the image, and nothing is proved of it.
 """
@@ -30,14 +34,14 @@ import sheet as sheets
 
 @dataclass
 class Stretch:
-    """Ticks in a row in which the same nodes run. With the last of them nodes end, or the state turns critical."""
+    """Ticks in a row in which the same nodes run. With the last of them nodes end, or the state turns."""
 
     first: int
     last: int
     critical: bool  # the state that stood while they ran
     running: list
     ended: list
-    switched: bool
+    turned: str  # "switched" where the state turns critical, "returned" where it turns typical, else empty
 
 
 @dataclass
@@ -45,6 +49,7 @@ class Run:
     stretches: list
     dropped: bool
     critically: bool  # whether the state was critical at the release
+    back: int  # the tick with which the state turned typical again, or None
 
     @property
     def last(self):
@@ -54,7 +59,7 @@ class Run:
     @property
     def switch(self):
         """The tick with which the state turned critical, or None."""
-        return next((stretch.last for stretch in self.stretches if stretch.switched), None)
+        return next((stretch.last for stretch in self.stretches if stretch.turned == "switched"), None)
 
 
 def longest(form):
@@ -80,30 +85,32 @@ def mask_of(nodes):
 
 
 def ticks_of(left, running, age, turns):
-    """How long these nodes run: until one of them ends, or an age is reached at which the state may turn critical."""
+    """How long these nodes run: until one of them ends, or an age is reached at which the state may turn."""
     return min([left[node] for node in running] + [turn - age for turn in turns if turn > age])
 
 
-def simulate(task, shares, lengths, virtual, switch_after=None):
+def simulate(task, shares, lengths, virtual, switch_after=None, return_after=None):
     """Runs the job to its end; a job without a critical share is dropped where the state turns critical."""
-    left, ended, stretches, age = list(lengths), set(), [], 0
+    left, ended, stretches, age, back = list(lengths), set(), [], 0, None
     critical = critically = switch_after == 0
     while len(ended) < len(left):
         if critical and len(shares) == 1:
-            return Run(stretches, True, critically)
+            return Run(stretches, True, critically, return_after)
         running = running_nodes(task, ended, shares[critical])
-        turns = () if critical else (virtual if task.high else 0, switch_after or 0)
+        turns = (return_after or 0,) if critical else (virtual if task.high else 0, switch_after or 0)
         ticks = ticks_of(left, running, age, turns)
         for node in running:
             left[node] -= ticks
         now = [node for node in running if left[node] == 0]
         ended.update(now)
-        first, age = age + 1, age + ticks
-        overrun = task.high and len(ended) < len(left) and age >= virtual
-        switched = not critical and bool(overrun or age == switch_after)
-        stretches.append(Stretch(first, age, critical, running, now, switched))
-        critical = critical or switched
-    return Run(stretches, False, critically)
+        first, age, alive = age + 1, age + ticks, len(ended) < len(left)
+        switched = not critical and (task.high and alive and age >= virtual or age == switch_after)
+        returned = critical and (task.high and not alive or age == return_after)
+        turned = "switched" if switched else "returned" if returned else ""
+        stretches.append(Stretch(first, age, critical, running, now, turned))
+        critical = switched or critical and not returned
+        back = age if returned else back
+    return Run(stretches, False, critically, back)
 
 
 def verdict(task, run):
@@ -123,6 +130,15 @@ def met(task, run):
     return f"kept over the switch after tick {run.switch}" if kept else f"switched after tick {run.switch}"
 
 
+def came_back(task, run):
+    """How the state turned typical again. A task whose job was dropped may be released then, if its deadline has passed."""
+    if run.back is None:
+        return ""
+    due = run.back if run.critically else max(run.back, task.deadline)
+    again = f", may be released after tick {due}" if run.dropped else ""
+    return f", returned after tick {run.back}{again}"
+
+
 def budget(task, lengths):
     work, span = sum(lengths), longest_chain(task, lengths)
     kept = "no budget"
@@ -139,7 +155,7 @@ def row_of(stretch, first, last):
     state, running = "critical" if stretch.critical else "typical", " ".join(map(str, stretch.running))
     ended = " ".join(map(str, stretch.ended)) if whole else ""
     ticks = str(last) if first == last else f"{first}-{last}"
-    return ticks, state, running, ended, "switched" if whole and stretch.switched else ""
+    return ticks, state, running, ended, stretch.turned if whole else ""
 
 
 def rows_of(task, stretch):
@@ -155,7 +171,8 @@ def show_run(task, run):
         rows += rows_of(task, stretch)
     widths = [max(len(row[column]) for row in rows) for column in range(5)]
     lines = ["  ".join(cell.ljust(width) for cell, width in zip(row, widths)).rstrip() for row in rows]
-    console.put("\n".join([*(lines if run.stretches else ()), f"{verdict(task, run)}, {met(task, run)}\n"]))
+    closing = f"{verdict(task, run)}, {met(task, run)}{came_back(task, run)}\n"
+    console.put("\n".join([*(lines if run.stretches else ()), closing]))
 
 
 def show_each(task, shares, lengths, virtual):
@@ -200,6 +217,8 @@ def chosen_task(parser, options):
         nodes = len(task.predecessors)
         parser.error(f"--lengths: expected {nodes}, one for each node, got {len(options.lengths)}")
     check_ticks(parser, options, task.form)
+    if options.return_after is not None:
+        check_return(parser, options, task)
     return task
 
 
@@ -209,9 +228,21 @@ def check_ticks(parser, options, form):
         ("--lengths", 1, form.limit, options.lengths),
         ("--virtual-deadline", 1, form.limit, [options.virtual_deadline or 1]),
         ("--switch-after", 0, longest(form), [options.switch_after or 0]),
+        ("--return-after", 1, longest(form), [options.return_after or 1]),
     ):
         if max(given) > most:
             parser.error(f"{option}: expected a number from {least} to {most}, got {max(given)}")
+
+
+def check_return(parser, options, task):
+    """A low job is told when the last high one ends; the end of a high job is its own."""
+    if task.high:
+        parser.error("--return-after: expected a low task: a high job that is alive holds the return back")
+    if options.switch_after is None or options.switch_each:
+        parser.error("--return-after: expected --switch-after beside it, and no --switch-each")
+    if options.return_after <= options.switch_after:
+        switch, given = options.switch_after, options.return_after
+        parser.error(f"--return-after: expected a number above {switch}, the tick of the switch, got {given}")
 
 
 def main(arguments=None):
@@ -224,6 +255,7 @@ def main(arguments=None):
     parser.add_argument("--virtual-deadline", type=length, metavar="V")
     parser.add_argument("--switch-after", type=number(0, longest(sheets.WIDE)), metavar="T")
     parser.add_argument("--switch-each", action="store_true")
+    parser.add_argument("--return-after", type=number(1, longest(sheets.WIDE)), metavar="T")
     options = parser.parse_args(arguments)
     task = chosen_task(parser, options)
     virtual = options.virtual_deadline
@@ -233,7 +265,8 @@ def main(arguments=None):
     if options.switch_each:
         show_each(task, options.shares, options.lengths, virtual)
     else:
-        show_run(task, simulate(task, options.shares, options.lengths, virtual, options.switch_after))
+        turns = (virtual, options.switch_after, options.return_after)
+        show_run(task, simulate(task, options.shares, options.lengths, *turns))
     return 0
 
 

@@ -1,6 +1,6 @@
 """Tests of the header and of examples/controller.c: it compiles without a warning and links, prints what happens on the worked
-sheet, lets a kept job go on and a dropped one rest, and says what is wrong with any other input. A program of the test's own
-reads the plan and the state by the header's constants."""
+sheet, lets a kept job go on and a dropped one rest until the mode is typical again, and says what is wrong with any other input.
+Programs of the test's own read the plan, the state and words of answers by the header."""
 
 import pathlib
 import subprocess
@@ -19,10 +19,27 @@ tick  0: task 1 is released
 tick  8: task 1 has ended
 tick 11: the mode turns critical because of task 0
 tick 16: task 0 has ended
+tick 16: the mode turns typical again
 tick 20: task 1 is released
 tick 28: task 1 has ended
 tick 36: task 0 is released
-tick 40: the mode is critical
+tick 40: the mode is typical
+"""
+
+# The lamp of examples/back-to-typical.sheet, task 1, is due at tick 14 and not released before the return.
+BACK = """\
+task 0: shares 1 and 3, virtual deadline 8
+task 1: shares 2 and 0, virtual deadline 0
+tick  0: task 0 is released
+tick  0: task 1 is released
+tick  8: the mode turns critical because of task 0
+tick  8: task 1 is dropped
+tick 20: task 0 has ended
+tick 20: the mode turns typical again
+tick 20: task 1 is released
+tick 32: task 1 has ended
+tick 34: task 1 is released
+tick 40: the mode is typical
 """
 
 READER = """\
@@ -62,6 +79,32 @@ READ = """\
 1 high 24 6 24 10000
 16 low 30000 0 30000 1000000
 """
+
+WORDS = """\
+#include <stdio.h>
+#include <stdlib.h>
+#include "dibwunek.h"
+
+int main(int count, char **words) {
+    int at;
+    for (at = 1; at < count; at++) {
+        uint32_t answer = (uint32_t)strtoul(words[at], NULL, 10);
+        printf("%u %u", dibwunek_number(answer), dibwunek_task(answer));
+        printf(" %u %u\\n", dibwunek_switched(answer), dibwunek_returned(answer));
+    }
+    return 0;
+}
+"""
+
+# Answers by their words (S13.4): the number, the task, whether a tick switched, whether it returned.
+SAID = {
+    256 * 255: "0 255 0 0",
+    65536: "0 0 1 0",
+    65536 + 256 * 15: "0 15 1 0",
+    131072 + 256 * 255: "0 255 0 1",
+    15 + 256 * 2: "15 2 0 0",
+    100 + 256 * 255: "100 255 0 0",
+}
 
 
 def ran(*words, **options):
@@ -113,7 +156,9 @@ class Controller(unittest.TestCase):
         done = ran(self.program, self.sheet("dropped.bin", change), text=True)
         self.assertEqual((done.returncode, done.stderr), (0, ""))
         self.assertIn("tick 15: the mode turns critical because of task 0\ntick 15: task 1 is dropped\n", done.stdout)
-        self.assertEqual(done.stdout.count("task 1 is released"), 1)
+        self.assertIn("tick 20: the mode turns typical again\ntick 20: task 1 is released\n", done.stdout)
+        self.assertIn("tick 36: task 1 has ended\n", done.stdout)
+        self.assertEqual(done.stdout.count("task 1 is released"), 2)
 
     def example(self, name):
         """The bytes of an example."""
@@ -121,21 +166,43 @@ class Controller(unittest.TestCase):
         self.assertEqual((done.returncode, done.stderr), (0, b""))
         return done.stdout
 
-    def test_the_dye_line(self):
-        file = self.folder / "dye-line.bin"
-        file.write_bytes(self.example("dye-line"))
+    def run_of(self, name):
+        """What the controller prints of an example."""
+        file = self.folder / f"{name}.bin"
+        file.write_bytes(self.example(name))
         done = ran(self.program, str(file), text=True)
         self.assertEqual((done.returncode, done.stderr), (0, ""))
+        return done.stdout
+
+    def test_a_low_job_that_is_released_after_the_return(self):
+        self.assertEqual(self.run_of("back-to-typical"), BACK)
+
+    def test_switches_and_returns_in_turn(self):
+        turns = [line for line in self.run_of("shuttle-lamp").splitlines() if "turns" in line]
+        critical, typical = "the mode turns critical because of task 0", "the mode turns typical again"
+        found = [f"tick {tick:2}: {turn}" for tick, turn in ((8, critical), (16, typical), (32, critical), (40, typical))]
+        self.assertEqual(turns, found)
+
+    def test_the_dye_line(self):
+        printed = self.run_of("dye-line")
         first = "task 0: shares 2 and 3, virtual deadline 200000\ntask 1: shares 3 and 3, virtual deadline 6\n"
-        self.assertTrue(done.stdout.startswith(first), done.stdout)
+        self.assertTrue(printed.startswith(first), printed)
+
+    def built(self, name, text):
+        """The program of a text in C, with the archive."""
+        source, program = self.folder / f"{name}.c", self.folder / name
+        source.write_text(text, encoding="utf-8")
+        done = ran("gcc", *FLAGS, str(source), "-o", str(program), str(ARCHIVE), text=True)
+        self.assertEqual((done.returncode, done.stderr), (0, ""))
+        return str(program)
 
     def test_the_plan_and_the_state_by_the_header(self):
-        source, program = self.folder / "reader.c", self.folder / "reader"
-        source.write_text(READER, encoding="utf-8")
-        built = ran("gcc", *FLAGS, str(source), "-o", str(program), str(ARCHIVE), text=True)
-        self.assertEqual((built.returncode, built.stderr), (0, ""))
-        done = ran(str(program), input=self.example("dye-line"))
+        done = ran(self.built("reader", READER), input=self.example("dye-line"))
         self.assertEqual((done.returncode, done.stdout.decode(), done.stderr), (0, READ, b""))
+
+    def test_the_words_of_answers_by_the_header(self):
+        done = ran(self.built("words", WORDS), *map(str, SAID), text=True)
+        self.assertEqual((done.returncode, done.stdout.splitlines(), done.stderr), (0, [*SAID.values()], ""))
 
     def test_a_missing_file(self):
         self.refuses(["no/such/file"], 1, "controller: no/such/file: No such file or directory\n")

@@ -125,6 +125,18 @@ class Readme(unittest.TestCase):
         self.assertEqual([int(number) for number, _ in rows], list(range(1, len(rows) + 1)))
         self.assertEqual([int(number) for number, calls in rows if "Start" in calls], sorted(sheets.REFUSALS))
 
+    def test_the_words_of_a_tick_are_their_numbers_and_tasks(self):
+        """S13.4 and S12.2: what a return adds to its word, and the outcome that Replay writes of it."""
+        cells = r"^\| (ran|returned) \| (\d+) \| (\d+) \| ([\d,]+) \| (\d) \|"
+        rows = re.findall(cells, text_of("README.md"), re.MULTILINE)
+        found = [(row[0], int(row[3].replace(",", "")) - 256 * int(row[2]) - int(row[1]), row[4]) for row in rows]
+        self.assertEqual(found, [("ran", 0, "0"), ("returned", 131_072, "3")])
+
+    def test_the_places_where_one_stumbles_are_those_of_the_teaching_page(self):
+        title, _, rest = text_of("docs/TEACHING.md").partition("\n")
+        places = text_of("README.md").partition(f"\n#{title}\n")[2].partition("\n## ")[0]
+        self.assertEqual(len(re.findall("^- ", places, re.MULTILINE)), len(re.findall("^## ", rest, re.MULTILINE)))
+
     def test_each_link_leads_somewhere(self):
         for name in DOCUMENTS:
             text = text_of(name)

@@ -27,25 +27,28 @@ def run_of(task, shares, lengths, virtual=None, switch_after=None):
 
 
 def ticks_of(run):
-    """Each tick of a run: whether the state was critical, the running nodes, which of them ended, whether it switched."""
+    """Each tick of a run: whether the state was critical, the running nodes, which of them ended, how the state turned."""
     for stretch in run.stretches:
         for tick in range(stretch.first, stretch.last + 1):
             last = tick == stretch.last
-            yield stretch.critical, stretch.running, stretch.ended if last else [], stretch.switched and last
+            yield stretch.critical, stretch.running, stretch.ended if last else [], stretch.turned if last else ""
 
 
-def one_by_one(task, shares, lengths, virtual, switch_after):
-    """The same, a tick at a time: S8.3, S8.5, S8.6."""
+def one_by_one(task, shares, lengths, virtual, switch_after, return_after):
+    """The same, a tick at a time: S8.3, S8.5, S8.6, S8.9."""
     left, critical, ticks = list(lengths), switch_after == 0, []
     while any(left) and not (critical and len(shares) == 1):
         waits = [any(left[j] for j in range(v) if mask >> j & 1) for v, mask in enumerate(task.predecessors)]
         running = [v for v, ticks_left in enumerate(left) if ticks_left and not waits[v]][: shares[critical]]
         for node in running:
             left[node] -= 1
-        late = task.high and any(left) and len(ticks) + 1 >= virtual
-        switched = not critical and (late or len(ticks) + 1 == switch_after)
-        ticks.append((critical, running, [node for node in running if not left[node]], switched))
-        critical = critical or switched
+        age, turned = len(ticks) + 1, ""
+        if critical and (not any(left) if task.high else age == return_after):
+            turned = "returned"
+        if not critical and (age == switch_after or task.high and any(left) and age >= virtual):
+            turned = "switched"
+        ticks.append((critical, running, [node for node in running if not left[node]], turned))
+        critical = not critical if turned else critical
     return ticks
 
 
@@ -103,6 +106,35 @@ class Examples(unittest.TestCase):
         self.assertEqual(run_of(brake, (2, 5), (1, 2, 2, 2, 2, 2, 1))[1], None)
         self.assertEqual(run_of(brake, (2, 5), (2, 9, 9, 9, 9, 9, 1)), (18, 8))
 
+    def test_the_loom_that_turns_back_to_typical(self):
+        brake, lamp = example("back-to-typical"), example("back-to-typical", 1)
+        self.assertEqual(simulate.virtual_deadline(brake, 1), 8)
+        self.assertEqual(run_of(brake, (1, 3), (1,) * 8), (8, None))
+        for lengths, end in (((2, 12, 12, 12, 12, 12, 12, 2), 34), ((4,) * 8, 20)):
+            run = simulate.simulate(brake, (1, 3), lengths, 8)
+            self.assertEqual((run.last, run.switch, run.back), (end, 8, end))
+        run = simulate.simulate(lamp, (2,), (4,) * 5, 0, 8, 20)
+        self.assertEqual((run.last, run.dropped, run.back), (8, True, 20))
+        self.assertEqual(run_of(lamp, (2,), (4,) * 5), (12, None))
+
+    def test_a_low_job_that_is_kept_takes_no_notice_of_the_return(self):
+        lamp, lengths = example("shuttle-lamp", 1), (4,) * 6
+        alone = [running for _, running, _, _ in ticks_of(simulate.simulate(lamp, (2, 2), lengths, 0))]
+        for after in range(16):
+            for back in range(after + 1, 18):
+                run = simulate.simulate(lamp, (2, 2), lengths, 0, after, back)
+                self.assertEqual([running for _, running, _, _ in ticks_of(run)], alone)
+                states = [critical for critical, *_ in ticks_of(run)]
+                self.assertEqual(states, [after < tick <= back for tick in range(1, 17)])
+                self.assertEqual(run.back, back if back <= 16 else None)
+
+    def test_a_high_job_holds_the_return_back_until_it_ends(self):
+        task, lengths = example("neighbour", 1), (11, 4, 9, 4, 5, 5, 42)
+        for after in range(52):
+            run = simulate.simulate(task, (3, 4), lengths, 100, after)
+            returned = [tick for tick, (*_, turned) in enumerate(ticks_of(run), 1) if turned == "returned"]
+            self.assertEqual(returned, [run.last] if after < run.last else [])
+            self.assertEqual(run.back, run.last if after < run.last else None)
 
     def test_the_dye_line(self):
         pump, camera = example("dye-line"), example("dye-line", 2)
@@ -120,7 +152,7 @@ class Examples(unittest.TestCase):
 
 class Stretches(unittest.TestCase):
     def test_a_stretch_is_its_ticks(self):
-        rng, levels = random.Random(6), set()
+        rng, levels, turns = random.Random(6), set(), set()
         for _ in range(400):
             masks, lengths, work, span = random_job(rng)
             task = sheets.Task("", rng.choice((0, 1, 16, 17)), masks, 10_000, work, work, span, span)
@@ -128,11 +160,14 @@ class Stretches(unittest.TestCase):
             shares = (typical, typical + rng.randrange(3)) if task.high or rng.random() < 0.5 else (typical,)
             virtual = rng.randrange(1, work + 2)
             after = rng.choice((None, rng.randrange(work + 2)))
-            run = simulate.simulate(task, shares, lengths, virtual, after)
-            self.assertEqual(list(ticks_of(run)), one_by_one(task, shares, lengths, virtual, after))
-            self.assertTrue(all(stretch.ended or stretch.switched for stretch in run.stretches))
+            back = None if task.high or after is None else after + rng.randrange(1, work + 2)
+            run = simulate.simulate(task, shares, lengths, virtual, after, back)
+            self.assertEqual(list(ticks_of(run)), one_by_one(task, shares, lengths, virtual, after, back))
+            self.assertTrue(all(stretch.ended or stretch.turned for stretch in run.stretches))
             levels.add((task.level, run.dropped))
+            turns |= {(task.high, stretch.turned) for stretch in run.stretches}
         self.assertEqual(levels, {(0, False), (0, True), (1, False), (16, False), (16, True), (17, False)})
+        self.assertEqual(turns, {(high, turned) for high in (False, True) for turned in ("", "switched", "returned")})
 
 
 class Bounds(unittest.TestCase):
@@ -205,12 +240,54 @@ class Program(unittest.TestCase):
             (camera, "8", "dropped after tick 8, switched after tick 8"),
             (camera, "12", "ended after tick 12, deadline 16, switched after tick 12"),
             (camera, "0", "not released, refusal 12, critical from the start"),
-            (brake, "3", "ended after tick 13, deadline 24, switched after tick 3"),
-            (brake, "0", "ended after tick 12, deadline 24, critical from the start"),
+            (brake, "3", "ended after tick 13, deadline 24, switched after tick 3, returned after tick 13"),
+            (brake, "0", "ended after tick 12, deadline 24, critical from the start, returned after tick 12"),
         ):
             done = self.ran("shuttle-lamp", *task, "--switch-after", after)
             self.assertEqual((done.returncode, done.stderr), (0, ""))
             self.assertEqual(done.stdout.splitlines()[-1], said)
+
+    def test_what_is_said_of_a_return(self):
+        lamp = ("--task", "1", "--lengths", *"444444", "--shares", "2", "2")
+        camera = ("--task", "2", "--lengths", *"444444444444", "--shares", "4")
+        kept, start = "kept over the switch after tick 8", "critical from the start"
+        dropped = "dropped after tick 8, switched after tick 8"
+        for task, after, back, said in (
+            (lamp, "8", "9", f"ended after tick 16, deadline 18, {kept}, returned after tick 9"),
+            (lamp, "8", "16", f"ended after tick 16, deadline 18, {kept}, returned after tick 16"),
+            (lamp, "8", "17", f"ended after tick 16, deadline 18, {kept}"),
+            (lamp, "0", "5", f"ended after tick 16, deadline 18, {start}, returned after tick 5"),
+            (camera, "0", "5", f"not released, refusal 12, {start}, returned after tick 5, may be released after tick 5"),
+            (camera, "12", "13", "ended after tick 12, deadline 16, switched after tick 12"),
+            (camera, "8", "9", f"{dropped}, returned after tick 9, may be released after tick 16"),
+            (camera, "8", "16", f"{dropped}, returned after tick 16, may be released after tick 16"),
+            (camera, "8", "18", f"{dropped}, returned after tick 18, may be released after tick 18"),
+        ):
+            done = self.ran("shuttle-lamp", *task, "--switch-after", after, "--return-after", back)
+            self.assertEqual((done.returncode, done.stderr), (0, ""))
+            self.assertEqual(done.stdout.splitlines()[-1], said)
+
+    def test_the_row_of_a_return(self):
+        lamp = ("--task", "1", "--lengths", *"444444", "--shares", "2", "2", "--switch-after", "5", "--return-after", "7")
+        rows = [line.split() for line in self.ran("shuttle-lamp", *lamp).stdout.splitlines()[6:10]]
+        states = [["5", "typical"], ["6", "critical"], ["7", "critical"], ["8", "typical"]]
+        marks = [["switched"], [], ["returned"], ["1", "2"]]
+        self.assertEqual(rows, [[*state, "1", "2", *mark] for state, mark in zip(states, marks)])
+        brake = self.ran("shuttle-lamp", "--lengths", *"2999991", "--shares", "2", "5").stdout.splitlines()
+        self.assertEqual(brake[-2].split(), ["18", "critical", "6", "6", "returned"])
+
+    def test_a_return_that_no_job_has(self):
+        lamp = ("--task", "1", "--lengths", *"444444", "--shares", "2", "2", "--return-after", "7")
+        brake = ("--lengths", *"2999991", "--shares", "2", "5", "--switch-after", "3", "--return-after", "7")
+        beside = "--switch-after beside it, and no --switch-each"
+        for expected, arguments in (
+            ("a low task", brake),
+            (beside, lamp),
+            (beside, (*lamp, "--switch-each")),
+            (beside, (*lamp, "--switch-after", "3", "--switch-each")),
+            ("a number above 7, the tick of the switch, got 7", (*lamp, "--switch-after", "7")),
+        ):
+            self.refuse(f"--return-after: expected {expected}", *arguments, name="shuttle-lamp")
 
     def test_each_switch_of_a_low_task(self):
         done = self.ran("shuttle-lamp", "--task", "2", "--lengths", *"444444444444", "--shares", "4", "--switch-each")
@@ -225,6 +302,7 @@ class Program(unittest.TestCase):
         rows = [line.split() for line in done.stdout.splitlines()[2:-1]]
         self.assertEqual(rows[:2], [["1-40000", "typical", "0", "0"], ["40001-152000", "typical", "1", "2", "1", "2"]])
         self.assertEqual(rows[2], ["152001-200000", "typical", "3", "4", "switched"])
+        self.assertEqual(rows[-1], ["312001-342000", "critical", "6", "6", "returned"])
         self.assertEqual(len(rows), 6)
         done = self.ran("dye-line", "--shares", "2", "3", "--lengths", *"1111111")
         self.assertEqual([line.split()[0] for line in done.stdout.splitlines()[2:-1]], list("12345"))
@@ -234,6 +312,7 @@ class Program(unittest.TestCase):
             ("--lengths", ["1000001", *"111111"]),
             ("--virtual-deadline", ["1000001"]),
             ("--switch-after", ["32000001"]),
+            ("--return-after", ["32000001"]),
         ):
             rest = ("--shares", "2", "3", "--lengths", *["1000000"] * 7)
             self.assertEqual(self.ran("dye-line", *rest).returncode, 0)
@@ -247,6 +326,7 @@ class Program(unittest.TestCase):
             ("--task", ("-1", "2", huge)),
             ("--virtual-deadline", ("0", "-1", "10001", huge)),
             ("--switch-after", ("-1", "320001", huge)),
+            ("--return-after", ("-1", "0", "320001", huge)),
         ):
             for value in values:
                 with self.subTest(f"{option} {value[:20]}"):
