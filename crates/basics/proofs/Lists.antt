@@ -1,12 +1,13 @@
--- Laws of `range`, `keep` and `each`: lengths, elements, and tests that agree. By induction on the list or on the count of the range.
+-- Laws of `range`, `keep`, `each` and `any`: lengths, elements, and tests that agree. By induction on the list or on the count of the range.
 use Prim.Native.Nat.{ℕ, zero, suc, _+_, _≤_, _<_}
 use mathlib.Core.Path.{_≡_, refl, sym, ap, ap₂, _∙_}
-use mathlib.Core.Bool.{Bool, true, false}
+use mathlib.Core.Bool.{Bool, true, false, _||_, false≢true}
 use mathlib.Core.List.{List, [], _∷_, _++_, map, List·Memᴰ, List·Memᴰ·head, List·Memᴰ·tail}
 use native.Mathlib.Nat.{le-refl, add-zero, zero-add}
 use native.Mathlib.Omega.{arith}
 use lib.ListN.{length, getD}
-use Rattle.basics.specs.Lists.{range, keep, keptIf, each}
+use Rattle.basics.specs.Lists.{range, keep, keptIf, each, any}
+use Rattle.basics.proofs.Logic.{left-false, right-false}
 use Rattle.basics.proofs.Members.{range-within}
 
 -- The numbers of a range.
@@ -75,3 +76,24 @@ unfolding range
 each-same f g first zero same = refl
 each-same f g first (suc n) same =
     ap₂ _++_ (same first (le-refl first) (omega arith)) (each-same f g (suc first) n (λ i low high. same i (omega arith) (omega arith)))
+
+-- Where no member passes, none does by its place, and the other way round; where some member passes, it has a place.
+module _ {A : Type 0} (test : A → Bool) (d : A) where
+  pub any-none : (xs : List A) (i : ℕ) → any test xs ≡ false → i < length xs → test (getD xs i d) ≡ false
+  any-none [] i e h = absurd (omega arith)
+  any-none (x ∷ xs) zero e h = left-false (test x) (any test xs) e
+  any-none (x ∷ xs) (suc i) e h = any-none xs i (right-false (test x) (any test xs) e) (omega arith)
+
+  pub none-any : (xs : List A) → ((i : ℕ) → i < length xs → test (getD xs i d) ≡ false) → any test xs ≡ false
+  none-any [] h = refl
+  none-any (x ∷ xs) h = ap₂ _||_ (h 0 (omega arith)) (none-any xs (λ i b. h (suc i) (omega arith)))
+
+  pub any-some : (xs : List A) → any test xs ≡ true → (i : ℕ) × ((i < length xs) × (test (getD xs i d) ≡ true))
+  any-some [] e = absurd (false≢true e)
+  any-some (x ∷ xs) e = go (test x) refl e (any-some xs)
+    where
+      go : (t : Bool) → test x ≡ t → (t || any test xs) ≡ true →
+          (any test xs ≡ true → (i : ℕ) × ((i < length xs) × (test (getD xs i d) ≡ true))) →
+          (i : ℕ) × ((i < length (x ∷ xs)) × (test (getD (x ∷ xs) i d) ≡ true))
+      go true h e rest = (0, (omega arith, h))
+      go false h e rest = let found = rest e in (suc (found .0), (omega (arith, found .1 .0), found .1 .1))

@@ -8,8 +8,9 @@ use mathlib.Core.Option.{none, some}
 use native.Mathlib.Omega.{arith}
 use lib.Arith.{lt-of-le-ne}
 use lib.Dec.{eqb}
+use lib.ListN.{length, getD}
 use borrow.Author.Tests.{eqb-true, eqb-false}
-use Rattle.basics.specs.Lists.{range, keptIf, keep, each, all, find, isEmpty}
+use Rattle.basics.specs.Lists.{range, keptIf, keep, each, all, find, isEmpty, greatest}
 
 -- The numbers of a range.
 pub range-has : (first count x : ℕ) → first ≤ x → x < first + count → List·Memᴰ x (range first count)
@@ -142,3 +143,18 @@ module _ {A : Type 0} where
   pub none-empty : (xs : List A) → ((x : A) → List·Memᴰ x xs → ⊥) → xs ≡ []
   none-empty [] h = refl
   none-empty (z ∷ xs) h = absurd (h z (List·Memᴰ·head refl))
+
+  -- What stands at a place of the list.
+  pub getD-has : (xs : List A) (i : ℕ) (d : A) → i < length xs → List·Memᴰ (getD xs i d) xs
+  getD-has [] i d h = absurd (omega arith)
+  getD-has (x ∷ xs) zero d h = List·Memᴰ·head refl
+  getD-has (x ∷ xs) (suc i) d h = List·Memᴰ·tail (getD-has xs i d (omega arith))
+
+-- No number of a list exceeds the greatest.
+pub greatest-has : (xs : List ℕ) (x : ℕ) → List·Memᴰ x xs → x ≤ greatest xs
+greatest-has [] x m = absurd (List·Memᴰ·not-nil m)
+greatest-has (z ∷ xs) x m = go (greatest-has xs x) (List·Memᴰ·cases-cons m)
+  where
+    go : (List·Memᴰ x xs → x ≤ greatest xs) → (x ≡ z) ⊎ List·Memᴰ x xs → x ≤ greatest (z ∷ xs)
+    go rest (inl e) = omega (arith, e)
+    go rest (inr later) = omega (arith, rest later)

@@ -1,11 +1,11 @@
 -- The longest of the chains that end at some nodes: no chain exceeds it, and it is one of them. By induction on the nodes.
 use Prim.Native.Nat.{ℕ, _≤_, max}
-use mathlib.Core.Path.{_≡_, refl, ap, ap₂}
-use mathlib.Core.Logic.{_⊎_, inl, inr}
-use mathlib.Core.List.{List, [], _∷_, List·Memᴰ, List·Memᴰ·head, List·Memᴰ·tail, List·Memᴰ·not-nil, List·Memᴰ·cases-cons}
+use mathlib.Core.Path.{_≡_, refl, ap₂}
+use mathlib.Core.List.{List, [], _∷_, map, List·Memᴰ, List·Memᴰ·head, List·Memᴰ·tail}
 use native.Mathlib.Omega.{arith}
 use native.Mathlib.Decide.{decLe}
 use lib.ListN.{getD}
+use Rattle.basics.proofs.Members.{map-has, greatest-has}
 use Rattle.chains.specs.Chains.{longestAmong}
 
 -- One of the nodes, where the longest of their chains ends.
@@ -25,13 +25,8 @@ module _ (chains : List ℕ) where
   longest-first j nodes = refl
 
   pub longest-at : (nodes : List ℕ) (j : ℕ) → List·Memᴰ j nodes → getD chains j 0 ≤ longestAmong chains nodes
-  longest-at [] j m = absurd (List·Memᴰ·not-nil m)
-  longest-at (i ∷ nodes) j m = go (longest-at nodes j) (List·Memᴰ·cases-cons m)
-    where
-      go : (List·Memᴰ j nodes → getD chains j 0 ≤ longestAmong chains nodes) → (j ≡ i) ⊎ List·Memᴰ j nodes →
-          getD chains j 0 ≤ longestAmong chains (i ∷ nodes)
-      go rest (inl e) = omega (arith, longest-first i nodes, ap (λ (n : ℕ). getD chains n 0) e)
-      go rest (inr later) = omega (arith, longest-first i nodes, rest later)
+  unfolding longestAmong
+  longest-at nodes j m = greatest-has (map (λ j. getD chains j 0) nodes) (getD chains j 0) (map-has (λ j. getD chains j 0) nodes j m)
 
   pub longest-le : (b : ℕ) (nodes : List ℕ) → ((j : ℕ) → List·Memᴰ j nodes → getD chains j 0 ≤ b) → longestAmong chains nodes ≤ b
   longest-le b [] h = omega (arith, longest-none)

@@ -1,7 +1,7 @@
 -- Tick on a state: what one pass over the tasks finds and writes, and the tick's answer and state by it.
 use Prim.Native.Nat.{ℕ, zero, suc, _+_, _≤_, _<_}
 use mathlib.Core.Path.{_≡_, refl, sym, ap, ap₂, _∙_}
-use mathlib.Core.Bool.{Bool, true, false, cond, not, _&&_, _||_}
+use mathlib.Core.Bool.{Bool, true, false, cond, not, _&&_, _||_, or-false, or-assoc}
 use mathlib.Core.List.{List, [], _∷_, _++_, map}
 use mathlib.Core.Option.{Option, none, some}
 use native.Mathlib.Omega.{arith}
@@ -176,10 +176,6 @@ module _ (s : State) (long : s .count ≤ length (s .entries)) where
   pub switched-whole : (i : ℕ) → s .count ≤ i → switchedBelow s i ≡ map switchedRow (modelOf s .rows)
   switched-whole i h = ap (map switchedRow) (take-all i (modelOf s .rows) (omega (arith, model-length s long)))
 
-or-grouped : (a b c : Bool) → ((a || b) || c) ≡ (a || (b || c))
-or-grouped true b c = refl
-or-grouped false b c = refl
-
 -- The first i tasks are passed: they are sound, these are the sums of their shares, the task that reported wrongly, the late one,
 -- whether one of them has a high job, and the state with their parts of the tick.
 pub record Scanned (s : State) (reports : List ℕ) (i typical critical wrong late : ℕ) (high : Bool) (next : State) : Type 0 where
@@ -229,7 +225,7 @@ module _ (s : State) (reports : List ℕ) (long : s .count ≤ length (s .entrie
         lates = rw ls (found-more some late i reached _ _ _ small (rw r (late-open s reports long same i h)) (p .lates));
         highs =
             rw (hs, j)
-            (or-grouped high _ (highFrom s reports (i + 1)) ∙ ap (λ (t : Bool). high || t) (sym (high-open s reports long same i h)) ∙ p .highs);
+            (or-assoc high _ (highFrom s reports (i + 1)) ∙ ap (λ (t : Bool). high || t) (sym (high-open s reports long same i h)) ∙ p .highs);
         written =
             written-more s (s .critical) (tickedBelow s reports i) next i (tickedRow (rowOf (entryAt s i)) (getD reports i 0)) after (p .written)
             (ticked-below s long reports i (omega arith))
@@ -315,10 +311,6 @@ module _ (s : State) (reports : List ℕ) (long : s .count ≤ length (s .entrie
   alive : any hasHighJob (tickedRows (modelOf s .rows) reports) ≡ high
   unfolding modelOf highFrom
   alive = sym (p .highs) ∙ ap (λ (t : Bool). high || t) (high-end s reports long same i all) ∙ or-false high
-    where
-      or-false : (t : Bool) → (t || false) ≡ t
-      or-false true = refl
-      or-false false = refl
 
   whole : next ≡ writtenTo s (s .critical) (tickedRows (modelOf s .rows) reports)
   whole = p .written ∙ ap (writtenTo s (s .critical)) (ticked-whole s long reports i all)

@@ -23,6 +23,7 @@ use Rattle.model.specs.Beside.{ReleasesApart}
 use Rattle.model.proofs.Steps.{next, Turn, same, begins, ticks, TickAt, Settled, in-critical, in-typical, turns, turn, release-at}
 use Rattle.model.proofs.Lasting.{fixed-step, fixed-after, same-fixed, length-step}
 use Rattle.model.proofs.Fresh.{rows-after}
+use Rattle.model.proofs.Course.{zero-count}
 use Rattle.model.proofs.Released.{after-append, known-task, since-release, fixed-begun}
 
 -- A Release that refusal 13 lets pass finds the age at D.
@@ -87,17 +88,13 @@ none-before m (x ∷ calls) i known young = go (turn m i x known) (none-before (
     rest : rowAt (next m x) i .age + ticksIn (next m x) calls < rowAt (next m x) i .fixed .deadline
     rest = rw (same-fixed (next m x) m (fixed-step m x) i) (omega (arith, age-step m x i known))
 
-    zero-first : (b : Bool) → b ≡ false → releasesIn i (next m x) calls ≡ 0 → cond b 1 0 + releasesIn i (next m x) calls ≡ 0
-    zero-first true e z = absurd (false≢true (sym e))
-    zero-first false e z = omega arith
-
     go : Turn m i x →
         (rowAt (next m x) i .age + ticksIn (next m x) calls < rowAt (next m x) i .fixed .deadline →
         releasesIn i (next m x) calls ≡ 0) →
         releasesIn i m (x ∷ calls) ≡ 0
-    go (same t r mode e) then = zero-first (isReleaseOf i m x) r (then rest)
+    go (same t r mode e) then = zero-count (isReleaseOf i m x) _ r (then rest)
     go (begins e a at) then = absurd (omega (arith, release-aged m i (ap (isAccepted m) (sym e) ∙ a)))
-    go (ticks reports e a at) then = zero-first (isReleaseOf i m x) (ap (isReleaseOf i m) e) (then rest)
+    go (ticks reports e a at) then = zero-count (isReleaseOf i m x) _ (ap (isReleaseOf i m) e) (then rest)
 
 -- A count over two lists of calls, one after the other.
 count-append : (p : Model → Call → Bool) (m : Model) (before rest : List Call) →

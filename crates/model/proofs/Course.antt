@@ -61,8 +61,13 @@ pub count-zero : (t : Bool) (n : ℕ) → cond t 1 0 + n ≡ 0 → (t ≡ false)
 count-zero true n e = absurd (omega arith)
 count-zero false n e = (refl, omega arith)
 
+-- And the other way round.
+pub zero-count : (t : Bool) (n : ℕ) → t ≡ false → n ≡ 0 → cond t 1 0 + n ≡ 0
+zero-count true n e z = absurd (true≢false e)
+zero-count false n e z = omega arith
+
 -- The switch leaves a row whose job survives it.
-survivor-switched : (r : Row) → survives (r .fixed) ≡ true → switchedRow r ≡ r
+pub survivor-switched : (r : Row) → survives (r .fixed) ≡ true → switchedRow r ≡ r
 unfolding switchedRow
 survivor-switched r h =
     ap (λ (b : Bool). record { fixed = r .fixed; age = r .age; job = record { ended = r .job .ended; alive = b } })

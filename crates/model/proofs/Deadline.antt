@@ -28,7 +28,7 @@ use Rattle.model.proofs.Ending.{Moment, Ticked, Invariant, AtRelease, o
 use Rattle.model.proofs.Closing.{Closes, Bounded, closing}
 
 -- S8.6: the job of a high task survives a switch.
-high-survives : (f : Fixed) → isHigh (f .level) ≡ true → survives f ≡ true
+pub high-survives : (f : Fixed) → isHigh (f .level) ≡ true → survives f ≡ true
 unfolding survives
 high-survives f high = ap (λ (t : Bool). t || isKept (f .level) (f .share)) high
 

@@ -2,7 +2,7 @@
 -- Predecessors and ended nodes are tests here, so that nothing depends on how a state keeps them.
 use Prim.Native.Nat.{ℕ, _+_, _-_, _≤_, _<_}
 use mathlib.Core.Path.{_≡_, refl, ap, ap₂, _∙_, sym}
-use mathlib.Core.Bool.{Bool, true, false, not, _&&_, _||_, true≢false, false≢true}
+use mathlib.Core.Bool.{Bool, true, false, not, _&&_, _||_, true≢false, false≢true, or-false}
 use mathlib.Core.Logic.{_↔_, _⊎_, inl, inr}
 use native.Mathlib.Omega.{arith}
 use native.Mathlib.Nat.{add-zero}
@@ -149,10 +149,6 @@ ended-same len c d v e = ap (leb (len v)) e
 -- A count n that grows by one where t says so: it has reached l if it had before, or if this brings it up to l.
 ended-step : (l n : ℕ) (t : Bool) → (t ≡ true → n < l) → leb l (n + bit t) ≡ (leb l n || (t && eqb (n + bit t) l))
 ended-step l n false h = rw add-zero (sym (or-false (leb l n)))
-  where
-    or-false : (x : Bool) → (x || false) ≡ x
-    or-false true = refl
-    or-false false = refl
 ended-step l n true h = rw (lt-leb l n (h refl)) (go (ℕ-discrete (n + 1) l))
   where
     go : Dec (n + 1 ≡ l) → leb l (n + 1) ≡ eqb (n + 1) l

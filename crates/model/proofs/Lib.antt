@@ -21,5 +21,6 @@ pub mod Low
 pub mod Kept
 pub mod Nominal
 pub mod Return
+pub mod Alive
 pub mod Back
 pub mod Theorem

@@ -24,7 +24,7 @@ use Rattle.model.specs.Claim.{ReleaseIn, begun, KeepsBudget, JobWithin, 
 use Rattle.model.proofs.Steps.{next, accepted-step, refused-step, length-ticked, get-ticked, tick-tests, tick-at, Turn, same, begins, ticks, turn}
 use Rattle.model.proofs.Lasting.{fixed-step, same-fixed, length-step}
 use Rattle.model.proofs.Fresh.{fresh-length, fresh-row}
-use Rattle.model.proofs.Released.{plannedFixed, high-fixed, known-task, live-at-release, fixed-begun}
+use Rattle.model.proofs.Released.{later-release, first-release, plannedFixed, high-fixed, known-task, live-at-release, fixed-begun}
 use Rattle.model.proofs.Job.{Live, AfterTick, goes-on, ends, TypicalBelow, typical-below}
 use Rattle.model.proofs.Course.{TrueFrom, true-from-start, ranAfter, true-from-next, Moved, rests, works, dropped, ended, part-step, live-step, dead-step}
 
@@ -163,16 +163,6 @@ quiet-step m (release i) calls calm = go (isAccepted m (release i)) refl
         }
     go false a = quiet-refused m (release i) (calm .typical) a
 
--- A Release of the rest of the list is one of the list.
-later : (m : Model) (x : Call) (calls : List Call) (i : ℕ) → ReleaseIn (next m x) i calls → ReleaseIn m i (x ∷ calls)
-later m x calls i job =
-    record {
-      before = x ∷ job .before;
-      since = job .since;
-      list = ap (λ (l : List Call). x ∷ l) (job .list);
-      accepted = job .accepted;
-    }
-
 honest-next : (m : Model) (x : Call) (calls : List Call) (i : ℕ) → i < length (m .rows) → m .critical ≡ false →
     next m x .critical ≡ false → isReleaseOf i m x ≡ false → rowAt (next m x) i .job .alive ≡ true → Honest i m (x ∷ calls) → Honest i (next m x) calls
 honest-next m x calls i known before-typical typical no-release alive h =
@@ -204,12 +194,12 @@ honest-next m x calls i known before-typical typical no-release alive h =
     go (ended o) = absurd (true≢false (sym alive ∙ o .gone))
 
 calm-next : (m : Model) (x : Call) (calls : List Call) → Calm m (x ∷ calls) → Calm (next m x) calls
-unfolding begun later
+unfolding begun later-release first-release
 calm-next m x calls calm =
     record {
       typical = quiet-step m x calls calm .typical;
       alive = λ i known high alive. at i (rw (length-step m x) at known) (rw (fixed i) at high) alive;
-      coming = λ i job high. calm .coming i (later m x calls i job) (rw (fixed i) at high);
+      coming = λ i job high. calm .coming i (later-release m x calls i job) (rw (fixed i) at high);
     }
   where
     fixed : (i : ℕ) → rowAt (next m x) i .fixed ≡ rowAt m i .fixed
@@ -230,14 +220,7 @@ calm-next m x calls calm =
         go (same t r mode e) = goes r
         go (begins e a at) =
             subst (λ (y : Call). Honest i (next m y) calls) (sym e)
-            (calm .coming i
-            (record {
-              before = [];
-              since = calls;
-              list = ap (λ (y : Call). y ∷ calls) e;
-              accepted = ap (isAccepted m) (sym e) ∙ a;
-            })
-            high)
+            (calm .coming i (first-release m x calls i e a) high)
         go (ticks reports e a at) = goes (ap (isReleaseOf i m) e)
 
 calm-stays : (m : Model) (calls : List Call) → Calm m calls → StaysTypical m calls

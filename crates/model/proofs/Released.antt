@@ -25,6 +25,21 @@ pub after-append : (m : Model) (before rest : List Call) → after m (before ++ 
 after-append m [] rest = refl
 after-append m (c ∷ before) rest = after-append (next m c) before rest
 
+-- A Release of the rest of a list is one of the list.
+unfoldable pub later-release : (m : Model) (x : Call) (calls : List Call) (i : ℕ) → ReleaseIn (next m x) i calls → ReleaseIn m i (x ∷ calls)
+later-release m x calls i job =
+    record {
+      before = x ∷ job .before;
+      since = job .since;
+      list = ap (λ (l : List Call). x ∷ l) (job .list);
+      accepted = job .accepted;
+    }
+
+-- So is a Release with which the list begins.
+unfoldable pub first-release : (m : Model) (x : Call) (calls : List Call) (i : ℕ) → x ≡ release i → isAccepted m x ≡ true → ReleaseIn m i (x ∷ calls)
+first-release m x calls i e a =
+    record { before = []; since = calls; list = ap (λ (y : Call). y ∷ calls) e; accepted = ap (isAccepted m) (sym e) ∙ a }
+
 -- What the plan fixes of task i.
 abbrev pub plannedFixed : TaskSet → List Share → ℕ → Fixed
 plannedFixed ts shares i = freshRow (taskIn ts i) (shareAt shares i) .fixed

@@ -1,8 +1,8 @@
 -- S10.12: a tick returns just where it finds the mode critical and leaves no high job alive; then every task may be released.
-use Prim.Native.Nat.{ℕ, suc, _≤_, _<_}
-use mathlib.Core.Path.{_≡_, refl, sym, ap, ap₂, _∙_}
+use Prim.Native.Nat.{ℕ, _≤_, _<_}
+use mathlib.Core.Path.{_≡_, refl, sym, ap, _∙_}
 use mathlib.Core.Bool.{Bool, true, false, cond, not, _&&_, _||_, false≢true}
-use mathlib.Core.List.{List, [], _∷_}
+use mathlib.Core.List.{List}
 use mathlib.Core.Option.{Option, none, some}
 use native.Mathlib.Omega.{arith}
 use native.Mathlib.Decide.{decLt, decLe}
@@ -10,20 +10,15 @@ use borrow.Author.Tests.{le-leb, lt-leb, lt-ltb, le-ltb}
 use lib.Dec.{leb, ltb}
 use lib.ListN.{length, getD}
 use Rattle.basics.specs.Lists.{any, isNone}
+use Rattle.basics.proofs.Lists.{any-none, none-any}
 use Rattle.sheet.specs.Level.{isHigh}
 use Rattle.model.specs.Row.{Row, hasHighJob}
 use Rattle.model.specs.Step.{Model, release, tick, Refusal, refusal, Step, step, stepBy, returned, tooEarly, rowAt, noRow, releaseRefusal, refusalOf, tickedRows, lowestLate, switchedTo, returnedTo, turning, ticked}
 use Rattle.model.specs.Run.{isAccepted}
 use Rattle.model.specs.Claim.{isReturned}
 use Rattle.model.specs.Return.{MayReturn, OpenToAll, ReturnLaw}
-use Rattle.model.proofs.Steps.{next, accepted-step, length-ticked, high-none, returned-rows}
+use Rattle.model.proofs.Steps.{next, accepted-step, length-ticked, returned-rows}
 use Rattle.model.proofs.Lasting.{fixed-step, same-fixed, no-row}
-
--- No high job is alive if each task has none.
-high-none-intro : (rows : List Row) → ((i : ℕ) → i < length rows → hasHighJob (getD rows i noRow) ≡ false) → any hasHighJob rows ≡ false
-high-none-intro [] h = refl
-high-none-intro (r ∷ rows) h =
-    ap₂ _||_ (h 0 (omega arith)) (high-none-intro rows (λ i b. h (suc i) (omega arith)))
 
 -- A high task without an alive job, and a task that is not high, have no high job.
 high-gone : (r : Row) → (isHigh (r .fixed .level) ≡ true → r .job .alive ≡ false) → hasHighJob r ≡ false
@@ -76,7 +71,7 @@ critical-tick m reports accepted critical =
     accepted-step m (tick reports) accepted ∙ ap (λ (t : Bool). turning t (tickedRows (m .rows) reports)) critical
 
 -- Its rows are those of the tick, whether it returns or not.
-pub critical-rows : (m : Model) (reports : List ℕ) → isAccepted m (tick reports) ≡ true → m .critical ≡ true →
+critical-rows : (m : Model) (reports : List ℕ) → isAccepted m (tick reports) ≡ true → m .critical ≡ true →
     step m (tick reports) .model .rows ≡ tickedRows (m .rows) reports
 critical-rows m reports accepted critical =
     ap (λ (s : Step). s .model .rows) (critical-tick m reports accepted critical)
@@ -101,7 +96,7 @@ may-return m reports r =
     at i high (yes h) =
         gone-high (rowAt after i)
         (ap (λ (rows : List Row). hasHighJob (getD rows i noRow)) (critical-rows m reports (r .accepted) (r .critical))
-        ∙ high-none (tickedRows (m .rows) reports) i (r .none) (rw (length-ticked (m .rows) reports) h))
+        ∙ any-none hasHighJob noRow (tickedRows (m .rows) reports) i (r .none) (rw (length-ticked (m .rows) reports) h))
         (rw (fixed i) high)
     at i high (no h) =
         ap (λ (row : Row). row .job .alive)
@@ -114,7 +109,7 @@ from-may m reports r =
       accepted = r .accepted;
       critical = r .critical;
       none =
-          high-none-intro (tickedRows (m .rows) reports)
+          none-any hasHighJob noRow (tickedRows (m .rows) reports)
           (λ i h.
           ap (λ (rows : List Row). hasHighJob (getD rows i noRow)) (sym (critical-rows m reports (r .accepted) (r .critical)))
           ∙ high-gone (rowAt after i) (λ high. r .over i (rw (same-fixed after m (fixed-step m (tick reports)) i) at high)));
@@ -142,7 +137,7 @@ open-typical m typical =
     go i false (no h) =
         rw (lt-leb (rowAt m i .fixed .deadline) (rowAt m i .age) (omega arith), lt-ltb (rowAt m i .age) (rowAt m i .fixed .deadline) (omega arith))
 
-pub returned-step : (m : Model) (reports : List ℕ) → Returning m reports →
+returned-step : (m : Model) (reports : List ℕ) → Returning m reports →
     step m (tick reports) ≡ returnedTo (tickedRows (m .rows) reports) false
 returned-step m reports r =
     critical-tick m reports (r .accepted) (r .critical) ∙ ap (returnedTo (tickedRows (m .rows) reports)) (r .none)

@@ -10,7 +10,7 @@ use borrow.Author.Tests.{eqb-true, leb-false, eq-eqb, ne-eqb}
 use lib.Dec.{eqb, leb}
 use lib.ListN.{length, getD, List·getD-map}
 use lib.Seq.{getD-set-same, getD-set-other}
-use Rattle.basics.proofs.Logic.{left-false, right-false}
+use Rattle.basics.proofs.Lists.{any-none}
 use Rattle.model.specs.Row.{Row, isSubset, runningSet, releasedRow, tickedRow, hasHighJob, isLate, switchedRow}
 use Rattle.sheet.specs.Answers.{noTask}
 use Rattle.model.specs.Step.{Model, Call, release, tick, Refusal, refusal, unknownTask, wrongCount, Step, step, stepBy, rowAt, noRow, granted, releaseRefusal, reportRefusal, tickRefusal, refusalOf, released, tickedRows, lowestLate, switchedTo, returnedTo, turning, ticked}
@@ -76,17 +76,12 @@ switched-noRow = refl
 get-switched : (rows : List Row) (i : ℕ) → getD (map switchedRow rows) i noRow ≡ switchedRow (getD rows i noRow)
 get-switched rows i = ap (getD (map switchedRow rows) i) (sym switched-noRow) ∙ List·getD-map switchedRow rows i noRow
 
--- Where no high job is alive, none is late.
-pub high-none : (rows : List Row) (i : ℕ) → any hasHighJob rows ≡ false → i < length rows → hasHighJob (getD rows i noRow) ≡ false
-high-none [] i e h = absurd (omega arith)
-high-none (r ∷ rows) zero e h = left-false (hasHighJob r) (any hasHighJob rows) e
-high-none (r ∷ rows) (suc i) e h = high-none rows i (right-false (hasHighJob r) (any hasHighJob rows) e) (omega arith)
-
 -- S8.9: a return leaves every row as it is.
 pub returned-rows : (rows : List Row) → returnedTo rows false .model .rows ≡ rows
 returned-rows [] = refl
 returned-rows (r ∷ rows) = ap (λ (rs : List Row). r ∷ rs) (returned-rows rows)
 
+-- Where no high job is alive, none is late.
 early-none : (r : Row) → hasHighJob r ≡ false → isLate r ≡ false
 unfolding isLate
 early-none r e = false-and (hasHighJob r) _ e
@@ -104,7 +99,7 @@ settle true rows i h = high (any hasHighJob rows) refl
   where
     high : (t : Bool) → any hasHighJob rows ≡ t → Settled (returnedTo rows t .model) i (getD rows i noRow)
     high true e = in-critical refl refl
-    high false e = in-typical refl (ap (λ (rs : List Row). getD rs i noRow) (returned-rows rows)) (early-none (getD rows i noRow) (high-none rows i e h))
+    high false e = in-typical refl (ap (λ (rs : List Row). getD rs i noRow) (returned-rows rows)) (early-none (getD rows i noRow) (any-none hasHighJob noRow rows i e h))
 settle false rows i h = late (lowestLate 0 rows) refl
   where
     late : (o : Option ℕ) → lowestLate 0 rows ≡ o → Settled (switchedTo rows o .model) i (getD rows i noRow)

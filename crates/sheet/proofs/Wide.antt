@@ -1,6 +1,6 @@
 -- S2.14: what a level says that is not wide, and the wide form of a level.
 use Prim.Native.Nat.{ℕ, _+_, _≤_, _<_}
-use mathlib.Core.Bool.{Bool, true, false, _||_}
+use mathlib.Core.Bool.{Bool, true, false, or-false}
 use mathlib.Core.Path.{_≡_, refl, sym, _∙_}
 use native.Mathlib.Omega.{arith}
 use lib.Dec.{leb, eqb}
@@ -10,10 +10,6 @@ use Rattle.sheet.specs.Level.{levelLawful, isHigh, isWide, figureLimit, 
 use Rattle.sheet.specs.Format.{figureAt}
 use Rattle.sheet.specs.Encoding.{figureBytes}
 use Rattle.sheet.specs.Wide.{wideLevel, NarrowLevels, WideLevel, WideLevels}
-
-or-false : (t : Bool) → (t || false) ≡ t
-or-false true = refl
-or-false false = refl
 
 -- A level that is not wide lies below 16.
 narrow-below : (level : ℕ) → isWide level ≡ false → level < 16
