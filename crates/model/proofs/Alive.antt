@@ -22,12 +22,12 @@ use Rattle.model.specs.Run.{after, isReleaseOf, ticksIn, releasesIn, Tru
 use Rattle.model.specs.Plan.{freshRow, fresh, Planned}
 use Rattle.model.specs.Claim.{ReleaseIn, begun, JobWithin, HighJobsWithin}
 use Rattle.model.specs.Return.{longestDeadline}
-use Rattle.model.proofs.Steps.{next, Turn, same, begins, ticks, turn}
+use Rattle.model.proofs.Steps.{next, Turn, same, begins, ticks, turn, zero-count}
 use Rattle.model.proofs.Lasting.{length-step}
 use Rattle.model.proofs.Fresh.{fresh-length, fresh-row, rows-after, fixed-at}
 use Rattle.model.proofs.Released.{later-release, first-release, plannedFixed, since-release}
 use Rattle.model.proofs.Apart.{age-after, age-begun, row-known}
-use Rattle.model.proofs.Course.{zero-count, dead-step}
+use Rattle.model.proofs.Course.{dead-step}
 use Rattle.model.proofs.Deadline.{high-over}
 
 -- Where the alive job of task i after a list of calls began: before them, and none of the task is released in them; or with a Release

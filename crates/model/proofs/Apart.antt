@@ -20,11 +20,10 @@ use Rattle.model.specs.Run.{after, isAccepted, isTick, isReleaseOf, coun
 use Rattle.model.specs.Plan.{freshRow, fresh, Planned}
 use Rattle.model.specs.Claim.{ReleaseIn, begun, DeadlinePassed}
 use Rattle.model.specs.Beside.{ReleasesApart}
-use Rattle.model.proofs.Steps.{next, Turn, same, begins, ticks, TickAt, Settled, in-critical, in-typical, turns, turn, release-at}
+use Rattle.model.proofs.Steps.{next, after-append, zero-count, Turn, same, begins, ticks, TickAt, Settled, in-critical, in-typical, turns, turn, release-at}
 use Rattle.model.proofs.Lasting.{fixed-step, fixed-after, same-fixed, length-step}
 use Rattle.model.proofs.Fresh.{rows-after}
-use Rattle.model.proofs.Course.{zero-count}
-use Rattle.model.proofs.Released.{after-append, known-task, since-release, fixed-begun}
+use Rattle.model.proofs.Released.{known-task, since-release, fixed-begun}
 
 -- A Release that refusal 13 lets pass finds the age at D.
 release-aged : (m : Model) (i : ℕ) → isAccepted m (release i) ≡ true → rowAt m i .fixed .deadline ≤ rowAt m i .age

@@ -18,9 +18,8 @@ use Rattle.model.specs.Run.{after, isAccepted, isTick, ticksIn}
 use Rattle.model.specs.Plan.{fresh, Planned}
 use Rattle.model.specs.Claim.{isSwitched, isReturned}
 use Rattle.model.specs.Return.{longestDeadline, turned, isHighRelease, waitsForReturn, ReturnWithin, BackInTime}
-use Rattle.model.proofs.Steps.{next, accepted-step, tick-at, Turn, same, begins, ticks, turn}
+use Rattle.model.proofs.Steps.{next, after-append, accepted-step, tick-at, Turn, same, begins, ticks, turn}
 use Rattle.model.proofs.Lasting.{fixed-step, same-fixed, length-step}
-use Rattle.model.proofs.Released.{after-append}
 use Rattle.model.proofs.Apart.{age-tick}
 use Rattle.model.proofs.Course.{survivor-switched}
 use Rattle.model.proofs.Deadline.{high-survives}

@@ -15,7 +15,7 @@ use Rattle.model.specs.Row.{Row, runningSet, joined, tickedRow, isLate, 
 use Rattle.model.specs.Step.{Model, Call, tick, rowAt, granted, runningAt}
 use Rattle.model.specs.Run.{after, isAccepted, isTick, isReleaseOf, releasesIn, isRunning, runsOn, runsIn, isDue, TrueReports}
 use Rattle.model.proofs.Nodes.{all-ended-at, all-ended-intro}
-use Rattle.model.proofs.Steps.{next, Turn, same, begins, ticks, TickAt, Settled, in-critical, in-typical, turns, turn, release-of, false-and}
+use Rattle.model.proofs.Steps.{next, Turn, same, begins, ticks, TickAt, Settled, in-critical, in-typical, turns, turn, release-of, false-and, count-zero}
 use Rattle.model.proofs.Lasting.{length-step, kept-by-call}
 use Rattle.model.proofs.Job.{pace, Live, Over, OneMore, AfterTick, goes-on, ends, live-tick}
 
@@ -55,16 +55,6 @@ true-from-next i len c m x calls none h before reports rest e z a v =
 granted-paced : (m : Model) (i : ℕ) → granted m i ≡ shareIn (m .critical) (pace (rowAt m i .fixed))
 unfolding granted
 granted-paced m i = refl
-
--- A count of calls that is 0 has none of its calls, neither the first nor among the rest.
-pub count-zero : (t : Bool) (n : ℕ) → cond t 1 0 + n ≡ 0 → (t ≡ false) × (n ≡ 0)
-count-zero true n e = absurd (omega arith)
-count-zero false n e = (refl, omega arith)
-
--- And the other way round.
-pub zero-count : (t : Bool) (n : ℕ) → t ≡ false → n ≡ 0 → cond t 1 0 + n ≡ 0
-zero-count true n e z = absurd (true≢false e)
-zero-count false n e z = omega arith
 
 -- The switch leaves a row whose job survives it.
 pub survivor-switched : (r : Row) → survives (r .fixed) ≡ true → switchedRow r ≡ r

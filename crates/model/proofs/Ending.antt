@@ -15,13 +15,13 @@ use Rattle.model.specs.Run.{after, isTick, isReleaseOf, ticksIn, release
 use Rattle.sheet.specs.Format.{taskIn}
 use Rattle.model.specs.Plan.{freshRow, fresh, Planned}
 use Rattle.model.specs.Claim.{ReleaseIn, begun, KeepsBudget, Ended, DeadlinePassed}
-use Rattle.model.proofs.Steps.{next}
+use Rattle.model.proofs.Steps.{next, count-zero}
 use Rattle.model.proofs.Lasting.{fixed-step, same-fixed, length-step}
 use Rattle.model.proofs.Fresh.{rows-after}
 use Rattle.model.proofs.Job.{Live, Over, OneMore}
 use Rattle.model.proofs.Released.{plannedFixed, known-task, live-at-release, since-release, fixed-begun, over-ended}
 use Rattle.model.proofs.Apart.{alone-since, ticks-since}
-use Rattle.model.proofs.Course.{TrueFrom, true-from-start, ranAfter, true-from-next, count-zero, over-after, Moved, rests, works, dropped, ended, live-step}
+use Rattle.model.proofs.Course.{TrueFrom, true-from-start, ranAfter, true-from-next, over-after, Moved, rests, works, dropped, ended, live-step}
 
 module _ (len : ℕ → ℕ) (work span i : ℕ) (f : Fixed) where
   -- A moment of an alive job of task i, of which f is fixed.

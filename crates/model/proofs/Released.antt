@@ -1,6 +1,6 @@
 -- A job at its release in a list of calls from the fresh model: its task is known, its row is that of the plan, and it is live.
 use Prim.Native.Nat.{ℕ, _<_}
-use mathlib.Core.Path.{_≡_, refl, sym, ap, subst, _∙_}
+use mathlib.Core.Path.{_≡_, sym, ap, subst, _∙_}
 use mathlib.Core.Bool.{Bool, true, cond, not}
 use mathlib.Core.List.{List, [], _∷_, _++_}
 use Rattle.sheet.specs.declared.task.Budget.{Budget}
@@ -17,13 +17,9 @@ use Rattle.sheet.specs.Format.{taskIn}
 use Rattle.shares.specs.Totals.{shareAt}
 use Rattle.model.specs.Plan.{freshRow, fresh, Planned}
 use Rattle.model.specs.Claim.{ReleaseIn, begun, KeepsBudget, Ended}
-use Rattle.model.proofs.Steps.{next, release-at}
+use Rattle.model.proofs.Steps.{next, after-append, release-at}
 use Rattle.model.proofs.Fresh.{rows-after, fixed-at, kept-sound}
 use Rattle.model.proofs.Job.{Downwards, Live, Over, begun-live}
-
-pub after-append : (m : Model) (before rest : List Call) → after m (before ++ rest) ≡ after (after m before) rest
-after-append m [] rest = refl
-after-append m (c ∷ before) rest = after-append (next m c) before rest
 
 -- A Release of the rest of a list is one of the list.
 unfoldable pub later-release : (m : Model) (x : Call) (calls : List Call) (i : ℕ) → ReleaseIn (next m x) i calls → ReleaseIn m i (x ∷ calls)

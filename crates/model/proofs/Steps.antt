@@ -2,7 +2,7 @@
 use Prim.Native.Nat.{ℕ, zero, suc, _+_, _<_}
 use mathlib.Core.Path.{_≡_, refl, sym, ap, ap₂, subst₂, _∙_}
 use mathlib.Core.Bool.{Bool, true, false, cond, _&&_, true≢false, false≢true, and-false}
-use mathlib.Core.List.{List, [], _∷_, map}
+use mathlib.Core.List.{List, [], _∷_, _++_, map}
 use mathlib.Core.Option.{Option, none, some}
 use native.Mathlib.Omega.{arith}
 use native.Mathlib.Decide.{ℕ-discrete}
@@ -20,6 +20,20 @@ use Rattle.model.specs.Run.{after, isAccepted, isTick, isReleaseOf}
 -- The model after one call.
 abbrev pub next : Model → Call → Model
 next m c = step m c .model
+
+pub after-append : (m : Model) (before rest : List Call) → after m (before ++ rest) ≡ after (after m before) rest
+after-append m [] rest = refl
+after-append m (c ∷ before) rest = after-append (next m c) before rest
+
+-- A count of calls that is 0 has none of its calls, neither the first nor among the rest.
+pub count-zero : (t : Bool) (n : ℕ) → cond t 1 0 + n ≡ 0 → (t ≡ false) × (n ≡ 0)
+count-zero true n e = absurd (omega arith)
+count-zero false n e = (refl, omega arith)
+
+-- And the other way round.
+pub zero-count : (t : Bool) (n : ℕ) → t ≡ false → n ≡ 0 → cond t 1 0 + n ≡ 0
+zero-count true n e z = absurd (true≢false e)
+zero-count false n e z = omega arith
 
 pub false-and : (x y : Bool) → x ≡ false → (x && y) ≡ false
 false-and x y e = ap (λ (t : Bool). t && y) e
@@ -106,6 +120,26 @@ settle false rows i h = late (lowestLate 0 rows) refl
     late none e = in-typical refl refl (none-late 0 rows i e h)
     late (some j) e = turns refl (get-switched rows i)
 
+-- What a tick makes of a row by the mode before it and the mode after it: the switch is a turn from the typical to the critical one.
+abbrev pub turnedRow : Bool → Bool → Row → Row
+turnedRow true after r = r
+turnedRow false true r = switchedRow r
+turnedRow false false r = r
+
+turned-row : (critical : Bool) (rows : List Row) (i : ℕ) →
+    rowAt (turning critical rows .model) i ≡ turnedRow critical (turning critical rows .model .critical) (getD rows i noRow)
+unfolding rowAt
+turned-row true rows i = high (any hasHighJob rows)
+  where
+    high : (t : Bool) → getD (returnedTo rows t .model .rows) i noRow ≡ getD rows i noRow
+    high true = refl
+    high false = ap (λ (rs : List Row). getD rs i noRow) (returned-rows rows)
+turned-row false rows i = late (lowestLate 0 rows)
+  where
+    late : (o : Option ℕ) → getD (switchedTo rows o .model .rows) i noRow ≡ turnedRow false (switchedTo rows o .model .critical) (getD rows i noRow)
+    late none = refl
+    late (some j) = get-switched rows i
+
 -- An accepted tick, as task i sees it.
 pub record TickAt (m : Model) (i : ℕ) (reports : List ℕ) : Type 0 where
   pub named : isSubset (getD reports i 0) (runningSet (granted m i) (rowAt m i)) ≡ true
@@ -183,12 +217,28 @@ tick-at m i reports e h =
           (settle (m .critical) (tickedRows (m .rows) reports) i (rw (length-ticked (m .rows) reports) h));
     }
 
+-- What an accepted tick leaves of task i is told by its report and the modes before and after.
+pub tick-row : (m : Model) (i : ℕ) (reports : List ℕ) → isAccepted m (tick reports) ≡ true → i < length (m .rows) →
+    rowAt (next m (tick reports)) i ≡ turnedRow (m .critical) (next m (tick reports) .critical) (tickedRow (rowAt m i) (getD reports i 0))
+unfolding rowAt ticked
+tick-row m i reports e h =
+    let tests = tick-tests m reports e in
+    subst₂ (λ (n : Model) (r : Row). rowAt n i ≡ turnedRow (m .critical) (n .critical) r)
+    (sym (ap (λ (s : Step). s .model) (accepted-step m (tick reports) e)))
+    (get-ticked (m .rows) reports i (tests .0) h)
+    (turned-row (m .critical) (tickedRows (m .rows) reports) i)
+
+-- A Release leaves the mode.
+pub release-mode : (m : Model) (i : ℕ) → isAccepted m (release i) ≡ true → next m (release i) .critical ≡ m .critical
+unfolding released
+release-mode m i e = ap (λ (s : Step). s .model .critical) (accepted-step m (release i) e)
+
 -- A Release of another task leaves the row and the mode.
 release-other : (m : Model) (i j : ℕ) → isAccepted m (release j) ≡ true → (i ≡ j → ⊥) →
     (next m (release j) .critical ≡ m .critical) × (rowAt (next m (release j)) i ≡ rowAt m i)
 unfolding rowAt released
 release-other m i j e other = (
-  ap (λ (s : Step). s .model .critical) (accepted-step m (release j) e),
+  release-mode m j e,
   ap (λ (s : Step). rowAt (s .model) i) (accepted-step m (release j) e)
       ∙ getD-set-other (m .rows) j i (releasedRow (rowAt m j)) noRow other,
 )
