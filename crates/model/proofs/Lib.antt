@@ -9,6 +9,8 @@ pub mod Starts
 pub mod Steps
 pub mod Lasting
 pub mod Fresh
+pub mod TickCounts
+pub mod Isolation
 pub mod Capacity
 pub mod Job
 pub mod Course
