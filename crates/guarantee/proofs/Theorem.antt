@@ -60,7 +60,7 @@ module _ (sheet : List ℕ) (accepted : startOf sheet .answer ≡ Accepted) wher
   unfolding modelFor
   state-model = rw state-is (fresh-model (tasksFor sheet) lawful (sharesFor sheet) shared (allocatedOf sheet .allocations) fixed)
 
-  sheet-planned : Planned (tasksFor sheet) (sharesFor sheet)
+  pub sheet-planned : Planned (tasksFor sheet) (sharesFor sheet)
   sheet-planned = planned (tasksFor sheet) lawful (sharesFor sheet) shared
 
   guaranteed : (calls : List Call) → Guaranteed sheet calls

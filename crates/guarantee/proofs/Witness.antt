@@ -1,5 +1,5 @@
--- What S10.7, S10.9 to S10.11 and S10.13 ask can be met. The sheets are read and planned by computation; their models are run by computation,
--- and the reports pass the test of true ones.
+-- What S10.7, S10.9 to S10.11 and S10.13 ask can be met. The models of the sheets are run by computation, and the reports pass the test
+-- of true ones.
 use Prim.Native.Nat.{ℕ, zero, suc, _+_, _≤_, _<_}
 use mathlib.Core.Bool.{true, true≢false, Bool, false≢true}
 use mathlib.Core.List.{List, [], _∷_, _++_}
@@ -12,25 +12,16 @@ use Rattle.sheet.specs.declared.answer.Answer.the-variants.{Accepted}
 use Rattle.sheet.specs.declared.task.Budget.{Budget}
 use Rattle.sheet.specs.declared.task.Task.{Task}
 use Rattle.sheet.specs.declared.task.TaskSet.{TaskSet}
-use Rattle.sheet.specs.Answers.{_orElse_, firstOver}
-use Rattle.basics.specs.Numbers.{byteAt, u16At, u32At}
-use Rattle.basics.specs.Lists.{cellsFrom, allBelow, range}
-use Rattle.sheet.specs.Format.{processorsOf, countOf, offsetOf, lengthOf, levelAt, nodesAt, figureAt, figuresAt, masksAt, taskAt, zeroTask, tasksBelow, taskSetOf, taskIn, placeOf}
-use Rattle.sheet.specs.Level.{levelLawful, isLow, isHigh, bytesBeforeMasks, figureLimit, isWide}
-use Rattle.sheet.specs.Rules.{shapeLawful, inRange, inOrder, lowLawful, figuresLawful, maskLawful, masksLawful, isHeavy, taskAnswer}
-use Rattle.reader.specs.declared.Reading.{Reading}
-use Rattle.reader.specs.Reading.{headerLawful, headerAnswer, placeAnswer, endAnswer, shapeAnswer, recordAnswer, readOf, readAnswer}
+use Rattle.basics.specs.Lists.{range}
+use Rattle.sheet.specs.Format.{taskIn}
+use Rattle.sheet.specs.Level.{isLow, isHigh}
 use Rattle.shares.specs.declared.share.Share.{Share}
-use Rattle.shares.specs.Test.{excess, demand, passes, divisionOf, virtualDeadline}
-use Rattle.shares.specs.Low.{ceilDiv, lowShare, hasLowShare, isKept}
+use Rattle.shares.specs.Test.{divisionOf, virtualDeadline}
+use Rattle.shares.specs.Low.{isKept}
 use Rattle.shares.specs.Totals.{shareAt}
 use Rattle.shares.specs.Deadline.{virtualDeadlineOf}
 use Rattle.nodes.specs.Sets.{has}
 use Rattle.nodes.proofs.Bits.{has-zero, has-power}
-use Rattle.basics.specs.Order.{leastBy}
-use Rattle.allocation.specs.Choice.{lowOptions, pairsWithin, highOptions, optionsOf, fits, fitting, chosen}
-use Rattle.keeping.specs.Kept.{lowNumbers, holdable, firstHeld, typicalShareAt, leftOver, keptTasks, keptShare, withKept}
-use Rattle.allocation.specs.Allocation.{chosenFor, shareAnswer, choiceAnswer, sharesWith, sharesOf, allocationAnswer}
 use Rattle.model.specs.Budget.{sumBelow, Chain, alone, link, along}
 use Rattle.model.specs.Row.{isSubset, allEnded, predecessorsOf, precedes, isReady, ready, running, runningSet, releasedRow, joined, tickedRow, hasHighJob, isLate, survives, switchedRow}
 use Rattle.model.specs.Step.{Model, Call, release, tick, switched, step, rowAt, granted, runningAt, unknownTask, lowInCritical, tooEarly, wrongCount, notRunning, releaseRefusal, tickRefusal, released, ticked}
@@ -43,96 +34,21 @@ use Rattle.start.specs.Start.{startOf}
 use Rattle.guarantee.specs.Runs.{allModelSaid}
 use Rattle.guarantee.specs.Guarantee.{sharesFor, modelFor, Guarantee, BesideGuarantee, tasksFor}
 use Rattle.guarantee.specs.Witness.{twoTasks, highTask, longLengths, overrun, overrunSaid, shortLengths, usual, lowTask, lowAlone, oneKept, keptTask, keptLengths, overSwitch, keptAgain, keptAgainSaid, thereAndBack, thereAndBackSaid, InTimeAsked, DeadlineMet, NominalMet, LowMet, KeptMet, BackMet}
-use Rattle.guarantee.proofs.Theorem.{answer-returned, guarantee, beside-guarantee}
+use Rattle.guarantee.proofs.Theorem.{guarantee, beside-guarantee}
+use Rattle.guarantee.proofs.WitnessSheets.{high, low, kept, both, pairs, withOneKept, keptPairs, set-of, shares-of, model-of, start-accepts, sheets}
 use Rattle.guarantee.proofs.Truths.{allTrue, true-reports, allTypical, typical-until, at-releases}
 
--- The tasks of the sheets, and their shares.
-abbrev high : Task
-high =
-    record {
-      level = 1;
-      nodes = 4;
-      figures =
-          record { deadline = 8; nominal = record { work = 4; span = 2 }; overload = record { work = 9; span = 3 } };
-      predecessors = 0 ∷ 0 ∷ 2 ∷ replicate 29 0;
-    }
-
--- A low task whose nodes wait for none.
-abbrev lowOf : ℕ → ℕ → ℕ → ℕ → Task
-lowOf nodes deadline work span =
-    record {
-      level = 0;
-      nodes = nodes;
-      figures =
-          record {
-            deadline = deadline;
-            nominal = record { work = work; span = span };
-            overload = record { work = work; span = span };
-          };
-      predecessors = replicate 32 0;
-    }
-
-abbrev low : Task
-low = lowOf 2 3 4 1
-
-abbrev kept : Task
-kept = lowOf 3 4 6 2
-
-abbrev both : TaskSet
-both = record { processors = 3; count = 2; tasks = high ∷ low ∷ replicate 14 zeroTask }
-
-abbrev pairs : List Share
-pairs = record { typical = 1; critical = 2 } ∷ record { typical = 2; critical = 0 } ∷ []
-
-abbrev withOneKept : TaskSet
-withOneKept = record { processors = 4; count = 2; tasks = high ∷ kept ∷ replicate 14 zeroTask }
-
-abbrev keptPairs : List Share
-keptPairs = record { typical = 1; critical = 2 } ∷ record { typical = 2; critical = 2 } ∷ []
-
--- S2, S5: the sheets give these tasks and shares.
-sheets-read : (readOf twoTasks ≡ record { answer = Accepted; set = both }) × (readOf oneKept ≡ record { answer = Accepted; set = withOneKept })
-unfolding firstOver byteAt u16At u32At processorsOf countOf offsetOf lengthOf placeOf cellsFrom levelAt nodesAt figureAt figuresAt masksAt taskAt zeroTask tasksBelow taskSetOf levelLawful shapeLawful inRange inOrder lowLawful figuresLawful maskLawful allBelow masksLawful isHeavy taskAnswer headerLawful headerAnswer placeAnswer endAnswer shapeAnswer recordAnswer readAnswer readOf isHigh figureLimit bytesBeforeMasks isWide
-sheets-read = (refl, refl)
-
-read-both : readOf twoTasks ≡ record { answer = Accepted; set = both }
-read-both = sheets-read .0
-
-read-kept : readOf oneKept ≡ record { answer = Accepted; set = withOneKept }
-read-kept = sheets-read .1
-
-read-set : tasksFor twoTasks ≡ both
-unfolding tasksFor
-read-set = ap (λ (r : Reading). r .set) read-both
-
-kept-set : tasksFor oneKept ≡ withOneKept
-unfolding tasksFor
-kept-set = ap (λ (r : Reading). r .set) read-kept
-
-sheets-shared : ((choiceAnswer both ≡ Accepted) × (sharesOf both ≡ pairs)) × ((choiceAnswer withOneKept ≡ Accepted) × (sharesOf withOneKept ≡ keptPairs))
-unfolding choiceAnswer shareAnswer chosenFor taskIn firstOver range isLow ceilDiv lowShare hasLowShare excess demand passes lowOptions pairsWithin highOptions optionsOf fits leastBy fitting chosen isHigh shareAt lowNumbers holdable firstHeld typicalShareAt leftOver keptTasks keptShare withKept sharesWith sharesOf
-sheets-shared = ((refl, refl), (refl, refl))
-
-both-shared : (choiceAnswer both ≡ Accepted) × (sharesOf both ≡ pairs)
-both-shared = sheets-shared .0
-
-kept-shared : (choiceAnswer withOneKept ≡ Accepted) × (sharesOf withOneKept ≡ keptPairs)
-kept-shared = sheets-shared .1
-
--- Start accepts a sheet that is read and whose choice is accepted.
-started-with : (sheet : List ℕ) (ts : TaskSet) → readOf sheet ≡ record { answer = Accepted; set = ts } → choiceAnswer ts ≡ Accepted →
-    startOf sheet .answer ≡ Accepted
-unfolding startOf allocationAnswer
-started-with sheet ts read chosen =
-    answer-returned (allocationAnswer sheet) _
-    ∙ ap (λ (r : Reading). r .answer orElse choiceAnswer (r .set)) read
-    ∙ chosen
-
 pub started : startOf twoTasks .answer ≡ Accepted
-started = started-with twoTasks both read-both (both-shared .0)
+started = start-accepts (sheets .two)
 
 kept-started : startOf oneKept .answer ≡ Accepted
-kept-started = started-with oneKept withOneKept read-kept (kept-shared .0)
+kept-started = start-accepts (sheets .one-kept)
+
+read-set : tasksFor twoTasks ≡ both
+read-set = set-of (sheets .two)
+
+kept-set : tasksFor oneKept ≡ withOneKept
+kept-set = set-of (sheets .one-kept)
 
 task-is : highTask ≡ high
 unfolding taskIn
@@ -153,9 +69,7 @@ abbrev firstLow : Model
 firstLow = step start (release 1) .model
 
 model-is : modelFor twoTasks ≡ start
-unfolding modelFor sharesFor
-model-is =
-    ap (λ (ts : TaskSet). fresh ts (sharesOf ts)) read-set ∙ ap (fresh both) (both-shared .1)
+model-is = model-of (sheets .two)
 
 -- The same for the other sheet: its model, and that after the Release of the kept task.
 abbrev keptStart : Model
@@ -165,12 +79,10 @@ abbrev firstKept : Model
 firstKept = after keptStart (take 4 overSwitch)
 
 kept-shares : sharesFor oneKept ≡ keptPairs
-unfolding sharesFor
-kept-shares = ap sharesOf kept-set ∙ kept-shared .1
+kept-shares = shares-of (sheets .one-kept)
 
 kept-model : modelFor oneKept ≡ keptStart
-unfolding modelFor
-kept-model = ap₂ fresh kept-set kept-shares
+kept-model = model-of (sheets .one-kept)
 
 -- The high task has one edge, from node 1 to node 2, so that a chain is a node alone or these two.
 no-mask : (n v : ℕ) → _≡_ {A = ℕ} (getD (replicate n 0) v 0) 0
