@@ -1,5 +1,6 @@
-"""Files and standard streams for the tools. Where one fails, the tool ends with a line that names it."""
+"""Commands, files and standard streams for the tools. Where a file fails, the tool ends with a line that names it."""
 
+import argparse
 import os
 import signal
 import sys
@@ -70,6 +71,13 @@ def write(path, data):
         raise failed(named(path), error) from None
 
 
+def write_bytes(options, what, data):
+    """Bytes to the file of -o, or to standard output; not to a terminal, which would take them for a text."""
+    if options.output is None and sys.stdout is not None and sys.stdout.isatty():
+        raise Failure(f"{named(options.file)}: {what} is bytes, not text: give -o FILE, or a pipe")
+    write(options.output, data)
+
+
 def put(text):
     """A text to standard output."""
     to_output(text.encode(sys.stdout.encoding if sys.stdout else "utf-8", "backslashreplace"))
@@ -104,6 +112,23 @@ def silence(stream):
     nowhere = os.open(os.devnull, os.O_WRONLY)
     os.dup2(nowhere, stream.fileno())
     os.close(nowhere)
+
+
+def command(tool, text, commands, arguments):
+    """Runs the command that the arguments name, on its file; `commands` has a function and a line of help for each."""
+    parser = argparse.ArgumentParser(
+        description=text,
+        formatter_class=argparse.RawDescriptionHelpFormatter,
+        usage=f"{tool} COMMAND FILE [-o FILE]",
+    )
+    parsers = parser.add_subparsers(dest="command", required=True, metavar="COMMAND", prog=tool)
+    for name, (_, what) in commands.items():
+        chosen = parsers.add_parser(name, help=what)
+        chosen.add_argument("file", help="the file to read; - for standard input")
+        if name in ("write", "print"):
+            chosen.add_argument("-o", dest="output", metavar="FILE", help="where to write, if not to standard output")
+    options = parser.parse_args(arguments)
+    return commands[options.command][0](options)
 
 
 def run(main):

@@ -40,7 +40,6 @@ warning that gives the refusal's number; so a refused sheet can be tried too. Re
 give: `plan` shows them.
 """
 
-import argparse
 import contextlib
 import pathlib
 import re
@@ -51,6 +50,7 @@ from dataclasses import dataclass, field
 import console
 import graph as graphs
 from console import quoted
+from texts import PlaceError, failure, lines_of, located, members, number_at, number_of, set_of
 
 ROOT = pathlib.Path(__file__).resolve().parent.parent
 PRINTER = ROOT / "target" / "bin" / "plan_printer"
@@ -58,7 +58,6 @@ PRINTER_INPUT = 4096  # bytes that the printer takes (S6.4)
 PATIENCE = 60  # seconds for the printer, which takes far less
 
 BYTE, WORD = 0xFF, 0xFFFF
-BITS = 32
 MAX_PROCESSORS, MAX_TASKS, MAX_NODES = 64, 16, 32
 MIN_PERCENTAGE, MAX_PERCENTAGE = 100, 400
 FIGURES = ("deadline", "work_nominal", "work_overload", "span_nominal", "span_overload")  # in the record's order
@@ -141,14 +140,6 @@ class Fault:
     cause: str
 
 
-class SheetError(Exception):
-    """What can't be written or printed. `place` is a line of a text or an offset of a sheet."""
-
-    def __init__(self, place, message):
-        super().__init__(message)
-        self.place = place
-
-
 # Text to sheet.
 
 GRAMMAR = {
@@ -165,54 +156,31 @@ GRAMMAR = {
 BY_GRAPH = ("nominal", "overload", "work", "nodes", "node")  # the lines that a graph line stands for
 
 
-def number_of(line, what, word, most):
-    if not re.fullmatch("[0-9]+", word):
-        raise SheetError(line, f"{what}: expected a number, got {quoted(word)}")
-    digits = word.lstrip("0") or "0"
-    if len(digits) > 10 or int(digits) > most:
-        raise SheetError(line, f"{what}: expected a number from 0 to {most}, got {quoted(word)}")
-    return int(digits)
-
-
 def shaped(line, words):
     """The words that stand where the line's grammar has N; all others must be as in it."""
     grammar = GRAMMAR[words[0]]
     expected = grammar.split()
     if len(words) != len(expected) or any(e not in ("N", w) for e, w in zip(expected, words)):
-        raise SheetError(line, f"expected '{grammar}', got {quoted(' '.join(words))}")
+        raise PlaceError(line, f"expected '{grammar}', got {quoted(' '.join(words))}")
     return [w for e, w in zip(expected, words) if e == "N"]
 
 
 def claim(places, line, key, what):
     """Notes that this part stands on this line; a part is said once."""
     if key in places:
-        raise SheetError(line, f"{what} is given twice, first on line {places[key]}")
+        raise PlaceError(line, f"{what} is given twice, first on line {places[key]}")
     places[key] = line
-
-
-def lines_of(data):
-    """The numbered lines of a text as words, without comments and empty lines."""
-    for line, raw in enumerate(data.split(b"\n"), 1):
-        try:
-            text = raw.decode("utf-8-sig" if line == 1 else "utf-8")
-        except UnicodeDecodeError:
-            raise SheetError(line, "expected text in UTF-8") from None
-        if "\0" in text:
-            raise SheetError(line, "expected text, got a byte 0")
-        text = text.partition("#")[0].strip()
-        if text:
-            yield line, text
 
 
 def task_line(line, text):
     found = re.fullmatch(r"task\b([^:]*):\s*(\S+(?:\s+wide)?)", text)
     if not found:
-        raise SheetError(line, f"expected '{GRAMMAR['task']}', got {quoted(text)}")
+        raise PlaceError(line, f"expected '{GRAMMAR['task']}', got {quoted(text)}")
     name, level = found.group(1).strip(), " ".join(found.group(2).split())
     if level in LEVELS:
         return Task(name, LEVELS[level], in_words=True)
     if not level.isdigit():
-        raise SheetError(line, f"level: expected high or low, got {quoted(level)}")
+        raise PlaceError(line, f"level: expected high or low, got {quoted(level)}")
     return Task(name, number_of(line, "level", level, BYTE))
 
 
@@ -233,16 +201,10 @@ def figures_line(task, line, words):
 def node_line(task, nodes, line, words):
     """`node N after N ...`: the predecessors are kept as a mask until the number of nodes is known."""
     if len(words) < 4 or words[2] != "after":
-        raise SheetError(line, f"expected '{GRAMMAR['node']}', got {quoted(' '.join(words))}")
+        raise PlaceError(line, f"expected '{GRAMMAR['node']}', got {quoted(' '.join(words))}")
     node = number_of(line, "node", words[1], BYTE)
     claim(task.places, line, ("node", node), f"node {node}")
-    mask = 0
-    for word in words[3:]:
-        bit = 1 << number_of(line, "predecessor", word, BITS - 1)
-        if mask & bit:
-            raise SheetError(line, f"predecessor {word} is named twice")
-        mask |= bit
-    nodes[node] = mask
+    nodes[node] = set_of(line, "predecessor", words[3:])
 
 
 def graph_line(task, line, words):
@@ -251,7 +213,7 @@ def graph_line(task, line, words):
     if len(words) == 2:
         words = [*words, "percentage", str(MIN_PERCENTAGE)]
     if len(words) != 4 or words[2] != "percentage":
-        raise SheetError(line, f"expected '{GRAMMAR['graph']}', got {quoted(' '.join(words))}")
+        raise PlaceError(line, f"expected '{GRAMMAR['graph']}', got {quoted(' '.join(words))}")
     task.graph = words[1], number_of(line, "percentage", words[3], WORD)
 
 
@@ -260,7 +222,7 @@ def apart(task, line, key):
     others = BY_GRAPH if key == "graph" else ("graph",) if key in BY_GRAPH else ()
     for other in others:
         if ("line", other) in task.places:
-            raise SheetError(line, f"'{key}' can't stand beside '{other}', on line {task.places['line', other]}")
+            raise PlaceError(line, f"'{key}' can't stand beside '{other}', on line {task.places['line', other]}")
     task.places.setdefault(("line", key), line)
 
 
@@ -287,22 +249,22 @@ def read_graph(task, folder):
     try:
         return graphs.graph_of(console.contents(folder / file))
     except (OSError, ValueError) as error:
-        raise SheetError(line, f"{console.named(file)}: {console.cause_of(error)}") from None
+        raise PlaceError(line, f"{console.named(file)}: {console.cause_of(error)}") from None
     except graphs.GraphError as error:
-        raise SheetError(line, f"{console.named(file)}: {error}") from None
+        raise PlaceError(line, f"{console.named(file)}: {error}") from None
 
 
 def check_terms(task):
     """The level and the percentage that the import takes (S14.6). It has no wide form."""
     if task.level not in (LEVELS["low"], LEVELS["high"]):
         what = f"level: expected high or low for a graph, got {level_text(task)} (refusal 17)"
-        raise SheetError(task.places["task"], what)
+        raise PlaceError(task.places["task"], what)
     most, expected = MAX_PERCENTAGE, f"{MIN_PERCENTAGE} to {MAX_PERCENTAGE}"
     if task.level == LEVELS["low"]:
         most, expected = MIN_PERCENTAGE, f"{MIN_PERCENTAGE} for a low task"
     if not MIN_PERCENTAGE <= task.graph[1] <= most:
         what = f"percentage: expected {expected}, got {task.graph[1]} (refusal 17)"
-        raise SheetError(task.places["graph"], what)
+        raise PlaceError(task.places["graph"], what)
 
 
 def take_graph(task, folder):
@@ -316,7 +278,7 @@ def take_graph(task, folder):
         task.places.setdefault(part, task.places["graph"])
     for figure, cause in figure_causes(task):
         whose = "" if figure == "deadline" else f"{console.named(task.graph[0])}: "
-        raise SheetError(task.places[figure], f"{whose}{cause} for a graph (refusal 19)")
+        raise PlaceError(task.places[figure], f"{whose}{cause} for a graph (refusal 19)")
 
 
 def choose_form(task):
@@ -332,14 +294,14 @@ def finish(task, nodes, folder):
         parts |= {"work_nominal": "nominal", "work_overload": "overload", "nodes": "nodes"}
     for part, key in parts.items():
         if part not in task.places:
-            raise SheetError(task.places["task"], f"task {quoted(task.name)}: expected a line '{GRAMMAR[key]}'")
+            raise PlaceError(task.places["task"], f"task {quoted(task.name)}: expected a line '{GRAMMAR[key]}'")
     if "graph" in task.places:
         take_graph(task, folder)
     choose_form(task)
     count = len(task.predecessors)
     for node, mask in nodes.items():
         if node >= count:
-            raise SheetError(task.places["node", node], f"node: expected a number below {count}, the nodes, got {node}")
+            raise PlaceError(task.places["node", node], f"node: expected a number below {count}, the nodes, got {node}")
         task.predecessors[node] = mask
 
 
@@ -350,9 +312,9 @@ def parse(data, folder=pathlib.Path()):
         end, words = line, text.split()
         key = re.match(r"[^\s:]*", text).group()
         if key not in GRAMMAR:
-            raise SheetError(line, f"expected one of {', '.join(GRAMMAR)} at the line's start, got {quoted(words[0])}")
+            raise PlaceError(line, f"expected one of {', '.join(GRAMMAR)} at the line's start, got {quoted(words[0])}")
         if key != "task" and key != words[0]:
-            raise SheetError(line, f"expected '{GRAMMAR[key]}' with no colon, got {quoted(text)}")
+            raise PlaceError(line, f"expected '{GRAMMAR[key]}' with no colon, got {quoted(text)}")
         if key == "processors":
             claim(sheet.places, line, key, "the number of processors")
             sheet.processors = number_of(line, key, *shaped(line, words), BYTE)
@@ -362,13 +324,13 @@ def parse(data, folder=pathlib.Path()):
             sheet.tasks.append(task)
             nodes.append({})
             if len(sheet.tasks) > BYTE:
-                raise SheetError(line, f"expected at most {BYTE} tasks")
+                raise PlaceError(line, f"expected at most {BYTE} tasks")
         elif not sheet.tasks:
-            raise SheetError(line, f"expected '{GRAMMAR['task']}' before '{key}'")
+            raise PlaceError(line, f"expected '{GRAMMAR['task']}' before '{key}'")
         else:
             part_line(sheet.tasks[-1], nodes[-1], line, words)
     if "processors" not in sheet.places:
-        raise SheetError(end, f"expected a line '{GRAMMAR['processors']}'")
+        raise PlaceError(end, f"expected a line '{GRAMMAR['processors']}'")
     sheet.places["tasks"] = end
     for task, masks in zip(sheet.tasks, nodes):
         finish(task, masks, folder)
@@ -394,7 +356,7 @@ def encode(sheet):
         record = encode_task(task)
         offset = start + len(records)
         if offset > WORD:
-            raise SheetError(task.places["task"], f"task {index} begins at byte {offset}; expected at most {WORD}")
+            raise PlaceError(task.places["task"], f"task {index} begins at byte {offset}; expected at most {WORD}")
         directory += offset.to_bytes(2, "little") + len(record).to_bytes(2, "little")
         records += record
     return bytes([sheet.processors, len(sheet.tasks)]) + directory + records
@@ -403,20 +365,16 @@ def encode(sheet):
 # Bytes to sheet.
 
 
-def number_at(data, offset, size):
-    return int.from_bytes(data[offset : offset + size], "little")
-
-
 def decode_task(data, index, offset, length):
     if length < 2:
         fixed = f"{NARROW.fixed} or {WIDE.fixed}"
-        raise SheetError(offset, f"task {index}: expected a record of {fixed} bytes and 4 for each node, got {length}")
+        raise PlaceError(offset, f"task {index}: expected a record of {fixed} bytes and 4 for each node, got {length}")
     task, count = Task(str(index), data[offset]), data[offset + 1]
     form = task.form
     whole = form.fixed + 4 * count
     if length != whole:
         what = f"expected a record of {whole} bytes for {count} nodes at level {task.level}, got {length}"
-        raise SheetError(offset, f"task {index}: {what}")
+        raise PlaceError(offset, f"task {index}: {what}")
     task.places = {"task": offset, "nodes": offset + 1}
     for place, figure in enumerate(FIGURES):
         task.places[figure] = offset + 2 + form.size * place
@@ -431,22 +389,22 @@ def decode_task(data, index, offset, length):
 def decode(data):
     """The sheet that bytes hold. Bytes of another format are an error, named by offset and task."""
     if len(data) < 2:
-        raise SheetError(len(data), f"expected at least 2 bytes, got {len(data)}")
+        raise PlaceError(len(data), f"expected at least 2 bytes, got {len(data)}")
     count = data[1]
     place = 2 + 4 * count
     if len(data) < place:
-        raise SheetError(len(data), f"expected {count} pairs up to offset {place}, got {len(data)} bytes")
+        raise PlaceError(len(data), f"expected {count} pairs up to offset {place}, got {len(data)} bytes")
     pairs = []
     for index in range(count):
         at = 2 + 4 * index
         offset, length = number_at(data, at, 2), number_at(data, at + 2, 2)
         if offset != place:
-            raise SheetError(at, f"task {index}: expected a record at offset {place}, got {offset}")
+            raise PlaceError(at, f"task {index}: expected a record at offset {place}, got {offset}")
         pairs.append((offset, length))
         place += length
     if place != len(data):
         where = f"task {count - 1}" if count else "no task"
-        raise SheetError(min(place, len(data)), f"{where}: expected the sheet's end at offset {place}, got {len(data)}")
+        raise PlaceError(min(place, len(data)), f"{where}: expected the sheet's end at offset {place}, got {len(data)}")
     sheet = Sheet(data[0], [], {"processors": 0, "tasks": 1})
     for index, (offset, length) in enumerate(pairs):
         sheet.tasks.append(decode_task(data, index, offset, length))
@@ -472,8 +430,7 @@ def render_task(index, task):
     lines.append(f"  nodes {len(task.predecessors)}")
     for node, mask in enumerate(task.predecessors):
         if mask:
-            before = " ".join(str(j) for j in range(BITS) if mask >> j & 1)
-            lines.append(f"  node {node} after {before}")
+            lines.append(f"  node {node} after {' '.join(members(mask))}")
     return "\n".join(lines) + "\n"
 
 
@@ -672,10 +629,6 @@ def refusal_text(number, task, names):
 # The commands.
 
 
-def located(path, place, of_text):
-    return f"{console.named(path)}:{place}" if of_text else f"{console.named(path)}: offset {place}"
-
-
 def warn(path, found, of_text):
     for fault in found:
         task = "" if fault.task == 255 else f"task {fault.task}, "
@@ -688,23 +641,21 @@ def read_text(path, data):
     try:
         sheet = parse(data, pathlib.Path(path).parent)
         return sheet, encode(sheet)
-    except SheetError as error:
-        raise console.Failure(f"{located(path, error.place, True)}: error: {error}") from None
+    except PlaceError as error:
+        raise failure(path, error, True) from None
 
 
 def read_bytes(path, data):
     try:
         return decode(data)
-    except SheetError as error:
-        raise console.Failure(f"{located(path, error.place, False)}: error: {error}") from None
+    except PlaceError as error:
+        raise failure(path, error, False) from None
 
 
 def run_write(options):
     sheet, data = read_text(options.file, console.read(options.file))
     warn(options.file, faults(sheet), True)
-    if options.output is None and sys.stdout is not None and sys.stdout.isatty():
-        raise console.Failure(f"{console.named(options.file)}: a sheet is bytes, not text: give -o FILE, or a pipe")
-    console.write(options.output, data)
+    console.write_bytes(options, "a sheet", data)
     return 0
 
 
@@ -733,7 +684,7 @@ def run_plan(options):
     data, tasks = console.read(options.file), []
     if of_bytes(data):
         where, count = f"{console.named(options.file)}: as bytes", data[1] if len(data) > 1 else 0
-        with contextlib.suppress(SheetError):
+        with contextlib.suppress(PlaceError):
             warn(options.file, faults(decode(data)), False)
     else:
         where = console.named(options.file)
@@ -762,19 +713,7 @@ COMMANDS = {
 
 
 def main(arguments=None):
-    parser = argparse.ArgumentParser(
-        description=__doc__,
-        formatter_class=argparse.RawDescriptionHelpFormatter,
-        usage="sheet.py COMMAND FILE [-o FILE]",
-    )
-    commands = parser.add_subparsers(dest="command", required=True, metavar="COMMAND", prog="sheet.py")
-    for name, (_, what) in COMMANDS.items():
-        command = commands.add_parser(name, help=what)
-        command.add_argument("file", help="the file to read; - for standard input")
-        if name in ("write", "print"):
-            command.add_argument("-o", dest="output", metavar="FILE", help="where to write, if not to standard output")
-    options = parser.parse_args(arguments)
-    return COMMANDS[options.command][0](options)
+    return console.command("sheet.py", __doc__, COMMANDS, arguments)
 
 
 if __name__ == "__main__":

@@ -30,6 +30,7 @@ from dataclasses import dataclass
 import console
 import graph as graphs
 import sheet as sheets
+import texts
 
 
 @dataclass
@@ -201,7 +202,7 @@ def chosen_task(parser, options):
     """The task, with shares and lengths that suit it. What is wrong with these is the parser's error."""
     sheet, _ = sheets.read_text(options.file, console.read(options.file))
     for fault in sheets.faults(sheet):
-        where = sheets.located(options.file, fault.place, True)
+        where = texts.located(options.file, fault.place, True)
         raise console.Failure(f"{where}: error: refusal {fault.number}: {fault.cause}")
     if not 0 <= options.task < len(sheet.tasks):
         parser.error(f"--task: expected a number below {len(sheet.tasks)}, the tasks, got {options.task}")

@@ -12,6 +12,7 @@ import unittest
 import graph as graphs
 import sheet as sheets
 import simulate
+import texts
 
 HERE = pathlib.Path(__file__).resolve().parent
 EXAMPLES = HERE.parent / "examples"
@@ -85,7 +86,7 @@ class Files(unittest.TestCase):
 
     def error(self, text=TEXT):
         """The line and the words of the error that the text meets."""
-        with self.assertRaises(sheets.SheetError) as caught:
+        with self.assertRaises(texts.PlaceError) as caught:
             sheets.encode(sheets.parse(text.encode(), self.folder))
         return caught.exception.place, str(caught.exception)
 
@@ -94,7 +95,7 @@ class Files(unittest.TestCase):
         lines = ("processors 1", f"task: {level}", f"deadline {deadline}", f"graph fork.stg percentage {percentage}")
         try:
             return sheets.encode(sheets.parse("\n".join(lines).encode(), self.folder))[6:]
-        except sheets.SheetError as error:
+        except texts.PlaceError as error:
             return int(re.search(r"\(refusal (\d+)\)$", str(error)).group(1))
 
     def imported(self, level, deadline, percentage):

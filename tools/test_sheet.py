@@ -14,6 +14,7 @@ import tempfile
 import unittest
 
 import sheet as sheets
+import texts
 
 HERE = pathlib.Path(__file__).resolve().parent
 EXAMPLES = sorted((HERE.parent / "examples").glob("*.sheet"))
@@ -330,32 +331,32 @@ class Errors(unittest.TestCase):
     def test_each_names_its_line(self):
         for old, new, line, message in self.CASES:
             with self.subTest(new=new[:40], line=line):
-                with self.assertRaises(sheets.SheetError) as caught:
+                with self.assertRaises(texts.PlaceError) as caught:
                     sheets.encode(sheets.parse(edited(old, new).encode()))
                 self.assertEqual(caught.exception.place, line)
                 self.assertIn(message, str(caught.exception))
 
     def test_a_message_is_short_and_printable(self):
         for text in ("processors " + "9" * 5000, "\x08\x03\x0e\x00" * 100):
-            with self.assertRaises(sheets.SheetError) as caught:
+            with self.assertRaises(texts.PlaceError) as caught:
                 sheets.parse(text.encode())
             self.assertTrue(str(caught.exception).isprintable())
             self.assertLess(len(str(caught.exception)), 250)
 
     def test_not_utf_8(self):
-        with self.assertRaises(sheets.SheetError) as caught:
+        with self.assertRaises(texts.PlaceError) as caught:
             sheets.parse(b"processors 8\n\xff\n")
         self.assertEqual(caught.exception.place, 2)
-        with self.assertRaises(sheets.SheetError) as caught:
+        with self.assertRaises(texts.PlaceError) as caught:
             sheets.parse(b"processors 8\n\n# \0\n")
         self.assertEqual((caught.exception.place, str(caught.exception)), (3, "expected text, got a byte 0"))
 
     def test_too_many_tasks_and_too_long(self):
         task = "task: high\ndeadline 1\nwork 2 span 1\nnodes {}\n"
-        with self.assertRaises(sheets.SheetError) as caught:
+        with self.assertRaises(texts.PlaceError) as caught:
             sheets.parse(("processors 1\n" + 256 * task.format(1)).encode())
         self.assertEqual((caught.exception.place, str(caught.exception)), (2 + 4 * 255, "expected at most 255 tasks"))
-        with self.assertRaises(sheets.SheetError) as caught:
+        with self.assertRaises(texts.PlaceError) as caught:
             sheets.encode(sheets.parse(("processors 1\n" + 70 * task.format(255)).encode()))
         self.assertIn("expected at most 65535", str(caught.exception))
 
@@ -364,7 +365,7 @@ class Foreign(unittest.TestCase):
     """Bytes of another format: the error names the offset and, where there is one, the task."""
 
     def refuse(self, data, offset, message):
-        with self.assertRaises(sheets.SheetError) as caught:
+        with self.assertRaises(texts.PlaceError) as caught:
             sheets.decode(data)
         self.assertEqual(caught.exception.place, offset)
         self.assertIn(message, str(caught.exception))
@@ -392,7 +393,7 @@ class Foreign(unittest.TestCase):
             for _ in range(rng.randrange(1, 4)):
                 data[rng.randrange(len(data))] = rng.randrange(256)
             data = bytes(data[: rng.choice((len(data), rng.randrange(len(data))))])
-            with contextlib.suppress(sheets.SheetError):
+            with contextlib.suppress(texts.PlaceError):
                 self.assertEqual(sheets.encode(sheets.parse(sheets.render(sheets.decode(data)).encode())), data)
 
 
@@ -639,7 +640,7 @@ class Plan(unittest.TestCase):
         for _ in range(300):
             data = bytearray(MIXED)
             data[rng.randrange(18, len(data))] = rng.choice((0, 1, 15, 16, 17, 18, 255, rng.randrange(256)))
-            with contextlib.suppress(sheets.SheetError):
+            with contextlib.suppress(texts.PlaceError):
                 for first in sheets.faults(sheets.decode(bytes(data)))[:1]:
                     self.assertEqual(sheets.printed(bytes(data)), f"refused {first.number} {first.task}\n", data)
                     found.add(first.number)
@@ -678,7 +679,7 @@ class Printers(unittest.TestCase):
         self.addCleanup(folder.cleanup)
         self.root = pathlib.Path(folder.name).resolve()
         (self.root / "tools").mkdir()
-        for name in ("console.py", "graph.py", "sheet.py"):
+        for name in ("console.py", "graph.py", "sheet.py", "texts.py"):
             shutil.copy(HERE / name, self.root / "tools")
         self.printer = self.root / "target" / "bin" / "plan_printer"
 
