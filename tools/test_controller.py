@@ -111,6 +111,14 @@ def ran(*words, **options):
     return subprocess.run(words, cwd=ROOT, capture_output=True, check=False, **options)
 
 
+def compiled(source, program, *archives):
+    """The program of a file in C, which compiles without a warning."""
+    done = ran("gcc", *FLAGS, str(source), "-o", str(program), *map(str, archives), text=True)
+    if done.returncode != 0 or done.stderr:
+        raise AssertionError(done.stderr)
+    return str(program)
+
+
 @unittest.skipUnless(ARCHIVE.exists(), f"no {ARCHIVE.relative_to(ROOT)}: run `rt staticlib exports` first")
 class Controller(unittest.TestCase):
     @classmethod
@@ -118,10 +126,7 @@ class Controller(unittest.TestCase):
         folder = tempfile.TemporaryDirectory()
         cls.addClassCleanup(folder.cleanup)
         cls.folder = pathlib.Path(folder.name)
-        cls.program = str(cls.folder / "controller")
-        built = ran("gcc", *FLAGS, "examples/controller.c", "-o", cls.program, str(ARCHIVE), text=True)
-        if built.returncode != 0:
-            raise AssertionError(built.stderr)
+        cls.program = compiled("examples/controller.c", cls.folder / "controller", ARCHIVE)
 
     def sheet(self, name, change=lambda text: text):
         """The file of a sheet: the worked one, with its text changed."""
@@ -190,11 +195,9 @@ class Controller(unittest.TestCase):
 
     def built(self, name, text):
         """The program of a text in C, with the archive."""
-        source, program = self.folder / f"{name}.c", self.folder / name
+        source = self.folder / f"{name}.c"
         source.write_text(text, encoding="utf-8")
-        done = ran("gcc", *FLAGS, str(source), "-o", str(program), str(ARCHIVE), text=True)
-        self.assertEqual((done.returncode, done.stderr), (0, ""))
-        return str(program)
+        return compiled(source, self.folder / name, ARCHIVE)
 
     def test_the_plan_and_the_state_by_the_header(self):
         done = ran(self.built("reader", READER), input=self.example("dye-line"))

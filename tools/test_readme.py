@@ -5,6 +5,7 @@ import re
 import subprocess
 import unittest
 
+import log as logs
 import sheet as sheets
 
 ROOT = pathlib.Path(__file__).resolve().parent.parent
@@ -30,8 +31,10 @@ NEEDS = {
     "sheet.py plan": "target/bin/plan_printer",
     "stg_import": "target/bin/stg_import",
     "libexports.a": "target/staticlib/libexports.a",
+    "libreplays.a": "target/staticlib/libreplays.a",
     "examples/controller.c": "examples/controller.c",
     "target/controller": "target/controller",
+    "target/side_by_side": "target/side_by_side",
 }
 
 
@@ -105,13 +108,15 @@ class Commands(unittest.TestCase):
     def test_the_first_screen_has_a_command_for_each_reader(self):
         first = text_of("README.md").partition("\n## ")[0]
         self.assertLessEqual(len(first.splitlines()), 50)
-        for command in ("sheet.py check", "sheet.py plan", "bin/stg_import", "rt staticlib exports", "gcc ", "./test"):
+        programs = ("sheet.py check", "sheet.py plan", "bin/stg_import", "target/controller", "log.py write", "side_by_side.c")
+        for command in (*programs, "rt staticlib exports", "gcc ", "./test"):
             self.assertTrue(any(command in line for line in indented(first)), command)
 
-    def test_each_command_of_the_sheet_tool_that_is_named_exists(self):
-        for name in DOCUMENTS:
-            named = set(re.findall(r"sheet\.py (\w+)", text_of(name)))
-            self.assertLessEqual(named, set(sheets.COMMANDS), name)
+    def test_each_command_of_a_tool_that_is_named_exists(self):
+        for tool, commands in (("sheet", sheets.COMMANDS), ("log", logs.COMMANDS)):
+            for name in DOCUMENTS:
+                named = set(re.findall(rf"{tool}\.py (\w+)", text_of(name)))
+                self.assertLessEqual(named, set(commands), name)
 
 
 class Readme(unittest.TestCase):
