@@ -17,6 +17,7 @@ pub const LEVEL: usize = 0;
 pub const NODE_COUNT: usize = 1;
 pub const DEADLINE: usize = 2 + NODES;
 pub const VIRTUAL_DEADLINE: usize = DEADLINE + 1;
+pub const CRITICAL_SHARE: usize = DEADLINE + 3;
 pub const AGE: usize = DEADLINE + 4;
 pub const ENDED: usize = DEADLINE + 5;
 pub const ALIVE: usize = DEADLINE + 6;

@@ -11,6 +11,7 @@ use crate::reference::dispatcher::Mode;
 use crate::reference::planner;
 use crate::reference::reader::{Level, Sheet};
 
+pub mod isolation;
 pub mod returns;
 
 /// What lists are run on: a dispatcher, and the Start that gives it its fresh states.
@@ -22,9 +23,14 @@ pub struct Subject<'a> {
 
 impl Subject<'_> {
     fn run(&self, story: &Story, counts: &mut Counts) {
+        run(self.dispatcher, self.fresh(story), story, counts);
+    }
+
+    /// The line that Start leaves of a story's sheet, which it must accept.
+    fn fresh(&self, story: &Story) -> Vec<u32> {
         let (reply, fresh) = (self.start)(&story.sheet);
         assert_eq!(reply, Reply::Done, "Start of {:?}", story.sheet);
-        run(self.dispatcher, fresh, story, counts);
+        fresh
     }
 }
 
@@ -189,10 +195,14 @@ fn exact_kept_story(
     story(random, sheet, tasks, &manner)
 }
 
+/// The record of A (S11) with three nodes that nothing precedes.
+pub fn three_nodes() -> Vec<u8> {
+    [&[1, 3], &CASE_14[16..26], &[0; 12]].concat()
+}
+
 /// Case 13 (S11.13): A alone on two processors, three nodes that nothing precedes, which run one after the other.
 pub fn case_13(subject: Subject) {
-    let record = [&[1, 3], &CASE_14[16..26], &[0; 12]].concat();
-    let (reply, fresh) = (subject.start)(&Draft { processors: 2, records: vec![record] }.bytes());
+    let (reply, fresh) = (subject.start)(&Draft { processors: 2, records: vec![three_nodes()] }.bytes());
     assert_eq!(reply, Reply::Done);
     let run = |mut left: [u32; 3]| {
         let (reply, mut state) = subject.dispatcher.release(&fresh, 0);

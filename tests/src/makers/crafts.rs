@@ -113,7 +113,7 @@ pub fn sheet_of(random: &mut Random, mut tasks: Vec<Crafted>) -> Option<(Sheet, 
 }
 
 /// Gives the tasks the forms of one sheet, each a form that holds its figures, of which CO is the largest.
-fn in_forms(random: &mut Random, tasks: &mut [Crafted]) {
+pub fn in_forms(random: &mut Random, tasks: &mut [Crafted]) {
     let forms = forms(random);
     for Crafted { task, .. } in tasks {
         let form = *random.pick(forms);
@@ -127,7 +127,7 @@ fn needed(tasks: &[Crafted]) -> usize {
     total(|shares| shares.typical).max(total(|shares| shares.critical))
 }
 
-fn sheet(processors: usize, tasks: &[Crafted]) -> Sheet {
+pub fn sheet(processors: usize, tasks: &[Crafted]) -> Sheet {
     Sheet { processors: processors as u8, tasks: tasks.iter().map(|crafted| crafted.task.clone()).collect() }
 }
 

@@ -50,48 +50,107 @@ pub struct Manner {
 }
 
 /// A job of the world: what is left of its lengths, and whether its reports are true.
-struct Job {
+#[derive(Clone)]
+pub struct Job {
     left: Vec<u32>,
     liar: bool,
 }
 
 /// Makes a list of calls.
 pub fn story(random: &mut Random, sheet: &Sheet, tasks: &[Crafted], manner: &Manner) -> Story {
-    let plan = planner::plan(sheet).expect("crafted tasks are planned");
-    let mut state = State::fresh(sheet, &plan);
-    let mut story = Story { sheet: Draft::of(sheet).bytes(), calls: Vec::new(), lengths: BTreeMap::new() };
-    let mut jobs: Vec<Option<Job>> = tasks.iter().map(|_| None).collect();
-    for tick in 0..manner.ticks {
+    let mut telling = Telling::new(sheet, tasks, manner);
+    for _ in 0..manner.ticks {
         for task in 0..tasks.len() {
-            let comes = tick >= manner.first[task]
-                && match manner.paces[task] {
-                    Pace::Eager => true,
-                    Pace::Idle => random.once_in(10),
-                    Pace::Once => jobs[task].is_none(),
-                    Pace::BeforeReturn => would_return(&state, &jobs),
-                };
-            if !comes || state.entries[task].alive {
-                continue;
-            }
-            let Ok(next) = state.release(task) else { continue };
-            let kind = random.pick(&manner.kinds[task]).clone();
-            let Some(lengths) = tasks[task].lengths(random, &kind) else { continue };
-            state = next;
-            jobs[task] = Some(Job { left: lengths.clone(), liar: manner.liars[task] && random.once_in(2) });
-            story.lengths.insert(story.calls.len(), lengths);
-            story.calls.push(Call::Release(task));
+            telling.next_job(random, task);
         }
-        if manner.refused && random.once_in(4) {
-            story.calls.extend(refused_call(random, &state));
+        telling.refused(random);
+        let reports = telling.reports(random);
+        telling.tick(reports);
+    }
+    telling.story
+}
+
+/// A list of calls while it is made.
+pub struct Telling<'a> {
+    tasks: &'a [Crafted],
+    manner: &'a Manner,
+    pub state: State,
+    /// The last job of each task.
+    pub jobs: Vec<Option<Job>>,
+    /// The accepted ticks so far.
+    ticks: usize,
+    pub story: Story,
+}
+
+impl<'a> Telling<'a> {
+    pub fn new(sheet: &Sheet, tasks: &'a [Crafted], manner: &'a Manner) -> Telling<'a> {
+        let plan = planner::plan(sheet).expect("crafted tasks are planned");
+        let story = Story { sheet: Draft::of(sheet).bytes(), calls: Vec::new(), lengths: BTreeMap::new() };
+        let jobs = tasks.iter().map(|_| None).collect();
+        Telling { tasks, manner, state: State::fresh(sheet, &plan), jobs, ticks: 0, story }
+    }
+
+    /// Begins a task's next job, where its pace has it come and the state takes it.
+    pub fn next_job(&mut self, random: &mut Random, task: usize) {
+        let comes = self.ticks >= self.manner.first[task]
+            && match self.manner.paces[task] {
+                Pace::Eager => true,
+                Pace::Idle => random.once_in(10),
+                Pace::Once => self.jobs[task].is_none(),
+                Pace::BeforeReturn => would_return(&self.state, &self.jobs),
+            };
+        let entry = &self.state.entries[task];
+        if !comes || entry.alive || entry.age < entry.deadline {
+            return;
         }
+        let Ok(next) = self.state.release(task) else { return };
+        let kind = random.pick(&self.manner.kinds[task]).clone();
+        let Some(left) = self.tasks[task].lengths(random, &kind) else { return };
+        let liar = self.manner.liars[task] && random.once_in(2);
+        self.begin(task, Job { left, liar }, next);
+    }
+
+    /// The job of a task that began since the last tick.
+    pub fn begun(&self, task: usize) -> Option<&Job> {
+        let entry = &self.state.entries[task];
+        self.jobs[task].as_ref().filter(|_| entry.alive && entry.age == 0)
+    }
+
+    /// Begins a job that began elsewhere, where the state takes it.
+    pub fn take_on(&mut self, task: usize, job: &Job) {
+        if let Ok(next) = self.state.release(task) {
+            self.begin(task, job.clone(), next);
+        }
+    }
+
+    fn begin(&mut self, task: usize, job: Job, next: State) {
+        self.state = next;
+        self.story.lengths.insert(self.story.calls.len(), job.left.clone());
+        self.story.calls.push(Call::Release(task));
+        self.jobs[task] = Some(job);
+    }
+
+    /// Sometimes a call that is refused.
+    pub fn refused(&mut self, random: &mut Random) {
+        if self.manner.refused && random.once_in(4) {
+            self.story.calls.extend(refused_call(random, &self.state));
+        }
+    }
+
+    /// Runs the nodes of all tasks for a tick, and gives the reports.
+    pub fn reports(&mut self, random: &mut Random) -> Vec<u32> {
+        let state = &self.state;
         let report = |(task, job): (usize, &mut Option<Job>)| {
             job.as_mut().map_or(0, |job| reported(random, job, &state.running(task)))
         };
-        let reports: Vec<u32> = jobs.iter_mut().enumerate().map(report).collect();
-        state = state.tick(&reports).expect("only running nodes are reported").state;
-        story.calls.push(Call::Tick(reports));
+        self.jobs.iter_mut().enumerate().map(report).collect()
     }
-    story
+
+    pub fn tick(&mut self, reports: Vec<u32>) {
+        self.state = self.state.tick(&reports).expect("only running nodes are reported").state;
+        self.ticks += 1;
+        self.story.calls.push(Call::Tick(reports));
+    }
 }
 
 /// Whether the state is critical, and with the next tick the last node of each high job ends, by true reports.
