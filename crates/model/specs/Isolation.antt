@@ -92,8 +92,8 @@ pub record SameRecord (r q : TaskRun) : Type 0 where
   pub other-known : q .number < q .tasks .count
   pub says : taskOf r ≡ taskOf q
 
--- S10.14: up to the t-th accepted tick both runs give their task the same: there are so many ticks in both, and at each tick count
--- before the last there are as many accepted releases of the task, and the tick that follows reports the same of it.
+-- S10.14: up to the t-th accepted tick both runs give their task the same: there are so many ticks in both, and at each tick count below t
+-- there are as many accepted releases of the task, and the tick that follows reports the same of it.
 pub record SameGiven (t : ℕ) (r q : TaskRun) : Type 0 where
   pub ticks : t ≤ ticksIn (start r) (r .calls)
   pub other-ticks : t ≤ ticksIn (start q) (q .calls)
