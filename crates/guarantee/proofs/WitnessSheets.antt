@@ -41,7 +41,7 @@ high =
     }
 
 -- A low task whose nodes wait for none.
-abbrev pub lowOf : ℕ → ℕ → ℕ → ℕ → Task
+abbrev lowOf : ℕ → ℕ → ℕ → ℕ → Task
 lowOf nodes deadline work span =
     record {
       level = 0;

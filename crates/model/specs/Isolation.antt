@@ -112,8 +112,8 @@ pub record Alike (m : Model) (i : ℕ) (n : Model) (j : ℕ) : Type 0 where
   pub alive : rowAt m i .job .alive ≡ rowAt n j .job .alive
   pub age : rowAt m i .age ≡ rowAt n j .age
 
--- S10.14: the tasks are alike after each tick up to the t-th, and just before each of them, so that the same nodes run on it. What is held
--- after some calls of either run is given beside it.
+-- S10.14: the tasks are alike after each tick up to the t-th, and just before each of them, so that the same nodes run on it. Beside each run
+-- stands what is held after a list of its calls, be it by the model or by a state.
 pub record AlikeUntil (t : ℕ) (r : TaskRun) (held : List Call → Model) (q : TaskRun) (other-held : List Call → Model) : Type 0 where
   pub after-tick : (s : ℕ) → s ≤ t → Alike (held (untilIn r s)) (r .number) (other-held (untilIn q s)) (q .number)
   pub before-tick : (s : ℕ) → s < t → Alike (held (beforeIn r s)) (r .number) (other-held (beforeIn q s)) (q .number)
