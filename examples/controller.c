@@ -6,7 +6,7 @@
  *
  * SHEET is a file of bytes, as tools/sheet.py writes it; without it, the bytes of examples/worked.sheet are taken. To build it:
  *
- *     rt staticlib exports
+ *     ./build exports
  *     gcc -std=c99 -Wall -Wextra -Werror -Iinclude examples/controller.c -o target/controller target/staticlib/libexports.a
  */
 #include <errno.h>

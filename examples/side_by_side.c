@@ -9,8 +9,8 @@
  * the state after it. Where the two differ it begins with *. The exit status is 0 where the runs agree, 1 where they do not,
  * and 2 where they can't be compared. To build it:
  *
- *     rt staticlib exports
- *     rt staticlib replays
+ *     ./build exports
+ *     ./build replays
  *     gcc -std=c99 -Wall -Wextra -Werror -Iinclude examples/side_by_side.c -o target/side_by_side \
  *         target/staticlib/libexports.a target/staticlib/libreplays.a
  */

@@ -1,4 +1,4 @@
-//! Links the static libraries that `rt staticlib` writes: the controller's calls, Replay, and import.
+//! Links the static libraries that `./build` writes: the controller's calls, Replay, and import.
 use std::path::Path;
 
 fn main() {
@@ -7,7 +7,7 @@ fn main() {
     println!("cargo:rustc-link-search=native={}", folder.display());
     for name in ["exports", "replays", "importer"] {
         let archive = folder.join(format!("lib{name}.a"));
-        assert!(archive.exists(), "no {}: run `rt staticlib {name}` first", archive.display());
+        assert!(archive.exists(), "no {}: run `./build {name}` first", archive.display());
         println!("cargo:rustc-link-lib=static={name}");
         println!("cargo:rerun-if-changed={}", archive.display());
     }

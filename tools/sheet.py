@@ -8,7 +8,7 @@
 
 A tool for the host. It is no part of the image, and nothing is proved of it: the planner reads the bytes itself and
 takes nothing on this tool's word. `plan` hands the bytes to the proved printer and shows its answer; the printer has to
-be built, by `rt check plan_printer`.
+be built, by `./build plan_printer`.
 
 The text, where # begins a comment and the lines of a task stand in any order:
 
@@ -565,7 +565,7 @@ def printed(data):
     try:
         done = subprocess.run([PRINTER], input=data, stdout=subprocess.PIPE, timeout=PATIENCE, check=False)
     except FileNotFoundError:
-        build = f"run `rt check plan_printer` in {console.named(str(ROOT))}"
+        build = f"run `./build plan_printer` in {console.named(str(ROOT))}"
         raise console.Failure(f"{where}: the printer is not built: {build}") from None
     except OSError as error:
         raise console.Failure(f"{where}: {error.strerror}") from None

@@ -119,7 +119,7 @@ def compiled(source, program, *archives):
     return str(program)
 
 
-@unittest.skipUnless(ARCHIVE.exists(), f"no {ARCHIVE.relative_to(ROOT)}: run `rt staticlib exports` first")
+@unittest.skipUnless(ARCHIVE.exists(), f"no {ARCHIVE.relative_to(ROOT)}: run `./build exports` first")
 class Controller(unittest.TestCase):
     @classmethod
     def setUpClass(cls):

@@ -18,11 +18,11 @@ NOT_RUN = {
     "DIBWUNEK_SEED=7 ./test": "it runs this test",
     "python3 -m unittest discover -s tools": "it runs this test",
     "rt ci": "`./test` runs it first; it takes minutes",
-    "rt check plan_printer": "`rt ci` has built the printer; anew it takes minutes",
-    "rt check stg_import": "as the one before it",
-    "rt staticlib exports": "`./test` runs it before this test; anew it takes minutes",
-    "rt staticlib replays": "as the one before it",
-    "rt staticlib importer": "as the two before it",
+    "./build plan_printer": "`rt ci` has built the printer; anew it takes minutes",
+    "./build stg_import": "as the one before it",
+    "./build exports": "`./test` runs it before this test; anew it takes minutes",
+    "./build replays": "as the one before it",
+    "./build importer": "as the two before it",
 }
 
 # What a command needs that another one builds: without it the command is skipped. In `./test` all of it is there.
@@ -109,7 +109,7 @@ class Commands(unittest.TestCase):
         first = text_of("README.md").partition("\n## ")[0]
         self.assertLessEqual(len(first.splitlines()), 50)
         programs = ("sheet.py check", "sheet.py plan", "bin/stg_import", "target/controller", "log.py write", "side_by_side.c")
-        for command in (*programs, "rt staticlib exports", "gcc ", "./test"):
+        for command in (*programs, "./build exports", "gcc ", "./test"):
             self.assertTrue(any(command in line for line in indented(first)), command)
 
     def test_each_command_of_a_tool_that_is_named_exists(self):

@@ -690,7 +690,7 @@ class Printers(unittest.TestCase):
         self.assertEqual(done.stderr.decode(), f"{self.printer}: error: {expected}\n")
 
     def test_not_built(self):
-        self.plan(f"the printer is not built: run `rt check plan_printer` in {self.root}")
+        self.plan(f"the printer is not built: run `./build plan_printer` in {self.root}")
 
     def test_no_program(self):
         self.printer.parent.mkdir(parents=True)

@@ -50,7 +50,7 @@ def first_calls(name, count):
     return "".join(text.splitlines(True)[:count])
 
 
-@unittest.skipUnless(all(path.exists() for path in ARCHIVES), "run `rt staticlib exports` and `rt staticlib replays` first")
+@unittest.skipUnless(all(path.exists() for path in ARCHIVES), "run `./build exports` and `./build replays` first")
 class SideBySide(unittest.TestCase):
     ALONE = ("alone.bin", "alone.calls", "0")
     FULL = ("full.bin", "full.calls", "2")

@@ -18,7 +18,7 @@ fn run(pieces: &[&[u8]]) -> String {
         .stdin(Stdio::piped())
         .stdout(Stdio::piped())
         .spawn()
-        .unwrap_or_else(|error| panic!("{}: {error}: run `rt check plan_printer` first", program.display()));
+        .unwrap_or_else(|error| panic!("{}: {error}: run `./build plan_printer` first", program.display()));
     let mut input = child.stdin.take().expect("the input is a pipe");
     for (place, piece) in pieces.iter().enumerate() {
         if place > 0 {

@@ -26,9 +26,9 @@ use Rattle.allocation.specs.Allocation.{no_fit, chosen_for, share_answer, choice
 use Rattle.allocation.specs.Lawful.{LawfulTask, LawfulSet}
 
 module _ (s : List ℕ) where
-  read_answer : (read_of s).answer ≡ read_answer s
+  read_answer_lem : (read_of s).answer ≡ read_answer s
   unfolding read_of
-  read_answer = go (read_answer s)
+  read_answer_lem = go (read_answer s)
     where
       go : (a : Answer) → (reading_of a s).answer ≡ a
       go Accepted = refl
@@ -36,7 +36,7 @@ module _ (s : List ℕ) where
 
   module _ (accepted : (read_of s).answer ≡ Accepted) where
     answer_accepted : read_answer s ≡ Accepted
-    answer_accepted = sym read_answer ∙ accepted
+    answer_accepted = sym read_answer_lem ∙ accepted
 
     -- The task set is the sheet's.
     pub accepted_set : (read_of s).set ≡ task_set_of s

@@ -12,14 +12,14 @@ use sheet::answer::Answer;
 use sheet::task::TaskSet;
 
 // S5.4: where a task's block begins in the typical and in the critical mode.
-#[derive(Drop)]
+#[derive(Clone, Copy)]
 pub struct Offset {
     pub typical: u8,
     pub critical: u8,
 }
 
 // What is fixed for one task: its share (S5.3), where its blocks begin (S5.4), V (S4.5) and the remainder (S4.6).
-#[derive(Drop)]
+#[derive(Clone, Copy)]
 pub struct Allocation {
     pub share: Share,
     pub offset: Offset,
@@ -28,7 +28,7 @@ pub struct Allocation {
 }
 
 // The answer on a sheet, the number of its tasks, and what is fixed for them; zeros where it is refused and after the last task.
-#[derive(Drop)]
+#[derive(Clone, Copy)]
 pub struct Allocated {
     pub answer: Answer,
     pub count: u8,

@@ -14,7 +14,7 @@ use sheet::task::TaskSet;
 const NO_SHARE: u8 = 7;
 
 // The answer on a task set, and the shares of its tasks; zeros where nothing is chosen and after the last task.
-#[derive(Drop)]
+#[derive(Clone, Copy)]
 pub struct Chosen {
     pub answer: Answer,
     pub shares: [Share; 16],

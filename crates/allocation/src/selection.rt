@@ -11,7 +11,7 @@ use sheet::answer::{Answer, NO_TASK};
 const NO_FIT: u8 = 8;
 
 // The least critical total at each typical total 0 to 64. m + 1 stands for none, and for any total above m.
-#[derive(Drop)]
+#[derive(Clone, Copy)]
 pub struct Totals {
     pub cells: [u8; 65],
 }

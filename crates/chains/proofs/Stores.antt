@@ -60,6 +60,9 @@ pub chains_none : (masks : List ℕ) (times : ℕ → ℕ) → chains_below mask
 unfolding chains_below
 chains_none masks times = refl
 
+pub chains_first : (masks : List ℕ) (times : ℕ → ℕ) (v : ℕ) → v < 1 → chains_below masks times v ++ replicate (32 - v) 0 ≡ replicate 32 0
+chains_first masks times v h = let e : v ≡ 0 = omega arith in rw e (chains_none masks times)
+
 -- Up to 32 small times have a sum within a word.
 pub sum-small : (times : List ℕ) (k : ℕ) → Small times → k ≤ 32 → sum_below k (time_at times) ≤ 32 * time_limit
 unfolding Small

@@ -1,4 +1,6 @@
 // S14.7: the work and the span that times of nodes come to.
+#![tactic(auto)]
+
 ghost use Rattle.std.specs.Prelude.{◌≡◌, ◌++◌, ◌-◌, ◌≤◌, length, replicate};
 ghost use Rattle.nodes.specs.Sets.{members};
 ghost use Rattle.model.specs.Budget.{sum_below};
@@ -26,6 +28,7 @@ fn longest_among(chains: &[u32], nodes: u32) -> u32
 }
 
 // S14.7: for each of the nodes below v the longest chain that ends at it. The chains below v - 1 come first, then that of v - 1.
+#[tactic(auto, using(crate::proofs::Stores::chains_first))]
 fn chains_below(v: usize, times: &[u32], masks: &[u32]) -> [u32; 32]
     requires v_bound { (v ≤ 32) × (v ≤ length times.now) × (v ≤ length masks.now) }
     requires small { Small times.now }

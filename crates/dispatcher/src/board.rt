@@ -17,7 +17,7 @@ const WRONG_LENGTH: u8 = 16;
 const UNUSED: u8 = 255;
 
 // Board's answer beside the state, which comes back as it is.
-#[derive(Drop)]
+#[derive(Clone, Copy)]
 pub struct Boarded {
     pub state: State,
     pub answer: Answer,

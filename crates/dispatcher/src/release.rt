@@ -16,7 +16,7 @@ use sheet::answer::{Answer, NO_TASK};
 const UNKNOWN_TASK: u8 = 11;
 
 // Release's answer beside the state that it returns.
-#[derive(Drop)]
+#[derive(Clone, Copy)]
 pub struct Released {
     pub state: State,
     pub answer: Answer,

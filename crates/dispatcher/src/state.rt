@@ -2,7 +2,7 @@
 use entries::state::TaskState;
 
 // S7.1: `processors` is M and `count` is n; the mode is typical or critical; tasks have the first n of the sixteen entries.
-#[derive(Drop)]
+#[derive(Clone, Copy)]
 pub struct State {
     pub processors: u8,
     pub count: u8,

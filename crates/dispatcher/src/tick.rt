@@ -19,7 +19,7 @@ const WRONG_COUNT: u8 = 14;
 const NOT_RUNNING: u8 = 15;
 
 // S8.7: a tick ran, it switched for a task, it returned, or it was refused with a number and a task.
-#[derive(Drop)]
+#[derive(Clone, Copy)]
 pub enum TickAnswer {
     Ran,
     Switched(u8),
@@ -28,7 +28,7 @@ pub enum TickAnswer {
 }
 
 // A tick's answer beside the state that it returns.
-#[derive(Drop)]
+#[derive(Clone, Copy)]
 pub struct Ticked {
     pub state: State,
     pub answer: TickAnswer,

@@ -7,7 +7,7 @@ use sheet::answer::NO_TASK;
 
 // What a pass over the first tasks found: the sums of their shares, the first task that reports a node that is not running,
 // and the lowest late task, 255 for none; and whether a high job is alive.
-#[derive(Drop)]
+#[derive(Clone, Copy)]
 pub struct Pass {
     pub typical: u32,
     pub critical: u32,

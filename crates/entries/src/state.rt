@@ -2,7 +2,7 @@
 use shares::share::Share;
 
 // S7.1: what one release begins: the job's ended set, and whether it is alive.
-#[derive(Drop)]
+#[derive(Clone, Copy)]
 pub struct Job {
     pub ended: u32,
     pub alive: bool,
@@ -10,7 +10,7 @@ pub struct Job {
 
 // S7.1: what the sheet and the plan fix, and below `share` what calls change. `nodes` is k, `predecessors` are the masks, and
 // `virtual_deadline` is V: the age at which an alive job of a high task turns the mode critical.
-#[derive(Drop)]
+#[derive(Clone, Copy)]
 pub struct TaskState {
     pub level: u8,
     pub nodes: u8,

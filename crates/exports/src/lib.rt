@@ -1,5 +1,7 @@
 // What a controller's C or Rust code links: the calls on lines of words, buffers and numbers (S13). Beside them what the tests and the
 // benchmarks call.
+#![tactic(auto)]
+
 mod checking;
 mod decoding;
 pub mod dispatching;

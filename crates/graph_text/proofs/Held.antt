@@ -2,13 +2,10 @@
 use Prim.Native.Nat.{ℕ, zero, suc, ◌+◌, ◌-◌, ◌≤◌, ◌<◌, min}
 use mathlib.Core.Bool.{Bool, true, false, cond, ◌&&◌, and_assoc, and-true}
 use mathlib.Core.List.{List, [], ◌∷◌}
-use mathlib.Core.Logic.{inl, inr}
 use mathlib.Core.Option.{Option, none, some}
 use mathlib.Core.Path.{◌≡◌, refl, sym, ap, ◌∙◌}
 use native.Mathlib.Decide.{dec_le}
 use native.Mathlib.Omega.{arith}
-use denote.Enum.Declared as declared
-use types.Run.{OneOf}
 use lib.Dec.{eqb, leb, ltb}
 use lib.ListN.{length, take, drop, get_or, set, replicate}
 use borrow.Author.Tests.{leb-true, leb-false, le-leb}
@@ -20,7 +17,6 @@ use Rattle.graph_text.specs.Graph.{Entry, Graph, time_lawful, entry_before, entr
 use Rattle.graph_text.specs.Read.{node_graph}
 use Rattle.graph_text.specs.means.Scan.{numerals_at, number_before, Told}
 use Rattle.graph_text.specs.means.Entries.{Held, none_held, is_node, stored_at, held_with, held_of, held_graph}
-use Rattle.graph_text.specs.contracts.text.Next as next
 use Rattle.graph_text.proofs.Entries.{node_as, held_all, held_for, held_entries}
 
 -- As many entries are read as were asked for.
@@ -165,9 +161,8 @@ graph_held count (some numerals) =
     ∙ held_whole count (entries_from count 0 (suc (suc count)) numerals) (entries_length count 0 (suc (suc count)) numerals)
 
 -- A text with no numeral in front says no graph.
-pub graph_none : (text : List ℕ) (at : ℕ) (r : Next) → OneOf (1 ∷ 2 ∷ []) (declared.tag_of next.the_type r) → Told text at r →
+pub graph_none : (text : List ℕ) (at : ℕ) (r : Next) → ((n behind : ℕ) → r ≡ Numeral n behind → ⊥) → Told text at r →
     graph_from (numerals_at text at) ≡ none
-graph_none text at (Numeral n behind) (inl e) told = absurd (omega (arith, e))
-graph_none text at (Numeral n behind) (inr e) told = absurd (omega (arith, e))
+graph_none text at (Numeral n behind) other told = absurd (other n behind refl)
 graph_none text at Nothing other told = rw told
 graph_none text at Fault other told = rw told

@@ -2,12 +2,9 @@
 use Prim.Native.Nat.{ℕ, zero, suc, ◌-◌, ◌<◌}
 use mathlib.Core.Bool.{Bool, true, false, cond, ◌&&◌}
 use mathlib.Core.List.{List, [], ◌∷◌}
-use mathlib.Core.Logic.{inl, inr}
 use mathlib.Core.Option.{Option, none, some}
 use mathlib.Core.Path.{◌≡◌, refl, sym, ◌∙◌}
 use native.Mathlib.Omega.{arith}
-use denote.Enum.Declared as declared
-use types.Run.{OneOf}
 use lib.Dec.{eqb}
 use Rattle.graph_text.specs.declared.text.Next.{Next}
 use Rattle.graph_text.specs.declared.text.Next.TheVariants.{Numeral, Nothing, Fault}
@@ -17,13 +14,11 @@ use Rattle.graph_text.specs.declared.graph.EntryRead.TheVariants.{Read, Fault as
 use Rattle.graph_text.specs.Graph.{time_lawful}
 use Rattle.graph_text.specs.means.Scan.{numerals_at, number_before, Told}
 use Rattle.graph_text.specs.means.Entries.{Taken, taken_from, taken_before, Reads, after_taken, with_named, named_from, node_with, entry_from, Held, held_with, held_from, held_of}
-use Rattle.graph_text.specs.contracts.text.Next as next
 
 -- Where no numeral was told, there is nothing to take for what needs one.
 pub no_numeral : {A : Type 0} (take : List ℕ → Option (Taken A)) (text : List ℕ) (at : ℕ) (r : Next) →
-    OneOf (1 ∷ 2 ∷ []) (declared.tag_of next.the_type r) → Told text at r → take [] ≡ none → taken_from take (numerals_at text at) ≡ none
-no_numeral take text at (Numeral n behind) (inl e) told needed = absurd (omega (arith, e))
-no_numeral take text at (Numeral n behind) (inr e) told needed = absurd (omega (arith, e))
+    ((n behind : ℕ) → r ≡ Numeral n behind → ⊥) → Told text at r → take [] ≡ none → taken_from take (numerals_at text at) ≡ none
+no_numeral take text at (Numeral n behind) other told needed = absurd (other n behind refl)
 no_numeral take text at Nothing other told needed = rw told needed
 no_numeral take text at Fault other told needed = rw told
 
@@ -110,7 +105,7 @@ pub held_end : (count v : ℕ) (held : Held) (text : List ℕ) (at : ℕ) (r : N
 unfolding held_from
 held_end count v held text at r e told = let none = rw e at told in rw none
 
-pub held_past : (count v : ℕ) (held : Held) (text : List ℕ) (at : ℕ) (r : Next) → OneOf (0 ∷ 2 ∷ []) (declared.tag_of next.the_type r) →
+pub held_past : (count v : ℕ) (held : Held) (text : List ℕ) (at : ℕ) (r : Next) → (r ≡ Nothing → ⊥) →
     Told text at r → held_of count v 0 held (numerals_at text at) ≡ none
 unfolding held_from
 held_past count v held text at (Numeral n behind) other (inside, small, told) = rw told (go (numerals_at text behind))
@@ -118,6 +113,5 @@ held_past count v held text at (Numeral n behind) other (inside, small, told) = 
     go : (others : Option (List ℕ)) → held_of count v 0 held (number_before n others) ≡ none
     go none = refl
     go (some others) = refl
-held_past count v held text at Nothing (inl e) told = absurd (omega (arith, e))
-held_past count v held text at Nothing (inr e) told = absurd (omega (arith, e))
+held_past count v held text at Nothing other told = absurd (other refl)
 held_past count v held text at Fault other told = rw told

@@ -12,7 +12,7 @@ use basics::numbers::is_within;
 const NODES: u32 = 32;
 
 // An entry as a node: its time, its mask, and whether it names lower numbers only (S14.4).
-#[derive(Drop)]
+#[derive(Clone, Copy)]
 struct Node {
     time: u32,
     mask: u32,
@@ -20,14 +20,14 @@ struct Node {
 }
 
 // An entry that was read, with the place behind it; or none of the format.
-#[derive(Drop)]
+#[derive(Clone, Copy)]
 enum EntryRead {
     Read(Node, usize),
     Fault,
 }
 
 // The graph of a text by its nodes. Where the text is not of the format, nothing else is told.
-#[derive(Drop)]
+#[derive(Clone, Copy)]
 pub struct NodeGraph {
     pub times: [u32; 32],
     pub masks: [u32; 32],

@@ -14,7 +14,7 @@ const NINE: u8 = 57;
 const LIMIT: u32 = 65535;
 
 // What stands next in a text: a numeral, with the place behind it; nothing; or something that is no numeral.
-#[derive(Drop)]
+#[derive(Clone, Copy)]
 pub enum Next {
     Numeral(u32, usize),
     Nothing,

@@ -12,7 +12,7 @@ use sheet::answer::Answer;
 use start::start;
 
 // S12.3: how many bytes were written, or that the buffer is too short for them.
-#[derive(Drop)]
+#[derive(Clone, Copy)]
 pub enum Replayed {
     Written(usize),
     Short,

@@ -20,7 +20,7 @@ const REFUSED: u8 = 2;
 const RETURNED: u8 = 3;
 
 // A call's answer as three numbers, beside the state that it returned.
-#[derive(Drop)]
+#[derive(Clone, Copy)]
 pub struct Turn {
     pub state: State,
     pub outcome: u8,

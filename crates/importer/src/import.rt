@@ -1,6 +1,6 @@
 // S14.9: import.
 ghost use Rattle.std.specs.Prelude.{◌≡◌, length};
-ghost use Rattle.sheet.specs.Answers.{number_of, task_of, answer_word, Says};
+ghost use Rattle.sheet.specs.Answers.{number_of, task_of, Says};
 ghost use Rattle.importer.specs.Import.{terms, import_answer, imported};
 ghost use Rattle.importer.specs.means.Nodes.{ReadSmall, nodes_answer};
 
@@ -9,7 +9,7 @@ use crate::task::task_of;
 use crate::terms::{Terms, terms_lawful};
 use basics::numbers::is_within;
 use graph_text::graph::{NodeGraph, read_graph};
-use sheet::answer::{Answer, NO_TASK, answer_word, or_else, refused_unless};
+use sheet::answer::{Answer, NO_TASK, or_else, refused_unless};
 use sheet::rules::in_range;
 
 // Refusals 17 to 19.
@@ -51,20 +51,4 @@ pub fn import(text: &[u8], level: u32, deadline: u32, percentage: u32, record: &
     let inside = in_range(task.level, task.figures);
     write_if(inside, record, task);
     refused_unless(inside, FIGURE_OUTSIDE, NO_TASK)
-}
-
-// S13.9: import for programs in C and Rust.
-#[unsafe(no_mangle)]
-pub extern "C" fn dibwunek_import(
-    text: &[u8],
-    level: u32,
-    deadline: u32,
-    percentage: u32,
-    record: &mut [u8],
-) -> u32
-    ensures answered { result ≡ answer_word (import_answer text.now (terms level deadline percentage) (length «record».old)) }
-    ensures written { «record».new ≡ imported text.now (terms level deadline percentage) «record».old }
-{
-    let answer = import(text, level, deadline, percentage, record);
-    answer_word(answer)
 }

@@ -1,4 +1,6 @@
 // Import: a graph in the Standard Task Graph format becomes the record of a task (S14). No part of the image.
+#![tactic(auto)]
+
 pub mod import;
 mod record;
 mod task;

@@ -5,7 +5,7 @@ ghost use Rattle.importer.specs.Task.{terms_lawful};
 use basics::numbers::is_within;
 
 // What the caller asks for: the task's level, its deadline D, and the percentage that makes overload times of times.
-#[derive(Drop)]
+#[derive(Clone, Copy)]
 pub struct Terms {
     pub level: u32,
     pub deadline: u32,

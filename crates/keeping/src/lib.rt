@@ -1,4 +1,6 @@
 // S5.6, S5.7: the low tasks that are kept in the critical mode. In the shares of a choice they are those without a critical share.
+#![tactic(auto)]
+
 ghost use Rattle.std.specs.Prelude.{◌≡◌, ◌+◌, ◌≤◌, take};
 ghost use Rattle.basics.specs.Order.{least, capped_at};
 ghost use Rattle.shares.specs.Totals.{critical_total};
@@ -8,7 +10,7 @@ ghost use Rattle.keeping.specs.means.Keeping.{kept_line, Next, Keepable};
 use shares::share::Share;
 
 // A task to keep, and the critical total with it. m + 1 stands for any total above m.
-#[derive(Drop)]
+#[derive(Clone, Copy)]
 struct NextKept {
     task: usize,
     total: u8,

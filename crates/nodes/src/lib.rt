@@ -1,4 +1,6 @@
 // Sets of graph nodes in a u32: bit v stands for node v.
+#![tactic(auto)]
+
 ghost use Rattle.std.specs.Prelude.{◌<◌, ◌^◌, min, ◌≡◌, take};
 ghost use Rattle.basics.specs.Lists.{range};
 ghost use Rattle.nodes.specs.Sets.{members, set_of, is_within};

@@ -1,13 +1,15 @@
 // S11.11, S11.12: plans A and B on 8, 6, 5 and 3 processors, then A, B and E on 7. A line for each sheet: the answer's number and
 // task, and the plan's bytes where it is accepted.
+#![tactic(auto)]
+
 ghost use Rattle.std.specs.Prelude.{◌≡◌, ◌∷◌, take};
 ghost use Rattle.sheet.specs.Answers.{no_task};
 
-use libc::STDOUT_FILENO;
 use plan_text::line::with_line;
 use plan_text::text::empty;
 use planner::plan::plan;
 use sheet::answer::{Answer, NO_TASK};
+use std::io;
 
 // S2: M 8; two tasks, at 10 and 26, with 16 bytes each: A and B, a node each.
 const TWO: [u8; 42] = [
@@ -23,11 +25,11 @@ const THREE: [u8; 62] = [
 ];
 
 // Prints a line of these numbers.
-fn print_line(numbers: &[u32]) {
+fn print_line(rt: &impl Print, numbers: &[u32]) -> io::Result<()> {
     let text = with_line(empty(), numbers);
     let len = text.len;
     let bytes = text.bytes;
-    io::write_all(STDOUT_FILENO, &bytes[..len]);
+    rt.write_all(&bytes[..len])
 }
 
 // A byte as a number of a line.
@@ -52,30 +54,30 @@ fn accepted(plan: [u8; 27]) -> [u32; 20]
 }
 
 // Plans a sheet of at most three tasks and prints the answer, and the plan where it is one of two tasks.
-fn print_case(sheet: &[u8]) {
+fn print_case(rt: &impl Print, sheet: &[u8]) -> io::Result<()> {
     let mut buffer = [0u8; 27];
     let answer = plan(sheet, &mut buffer);
     match answer {
         Answer::Accepted => {
             let numbers = accepted(buffer);
-            print_line(&numbers);
+            print_line(rt, &numbers)
         },
         Answer::Refused(cause, task) => {
             let numbers = [number(cause), number(task)];
-            print_line(&numbers);
+            print_line(rt, &numbers)
         },
     }
 }
 
-fn main() {
+fn main(rt: HostRuntime) -> io::Result<()> {
     let mut two = TWO;
-    print_case(&two);
+    print_case(&rt, &two)?;
     two[0] = 6;
-    print_case(&two);
+    print_case(&rt, &two)?;
     two[0] = 5;
-    print_case(&two);
+    print_case(&rt, &two)?;
     two[0] = 3;
-    print_case(&two);
+    print_case(&rt, &two)?;
     let three = THREE;
-    print_case(&three);
+    print_case(&rt, &three)
 }

@@ -1,29 +1,40 @@
-// The plan printer. S6.4: the sheet is the first 4,096 bytes of standard input, which is what a buffer of `io` takes, or all of
-// them where there are fewer. What is printed is S6.1 to S6.3. It has no exit status: what it can't do it says on standard error.
-use libc::{STDERR_FILENO, STDIN_FILENO, STDOUT_FILENO};
+// The plan printer. S6.4: the sheet is the first 4,096 bytes of standard input, or all of them where there are fewer. What is printed
+// is S6.1 to S6.3. It has no exit status: what it can't do it says on standard error.
+#![tactic(auto)]
+
+use input::read_full;
 use plan_text::printed::write_plan;
+use std::env::{Env, FillError};
+use std::io::Read;
+
+// S6.4: the bytes that are taken.
+const TAKEN: usize = 4096;
 
 // Reads the sheet and prints its plan.
-fn print_plan() {
-    let mut sheet = io::buffer();
-    let n = io::read_full(STDIN_FILENO, &mut sheet);
+fn print_plan<R: Read>(rt: &(impl Print + Eprint), input: &mut R) {
+    let mut sheet = [0u8; TAKEN];
+    let n = read_full(input, &mut sheet);
     let mut text = [0u8; 480];
     let len = write_plan(&sheet[..n], &mut text);
-    if !io::write_all(STDOUT_FILENO, &text[..len]) {
-        io::write_all(
-            STDERR_FILENO,
-            b"plan_printer: the plan could not be written\n",
-        );
+    if rt.write_all(&text[..len]).is_err() {
+        let _ = eprintln!(rt; "plan_printer: the plan could not be written");
     }
 }
 
-fn main() {
-    if 1 < os::arg_count() {
-        io::write_all(
-            STDERR_FILENO,
-            b"plan_printer: no argument is read; the sheet comes on standard input\n",
+// Whether the command line has a word behind the program's name.
+fn has_argument(rt: &impl Env) -> bool {
+    match rt.arg(1, &mut []) {
+        Err(FillError::NotPresent) => false,
+        _ => true,
+    }
+}
+
+fn main(rt: HostRuntime) {
+    if has_argument(&rt) {
+        let _ = eprintln!(rt;
+            "plan_printer: no argument is read; the sheet comes on standard input"
         );
         return;
     }
-    print_plan();
+    print_plan(&rt, &mut rt.stdin());
 }

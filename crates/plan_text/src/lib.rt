@@ -1,4 +1,6 @@
 // S6: the plan of a sheet as printed lines.
+#![tactic(auto)]
+
 pub mod line;
 pub mod printed;
 pub mod text;

@@ -7,7 +7,7 @@ ghost use Rattle.plan_text.specs.means.Growth.{holding, with_byte, with_bytes};
 const ROOM: usize = 480;
 
 // The bytes of a text, and how many of them it has.
-#[derive(Drop)]
+#[derive(Clone, Copy)]
 pub struct Text {
     pub bytes: [u8; 480],
     pub len: usize,

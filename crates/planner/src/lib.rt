@@ -1,2 +1,4 @@
 // The planner: the plan of a sheet.
+#![tactic(auto)]
+
 pub mod plan;

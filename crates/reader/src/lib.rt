@@ -1,4 +1,6 @@
 // The reader: what a list of bytes says as a sheet (S2), and refusals 1 to 6.
+#![tactic(auto)]
+
 ghost use Rattle.std.specs.Prelude.{◌≡◌, ◌≤◌};
 ghost use Rattle.sheet.specs.Answers.{number_of, task_of, first_over, Says};
 ghost use Rattle.sheet.specs.Format.{count_of, zero_task_set};
@@ -17,7 +19,7 @@ mod record;
 const BAD_HEADER: u8 = 1;
 
 // S3.5: a reading's answer, and the task set: zeros where it was refused.
-#[derive(Drop)]
+#[derive(Clone, Copy)]
 pub struct Reading {
     pub answer: Answer,
     pub set: TaskSet,

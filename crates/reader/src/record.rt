@@ -15,7 +15,7 @@ use sheet::task::{Budget, Figures, Task, zero_task};
 const BAD_RECORD: u8 = 3;
 
 // A record's answer, and its task where it was accepted.
-#[derive(Drop)]
+#[derive(Clone, Copy)]
 pub struct Record {
     pub answer: Answer,
     pub task: Task,

@@ -1,12 +1,13 @@
 // S11.13, run through Replay (S12): A alone with shares (1, 2) and three nodes without predecessors. Start's answer is a line,
 // and so is each call's record: outcome, number, task, mode, alive, age, ended set. Lengths 4, 3, 2: ended with tick 9, no switch.
 // Lengths 4, 3, 3: tick 9 switches, the job has ended with tick 10, and that tick returns.
+#![tactic(auto)]
+
 ghost use Rattle.std.specs.Prelude.{◌≤◌, ◌<◌, length};
 
 use basics::numbers::{byte_at, u32_at};
 use guarantee::replay::{Replayed, replay};
-
-const STDOUT: i32 = 1;
+use std::io;
 
 // S12.2: the bytes of a record of one task, 4 + 9.
 const RECORD: usize = 13;
@@ -29,66 +30,59 @@ const SWITCHED: [u8; 65] = [
     0,
 ];
 
-// A number with a blank before it.
-fn print_field(x: u64) {
-    io::write_all(STDOUT, b" ");
-    io::print_decimal(STDOUT, x);
-}
-
 // S12.2: Start's number and task, a byte each.
-fn print_start(text: &[u8]) {
-    io::write_all(STDOUT, b"start");
-    print_field(byte_at(text, 0) as u64);
-    print_field(byte_at(text, 1) as u64);
-    io::write_all(STDOUT, b"\n");
+fn print_start(rt: &impl Print, text: &[u8]) -> io::Result<()> {
+    let number = byte_at(text, 0);
+    let task = byte_at(text, 1);
+    println!(rt; "start {number} {task}")
 }
 
 // S12.2: a record of one task, as a line.
-fn print_record(text: &[u8], at: usize)
+fn print_record(rt: &impl Print, text: &[u8], at: usize) -> io::Result<()>
     requires { at < length text.now }
 {
-    io::print_decimal(STDOUT, byte_at(text, at) as u64);
-    print_field(byte_at(text, at + 1) as u64);
-    print_field(byte_at(text, at + 2) as u64);
-    print_field(byte_at(text, at + 3) as u64);
-    print_field(byte_at(text, at + 4) as u64);
-    print_field(u32_at(text, at + 5) as u64);
-    print_field(u32_at(text, at + 9) as u64);
-    io::write_all(STDOUT, b"\n");
+    let outcome = byte_at(text, at);
+    let number = byte_at(text, at + 1);
+    let task = byte_at(text, at + 2);
+    let mode = byte_at(text, at + 3);
+    let alive = byte_at(text, at + 4);
+    let age = u32_at(text, at + 5);
+    let ended = u32_at(text, at + 9);
+    println!(rt; "{outcome} {number} {task} {mode} {alive} {age} {ended}")
 }
 
 // The records of the first n bytes, which begin behind Start's answer.
-fn print_records(text: &[u8], n: usize)
+fn print_records(rt: &impl Print, text: &[u8], n: usize) -> io::Result<()>
     requires { n ≤ length text.now }
 {
     let mut at: usize = 2;
     while at < n {
-        print_record(text, at);
+        print_record(rt, text, at)?;
         at += RECORD;
     }
+    Ok(())
 }
 
 // Runs the calls of a log and prints what Replay writes.
-fn show(calls: &[u8]) {
+fn show(rt: &impl Print, calls: &[u8]) -> io::Result<()> {
     let sheet = SHEET;
     let mut out = [0u8; 256];
     let replayed = replay(&sheet, calls, &mut out);
     match replayed {
         Replayed::Written(n) => {
-            print_start(&out);
+            print_start(rt, &out)?;
             if n <= out.len() {
-                print_records(&out, n);
+                print_records(rt, &out, n)?;
             }
-        }
-        Replayed::Short => {
-            io::write_all(STDOUT, b"short\n");
-        }
+            Ok(())
+        },
+        Replayed::Short => println!(rt; "short"),
     }
 }
 
-fn main() {
+fn main(rt: HostRuntime) -> io::Result<()> {
     let ended = ENDED;
     let switched = SWITCHED;
-    show(&ended);
-    show(&switched);
+    show(&rt, &ended)?;
+    show(&rt, &switched)
 }

@@ -1,4 +1,6 @@
 // S13.7: Replay for programs in C and Rust, of the support line. It is an archive of its own, so that a controller's has none of it.
+#![tactic(auto)]
+
 ghost use Rattle.std.specs.Prelude.{◌≡◌, length};
 ghost use Rattle.guarantee.specs.Replay.{replayed_of, replay_over};
 ghost use Rattle.replays.specs.Written.{bytes_written};

@@ -8,14 +8,14 @@ use sheet::level::is_low;
 use sheet::task::{Figures, Task};
 
 // How many whole times a share goes into a figure, and what is left.
-#[derive(Drop)]
+#[derive(Clone, Copy)]
 struct Division {
     quotient: u32,
     remainder: u32,
 }
 
 // V in whole ticks, and the remainder of the division behind it: V was rounded down by remainder / a of a tick.
-#[derive(Drop)]
+#[derive(Clone, Copy)]
 pub struct VirtualDeadline {
     pub ticks: u32,
     pub remainder: u32,

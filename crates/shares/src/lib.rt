@@ -1,4 +1,6 @@
 // Shares: how many processors a task needs in typical and in critical mode.
+#![tactic(auto)]
+
 pub mod deadline;
 mod low;
 mod number;

@@ -10,8 +10,8 @@ pub fn less(x: u32, y: u32) -> u32
 
 // A figure times a share.
 pub fn times(x: u32, share: u8) -> u64
-    ensures fact_1 { result ≡ x * share }
-    ensures fact_2 { result < 2 ^ 40 }
+    ensures value { result ≡ x * share }
+    ensures bound { result < 2 ^ 40 }
 {
     x as u64 * share as u64
 }

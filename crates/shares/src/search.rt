@@ -6,7 +6,7 @@ use crate::test::{meets, terms_of};
 use sheet::task::Figures;
 
 // What a search for a share finds: a share, or none.
-#[derive(Drop)]
+#[derive(Clone, Copy)]
 pub enum Found {
     At(u8),
     Nothing,

@@ -8,7 +8,7 @@ use sheet::task::Figures;
 
 // What the test takes from the figures at one typical share a. A critical share b passes where
 // supply·b is at least slope·b + fixed + extra·(b − a).
-#[derive(Drop)]
+#[derive(Clone, Copy)]
 pub struct Terms {
     supply: u64,
     slope: u64,

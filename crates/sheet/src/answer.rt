@@ -3,7 +3,7 @@ ghost use Rattle.std.specs.Prelude.{◌≡◌, not};
 ghost use Rattle.sheet.specs.Answers.{refused_if, ◌or_else◌, answer_word};
 
 // S3.1: accepted, or refused with a number and the task at fault.
-#[derive(Drop)]
+#[derive(Clone, Copy)]
 pub enum Answer {
     Accepted,
     Refused(u8, u8),

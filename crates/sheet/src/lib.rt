@@ -1,4 +1,6 @@
 // The sheet: the format of its bytes, what they say, and the rules of a record.
+#![tactic(auto)]
+
 pub mod answer;
 pub mod level;
 pub mod rules;

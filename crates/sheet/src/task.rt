@@ -3,14 +3,14 @@ ghost use Rattle.std.specs.Prelude.{◌≡◌};
 ghost use Rattle.sheet.specs.Format.{zero_task};
 
 // S2.8: what a job may take, in ticks: the work of all its nodes together, and the span along any chain of them.
-#[derive(Drop)]
+#[derive(Clone, Copy)]
 pub struct Budget {
     pub work: u32,
     pub span: u32,
 }
 
 // S2.6: the five figures of a task: D, then CN and LN, then CO and LO.
-#[derive(Drop)]
+#[derive(Clone, Copy)]
 pub struct Figures {
     pub deadline: u32,
     pub nominal: Budget,
@@ -19,7 +19,7 @@ pub struct Figures {
 
 // S2.6: a task: its figures, for each node the set of its predecessors, its level (`level.rt` says what it means) and the number of its
 // nodes, k. The bytes stand last, so that there is no gap between the fields.
-#[derive(Drop)]
+#[derive(Clone, Copy)]
 pub struct Task {
     pub figures: Figures,
     pub predecessors: [u32; 32],
@@ -28,7 +28,7 @@ pub struct Task {
 }
 
 // S2: a sheet's processors, M, the number of its tasks, n, and the tasks.
-#[derive(Drop)]
+#[derive(Clone, Copy)]
 pub struct TaskSet {
     pub processors: u8,
     pub count: u8,

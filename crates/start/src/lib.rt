@@ -1,4 +1,6 @@
 // S8.1: Start, from a sheet to a fresh state.
+#![tactic(auto)]
+
 ghost use Rattle.std.specs.Prelude.{◌≡◌, ◌≤◌};
 ghost use Rattle.sheet.specs.Answers.{number_of, task_of, Says};
 ghost use Rattle.start.specs.Start.{fresh_state, zero_state, start_of};
@@ -14,7 +16,7 @@ use sheet::task::TaskSet;
 pub mod fresh;
 
 // Start's answer beside the state: a fresh one, or zeros where it was refused.
-#[derive(Drop)]
+#[derive(Clone, Copy)]
 pub struct Started {
     pub state: State,
     pub answer: Answer,

@@ -1,73 +1,77 @@
 // `stg_import FILE level D percentage`: writes the record that import makes of the file's graph (S14.9) to standard output. It has no
 // exit status: what it can't do is one line on standard error, and then standard output stays empty.
+#![tactic(auto)]
+
 ghost use Rattle.std.specs.Prelude.{◌+◌, ◌*◌, ◌≤◌, length};
 
 use graph_text::text::{Next, next_numeral};
 use importer::import::import;
 use importer::terms::{Terms, terms_lawful};
-use libc::{STDERR_FILENO, STDOUT_FILENO};
+use input::read_full;
 use sheet::answer::Answer;
+use std::env::{Env, FillError};
+use std::fs::{File, Files};
+use std::io;
+use std::io::Read;
 
-// An argument that should be a number.
-#[derive(Drop)]
-enum Argument {
-    Number(u32),
-    Wrong,
-}
+// The bytes of a word of the command line that is read.
+const WORD: usize = 4096;
 
-// The terms on the command line, where each is a number.
-#[derive(Drop)]
-enum Asked {
-    Import(Terms),
-    Nothing,
-}
+// The bytes of a file that is read.
+const FILE: usize = 65536;
 
 // One line on standard error.
-fn say(words: &[u8]) {
-    io::write_all(STDERR_FILENO, b"stg_import: ");
-    io::write_all(STDERR_FILENO, words);
-    io::write_all(STDERR_FILENO, b"\n");
+fn say(rt: &impl Eprint, words: &str) {
+    let _ = eprintln!(rt; "stg_import: {words}");
 }
 
-// One line on standard error: the file, and what befell it.
-fn say_failed(path: &[u8]) {
-    io::write_all(STDERR_FILENO, b"stg_import: ");
-    os::fail(path);
-}
-
-// Argument i as a decimal number from 0 to 65,535.
-fn number_at(i: usize) -> Argument {
-    let mut word = io::buffer();
-    let n = os::arg(i, &mut word);
-    let next = next_numeral(&word[..n], 0);
-    let Next::Numeral(value, behind) = next else {
-        return Argument::Wrong;
-    };
-    if behind == n {
-        Argument::Number(value)
-    } else {
-        Argument::Wrong
+// What an error says, without the number that std writes behind it.
+fn without_number(words: &str) -> &str {
+    match words.split_once(" (os error ") {
+        Some((front, _)) => front,
+        None => words,
     }
 }
 
-// The three numbers behind the file's name.
-fn terms_asked() -> Asked {
-    let first = number_at(2);
-    let Argument::Number(level) = first else {
-        say(b"level: expected a number from 0 to 65535");
-        return Asked::Nothing;
+// One line on standard error: the file, and what befell it.
+fn say_failed(rt: &(impl Eprint + Alloc), path: &str, error: &io::Error) {
+    let _ = match format!(in rt.alloc(); "{error}") {
+        Ok(text) => {
+            let words = without_number(text.as_str());
+            eprintln!(rt; "stg_import: {path}: {words}")
+        },
+        Err(_) => eprintln!(rt; "stg_import: {path}: {error}"),
     };
-    let second = number_at(3);
-    let Argument::Number(deadline) = second else {
-        say(b"D: expected a number from 0 to 65535");
-        return Asked::Nothing;
+}
+
+// Word i of the command line as a decimal number from 0 to 65,535, if it is one.
+fn number_at(rt: &impl Env, i: usize) -> Option<u32> {
+    let mut word = [0u8; WORD];
+    let Ok(n) = rt.arg(i, &mut word) else {
+        return None;
     };
-    let third = number_at(4);
-    let Argument::Number(percentage) = third else {
-        say(b"percentage: expected a number from 0 to 65535");
-        return Asked::Nothing;
+    let next = next_numeral(&word[..n], 0);
+    let Next::Numeral(value, behind) = next else {
+        return None;
     };
-    Asked::Import(Terms {
+    if behind == n { Some(value) } else { None }
+}
+
+// The three numbers behind the file's name. Of the first that is none it says so.
+fn terms_asked(rt: &(impl Env + Eprint)) -> Option<Terms> {
+    let Some(level) = number_at(rt, 2) else {
+        say(rt, "level: expected a number from 0 to 65535");
+        return None;
+    };
+    let Some(deadline) = number_at(rt, 3) else {
+        say(rt, "D: expected a number from 0 to 65535");
+        return None;
+    };
+    let Some(percentage) = number_at(rt, 4) else {
+        say(rt, "percentage: expected a number from 0 to 65535");
+        return None;
+    };
+    Some(Terms {
         level,
         deadline,
         percentage,
@@ -75,24 +79,32 @@ fn terms_asked() -> Asked {
 }
 
 // Refusal 17: of the terms where they are at fault, else of the text.
-fn say_17(t: Terms) {
+fn say_17(rt: &impl Eprint, t: Terms) {
     if terms_lawful(t) {
-        say(b"refused 17: the file is no graph in the Standard Task Graph format");
+        say(
+            rt,
+            "refused 17: the file is no graph in the Standard Task Graph format",
+        );
     } else {
         say(
-            b"refused 17: expected level 0 (low) or 1 (high), and a percentage from 100 to 400, of a low task 100",
+            rt,
+            "refused 17: expected level 0 (low) or 1 (high), and a percentage from 100 to 400, of a low task 100",
         );
     }
 }
 
 // Why import refused (S9.17 to S9.19).
-fn say_refused(number: u8, t: Terms) {
+fn say_refused(rt: &impl Eprint, number: u8, t: Terms) {
     match number {
         18 => say(
-            b"refused 18: there are more than 32 nodes, or none, or a predecessor is not below its own entry",
+            rt,
+            "refused 18: there are more than 32 nodes, or none, or a predecessor is not below its own entry",
         ),
-        19 => say(b"refused 19: D, a sum of times or a longest chain is not in 1 to 10000"),
-        _ => say_17(t),
+        19 => say(
+            rt,
+            "refused 19: D, a sum of times or a longest chain is not in 1 to 10000",
+        ),
+        _ => say_17(rt, t),
     }
 }
 
@@ -104,72 +116,89 @@ fn record_length(k: u8) -> usize
 }
 
 // Writes the record at the front of some bytes to standard output.
-fn put_record(bytes: &[u8])
+fn put_record(rt: &(impl Print + Eprint), bytes: &[u8])
     requires { 12 + 4 * 255 ≤ length bytes.now }
 {
     let n = record_length(bytes[1]);
-    if !io::write_all(STDOUT_FILENO, &bytes[..n]) {
-        say(b"the record could not be written");
+    if rt.write_all(&bytes[..n]).is_err() {
+        say(rt, "the record could not be written");
     }
 }
 
 // Imports a text of at most 65,536 bytes. An entry takes at least 6 of them, so the buffer has room for any graph that stands in it.
-fn import_text(text: &[u8], t: Terms) {
-    let mut record = io::large_buffer();
-    let answer = import(text, t.level, t.deadline, t.percentage, &mut record);
+fn import_text(rt: &(impl Print + Eprint), text: &[u8], t: Terms) {
+    let mut bytes = [0u8; FILE];
+    let answer = import(text, t.level, t.deadline, t.percentage, &mut bytes);
     match answer {
-        Answer::Accepted => put_record(&record),
-        Answer::Refused(number, _) => say_refused(number, t),
+        Answer::Accepted => put_record(rt, &bytes),
+        Answer::Refused(number, _) => say_refused(rt, number, t),
     }
 }
 
 // Whether nothing more can be read; where a read fails, or the file goes on, that is said.
-fn is_at_end(fd: i32, path: &[u8]) -> bool {
+fn is_at_end<F: Read>(rt: &(impl Eprint + Alloc), file: &mut F, path: &str) -> bool {
     let mut more = [0u8; 1];
-    let got = libc::read(fd, &mut more);
-    if got < 0 {
-        say_failed(path);
+    match file.read(&mut more) {
+        Ok(0) => true,
+        Ok(_) => {
+            say(rt, "expected a file of at most 65536 bytes");
+            false
+        },
+        Err(error) => {
+            say_failed(rt, path, &error);
+            false
+        },
     }
-    if 0 < got {
-        say(b"expected a file of at most 65536 bytes");
-    }
-    got == 0
 }
 
 // Imports what stands in an open file.
-fn import_from(fd: i32, path: &[u8], t: Terms) {
-    let mut text = io::large_buffer();
-    let n = io::read_full(fd, &mut text);
-    if is_at_end(fd, path) {
-        import_text(&text[..n], t);
+fn import_from<F: Read>(rt: &(impl Print + Eprint + Alloc), file: &mut F, path: &str, t: Terms) {
+    let mut text = [0u8; FILE];
+    let n = read_full(file, &mut text);
+    if is_at_end(rt, file, path) {
+        import_text(rt, &text[..n], t);
+    }
+}
+
+// Imports the file of this name.
+fn import_named(rt: &(impl Files + Print + Eprint + Alloc), path: &str, t: Terms) {
+    match File::open(rt, path) {
+        Ok(file) => {
+            let mut file = file;
+            import_from(rt, &mut file, path, t);
+        },
+        Err(error) => say_failed(rt, path, &error),
     }
 }
 
 // Imports the file that the first argument names.
-fn import_file(t: Terms) {
-    let mut path = io::buffer();
-    let n = os::arg(1, &mut path);
-    if os::errno() != 0 {
-        say_failed(b"FILE");
-        return;
+fn import_file(rt: &(impl Files + Env + Print + Eprint + Alloc), t: Terms) {
+    let mut word = [0u8; WORD];
+    match rt.arg(1, &mut word) {
+        Ok(n) => match str::from_utf8(&word[..n]) {
+            Ok(path) => import_named(rt, path, t),
+            Err(_) => say(rt, "FILE: expected a name in UTF-8"),
+        },
+        Err(FillError::TooLong) => say(rt, "FILE: File name too long"),
+        Err(FillError::NotPresent) => say(rt, "FILE: Invalid argument"),
     }
-    let fd = os::open_read(&path[..n]);
-    if fd < 0 {
-        say_failed(&path[..n]);
-        return;
-    }
-    import_from(fd, &path[..n], t);
-    libc::close(fd);
 }
 
-fn main() {
-    if os::arg_count() != 5 {
-        say(b"usage: stg_import FILE level D percentage");
+// Whether the command line has a word i. Word 0 is the program's name.
+fn has_word(rt: &impl Env, i: usize) -> bool {
+    match rt.arg(i, &mut []) {
+        Err(FillError::NotPresent) => false,
+        _ => true,
+    }
+}
+
+fn main(rt: HostRuntime) {
+    if !has_word(&rt, 4) || has_word(&rt, 5) {
+        say(&rt, "usage: stg_import FILE level D percentage");
         return;
     }
-    let asked = terms_asked();
-    let Asked::Import(t) = asked else {
+    let Some(t) = terms_asked(&rt) else {
         return;
     };
-    import_file(t);
+    import_file(&rt, t);
 }

@@ -1,0 +1,93 @@
+-- `allocation::selection::select`: the goals that the check leaves.
+use Rattle.basics.specs.Lists.{cells_from}
+use Rattle.allocation.proofs.Lines.{offer_small, best_total_within}
+use Rattle.allocation.proofs.Walk.{selection_none, selection_some, first_is, total_is, Step, rest_small, walk_some, walk_step, walk_done}
+use Prim.Native.Nat.{◌≤◌, ◌<◌}
+use mathlib.Core.Path.{◌≡◌, refl, sym, ap, ◌∙◌}
+use native.Mathlib.Omega.{arith}
+use lib.ListN.{get_or}
+use Rattle.allocation.specs.means.Selection.{offers_up_to, least_total, shares_at, best_total, missing_totals}
+use Rattle.allocation.proofs.selection.select.Invariants.{whole}
+use Rattle.allocation.proofs.selection.select.Goals.{After-best_share-a, After-first_least-left}
+use Rattle.allocation.proofs.selection.select.Goals as goal
+
+-- The total that was found, and what the line of all tasks says there.
+found : (c : After-first_least-left) →
+    c.first_least-left.result
+    ≡ best_total c.args.m
+    (offers_up_to c.args.n c.args.offers.now)
+found c =
+    c.first_least-left.ensures
+    ∙ first_is c.args.m c.args.n c.args.offers.now (omega arith) (omega arith) (omega arith) _ c.last_totals-all.ensures
+
+found_to : (c : After-first_least-left) → c.first_least-left.result ≤ c.args.m
+found_to c =
+    rw (found c) (best_total_within c.args.m (offers_up_to c.args.n c.args.offers.now))
+
+found_total : (c : After-first_least-left) →
+    get_or (get_or c.last_totals-all.result c.args.n missing_totals).cells
+    c.first_least-left.result 0
+    ≡ least_total c.args.m
+    (offers_up_to c.args.n c.args.offers.now) c.first_least-left.result
+found_total c =
+    total_is c.args.m c.args.n c.args.offers.now (omega arith) (omega arith) (omega arith) _ c.last_totals-all.ensures
+    c.first_least-left.result (found_to c)
+
+pub bounds-totals-left : goal.bounds-totals-left
+bounds-totals-left c = omega (arith, found_to c)
+
+pub returns-then-m-totals : goal.returns-then-m-totals
+returns-then-m-totals c =
+    let offers = offers_up_to c.args.n c.args.offers.now in
+    let past : c.args.m < least_total c.args.m offers c.first_least-left.result = omega (arith, found_total (goal.at.returns-then-m-totals c).After-first_least-left) in
+    selection_none c.args.m offers (rw (← found (goal.at.returns-then-m-totals c).After-first_least-left) past)
+
+pub loop-i-init : goal.loop-i-init
+unfolding cells_from
+loop-i-init c =
+    let offers = offers_up_to c.args.n c.args.offers.now in (
+      omega arith,
+      found_to (goal.at.loop-i-init c).After-first_least-left,
+      omega (arith, found_total (goal.at.loop-i-init c).After-first_least-left),
+      ap (shares_at c.args.m offers) (sym (found (goal.at.loop-i-init c).After-first_least-left)),
+      refl,
+    )
+
+pub best_share-a-requires : goal.best_share-a-requires
+best_share-a-requires c = (
+  walk_some c.args.m c.args.n c.args.offers.now (omega arith) (omega arith) (omega arith) c.loop-i.i c.loop-i.left (omega arith)
+      (omega arith) c.loop-i.invariant.2,
+  omega arith,
+  offer_small c.args.m _ (omega arith) (c.requires.3 c.loop-i.i (omega arith)),
+  rest_small c.args.m c.args.n c.args.offers.now (omega arith) (omega arith) (omega arith) c.loop-i.i (omega arith) _ c.last_totals-all.ensures,
+)
+
+-- The step that the walk takes there.
+step : (c : After-best_share-a) →
+    Step c.args.m c.args.n c.args.offers.now c.loop-i.i c.loop-i.left c.best_share-a.result (whole c.args.m c.args.n c.args.offers.now)
+step c =
+    walk_step c.args.m c.args.n c.args.offers.now (omega arith) (omega arith) (omega arith) c.loop-i.i c.loop-i.left (omega arith)
+    (omega arith) c.loop-i.invariant.2 _ c.last_totals-all.ensures _ c.best_share-a.ensures _ c.loop-i.invariant.3
+
+pub overflow_cast-shares : goal.overflow_cast-shares
+overflow_cast-shares c = omega (arith, (step (goal.at.overflow_cast-shares c).After-best_share-a).to)
+
+pub overflow_sub-shares : goal.overflow_sub-shares
+overflow_sub-shares c = (step (goal.at.overflow_sub-shares c).After-best_share-a).from
+
+pub bounds-offer-a : goal.bounds-offer-a
+bounds-offer-a c = omega (arith, (step (goal.at.bounds-offer-a c).After-best_share-a).to)
+
+pub overflow_sub-left : goal.overflow_sub-left
+overflow_sub-left c = (step (goal.at.overflow_sub-left c).After-best_share-a).to
+
+pub loop-i-preserved : goal.loop-i-preserved
+loop-i-preserved c =
+    let next = step (goal.at.loop-i-preserved c).After-best_share-a in
+    (omega arith, omega arith, next.within, next.rest, rw c.loop-i.invariant.4 next.store)
+
+pub returns : goal.returns
+returns c =
+    selection_some c.args.m (offers_up_to c.args.n c.args.offers.now)
+    (rw (← found (goal.at.returns c).After-first_least-left, ← found_total (goal.at.returns c).After-first_least-left) c.if-m-totals.false) c.loop-i.shares
+    (c.loop-i.invariant.4 ∙ walk_done c.args.m c.args.n c.args.offers.now (omega arith) c.loop-i.i (omega arith))

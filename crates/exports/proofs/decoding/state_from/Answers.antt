@@ -1,0 +1,43 @@
+-- `exports::decoding::state_from`: the goals that the check leaves.
+use Prim.Native.Nat.{◌-◌}
+use mathlib.Core.Path.{◌≡◌, ap, ◌∙◌}
+use native.Mathlib.Omega.{arith}
+use Rattle.exports.proofs.Lines.{StateLine, state_line}
+use Rattle.exports.proofs.Decoded.{state_below, state_none, state_store, state_whole}
+use Rattle.exports.proofs.decoding.state_from.Goals.{Start}
+use Rattle.exports.proofs.decoding.state_from.Goals as goal
+
+-- What the tests of the line say.
+facts : (c : Start) → StateLine c.args.line.now
+facts c = state_line c.args.line.now c.requires
+
+pub bounds-line-0 : goal.bounds-line-0
+bounds-line-0 c = omega (arith, (facts (goal.at.bounds-line-0 c).Start).long)
+
+pub overflow_cast-state : goal.overflow_cast-state
+overflow_cast-state c = omega (arith, (facts (goal.at.overflow_cast-state c).Start).processors)
+
+pub bounds-line-1 : goal.bounds-line-1
+bounds-line-1 c = omega (arith, (facts (goal.at.bounds-line-1 c).Start).long)
+
+pub overflow_cast-state-2 : goal.overflow_cast-state-2
+overflow_cast-state-2 c = omega (arith, (facts (goal.at.overflow_cast-state-2 c).Start).count)
+
+pub bounds-line-2 : goal.bounds-line-2
+bounds-line-2 c = omega (arith, (facts (goal.at.bounds-line-2 c).Start).long)
+
+pub loop-i-init : goal.loop-i-init
+loop-i-init c = (omega arith, state_none c.args.line.now _ c.zero_entry.ensures)
+
+pub entry_from-requires : goal.entry_from-requires
+entry_from-requires c =
+    let f = facts (goal.at.entry_from-requires c).Start in (omega (arith, f.long), f.entries c.loop-i.i (omega arith))
+
+pub loop-i-preserved : goal.loop-i-preserved
+loop-i-preserved c =
+    (omega arith, state_store c.args.line.now c.loop-i.i c.loop-i.state _ (omega arith) c.loop-i.invariant.1 c.entry_from.ensures)
+
+pub returns : goal.returns
+returns c =
+    let all : c.loop-i.i ≡ 16 = omega arith in
+    c.loop-i.invariant.1 ∙ ap (state_below c.args.line.now) all ∙ state_whole c.args.line.now

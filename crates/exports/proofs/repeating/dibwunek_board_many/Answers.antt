@@ -1,0 +1,53 @@
+-- `exports::repeating::dibwunek_board_many`: the goals that the check leaves.
+use Prim.Native.Nat.{ℕ, ◌-◌}
+use mathlib.Core.Path.{◌≡◌, refl, sym, ap, ◌∙◌}
+use mathlib.Core.Bool.{true}
+use native.Mathlib.Omega.{arith}
+use lib.ListN.{length}
+use Rattle.dispatcher.specs.declared.state.State.{State}
+use Rattle.dispatcher.specs.declared.board.Boarded.{Boarded}
+use Rattle.dispatcher.specs.Board.{boarded_of, board_of}
+use Rattle.sheet.specs.Answers.{answer_word}
+use Rattle.exports.specs.Words.{state_from, is_state}
+use Rattle.exports.specs.Repeats.{last_word, boards_of}
+use Rattle.exports.proofs.Repeated.{last_next, boards_next, boards_no_state, boards_of_state}
+use Rattle.exports.proofs.repeating.dibwunek_board_many.Goals.{Else-not-is_state}
+use Rattle.exports.proofs.repeating.dibwunek_board_many.Goals as goal
+
+pub returns-then-not-is_state : goal.returns-then-not-is_state
+returns-then-not-is_state c =
+    let both = boards_no_state c.args.count c.args.state.now c.args.buffer.now (sym c.is_state.ensures ∙ c.if-not-is_state.true) in
+    record { answered = both.0; written = both.1 }
+
+-- Past the first test the line is a state.
+is : (c : Else-not-is_state) → is_state c.args.state.now ≡ true
+is c = sym c.is_state.ensures ∙ c.if-not-is_state.false
+
+pub state_from-before-requires : goal.state_from-before-requires
+state_from-before-requires c = is c
+
+pub loop-i-init : goal.loop-i-init
+unfolding last_word boards_of
+loop-i-init c = (omega arith, refl, refl, refl)
+
+pub loop-i-preserved : goal.loop-i-preserved
+loop-i-preserved c =
+    let boarded =
+    c.board-boarded.ensures.answered
+    ∙ ap (λ (s : State). boarded_of s (length c.loop-i.buffer)) c.state_from-before.ensures
+    ∙ ap (boarded_of (state_from c.args.state.now)) c.loop-i.invariant.1 in (
+      omega arith,
+      c.board-boarded.auto.buffer ∙ c.loop-i.invariant.1,
+      last_next c.loop-i.i _ _ (c.answer_word-word.ensures ∙ ap (λ (r : Boarded). answer_word r.answer) boarded),
+      boards_next c.loop-i.i (state_from c.args.state.now) c.args.buffer.now c.loop-i.buffer _ c.loop-i.invariant.3
+          (c.board-boarded.ensures.written ∙ ap (λ (s : State). board_of s c.loop-i.buffer) c.state_from-before.ensures),
+    )
+
+pub shape_of-buffer : goal.shape_of-buffer
+shape_of-buffer c = c.loop-i.invariant.1
+
+pub returns : goal.returns
+returns c =
+    let s = state_from c.args.state.now in
+    let all : c.loop-i.i ≡ c.args.count = omega arith in
+    let called = boards_of_state c.args.count c.args.state.now c.args.buffer.now (is (goal.at.returns c).Else-not-is_state) in record { answered = c.loop-i.invariant.2 ∙ ap (λ (n : ℕ). last_word n (answer_word (boarded_of s (length c.args.buffer.now)).answer)) all ∙ called.0; written = c.loop-i.invariant.3 ∙ ap (λ (n : ℕ). boards_of n s c.args.buffer.now) all ∙ called.1 }

@@ -1,0 +1,41 @@
+-- `exports::repeating::dibwunek_tick_many`: the goals that the check leaves.
+use Prim.Native.Nat.{ℕ, ◌-◌}
+use mathlib.Core.Path.{◌≡◌, sym, ap₂, ◌∙◌}
+use mathlib.Core.Bool.{true}
+use native.Mathlib.Omega.{arith}
+use Rattle.dispatcher.specs.declared.state.State.{State}
+use Rattle.exports.specs.Words.{is_state}
+use Rattle.exports.specs.Ticks.{accepted_word}
+use Rattle.exports.specs.Repeats.{ticks_word}
+use Rattle.exports.proofs.Repeated.{ticks_next, ticks_none, ticks_no_state, ticks_of_state}
+use Rattle.exports.proofs.repeating.dibwunek_tick_many.Goals.{Else-not-is_state}
+use Rattle.exports.proofs.repeating.dibwunek_tick_many.Goals as goal
+
+pub returns-then-not-is_state : goal.returns-then-not-is_state
+returns-then-not-is_state c =
+    ticks_no_state c.args.count c.args.state.now c.args.reports.now (sym c.is_state.ensures ∙ c.if-not-is_state.true)
+
+-- Past the first test the line is a state.
+is : (c : Else-not-is_state) → is_state c.args.state.now ≡ true
+is c = sym c.is_state.ensures ∙ c.if-not-is_state.false
+
+pub state_from-s-requires : goal.state_from-s-requires
+state_from-s-requires c = is c
+
+pub loop-i-init : goal.loop-i-init
+loop-i-init c =
+    let all : c.args.count - 0 ≡ c.args.count = omega arith in
+    (omega arith, ap₂ (λ (n : ℕ) (s : State). ticks_word n accepted_word s c.args.reports.now) all c.state_from-s.ensures)
+
+pub loop-i-preserved : goal.loop-i-preserved
+loop-i-preserved c = (
+  omega arith,
+  ticks_next c.args.count c.loop-i.i c.loop-i.word c.loop-i.s c.args.reports.now (omega arith) _ _ c.tick_word-word.ensures c.tick-ticked.ensures.whole
+      ∙ c.loop-i.invariant.1,
+)
+
+pub returns : goal.returns
+returns c =
+    ticks_none c.args.count c.loop-i.i c.loop-i.word c.loop-i.s c.args.reports.now (omega arith)
+    ∙ c.loop-i.invariant.1
+    ∙ ticks_of_state c.args.count c.args.state.now c.args.reports.now (is (goal.at.returns c).Else-not-is_state)

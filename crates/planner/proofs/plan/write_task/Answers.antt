@@ -1,0 +1,17 @@
+-- `plan::write_task` meets its contract: the stores are those of the definition.
+use mathlib.Core.Path.{refl, ◌∙◌}
+use native.Mathlib.Omega.{arith}
+use lib.ListN.{length-set}
+use Rattle.planner.proofs.Plans.{task_set}
+use Rattle.planner.proofs.plan.write_task.Goals as goal
+
+pub shape_of-buffer : goal.shape_of-buffer
+shape_of-buffer c = simp length-set (c.put_u32.auto.out ∙ c.put_pair-2.auto.buffer ∙ c.put_pair.auto.buffer)
+
+pub returns : goal.returns
+returns c =
+    task_set c.args.n c.args.i c.args.a c.args.buffer.now _ _ _ _
+    c.put_pair.ensures (omega arith)
+    c.put_pair-2.ensures (omega arith)
+    c.put_u32.ensures (omega arith) (omega arith)
+    refl (omega arith)
