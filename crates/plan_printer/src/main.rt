@@ -1,5 +1,5 @@
 // The plan printer. S6.4: the sheet is the first 4,096 bytes of standard input, or all of them where there are fewer. What is printed
-// is S6.1 to S6.3. It has no exit status: what it can't do it says on standard error.
+// is S6.1 to S6.3. Its exit status is always 0: what it can't do it says on standard error.
 #![tactic(auto)]
 
 use input::read_full;

@@ -1,5 +1,5 @@
-// `stg_import FILE level D percentage`: writes the record that import makes of the file's graph (S14.9) to standard output. It has no
-// exit status: what it can't do is one line on standard error, and then standard output stays empty.
+// `stg_import FILE level D percentage`: writes the record that import makes of the file's graph (S14.9) to standard output. Its exit
+// status is always 0: what it can't do is one line on standard error, and then standard output stays empty.
 #![tactic(auto)]
 
 ghost use Rattle.std.specs.Prelude.{◌+◌, ◌*◌, ◌≤◌, length};
