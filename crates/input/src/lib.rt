@@ -1,14 +1,16 @@
 // Input that a buffer takes.
 #![tactic(auto)]
 
-ghost use Rattle.std.specs.Prelude.{◌≤◌, length};
+ghost use Rattle.std.specs.Prelude.{◌≤◌, length, take};
+ghost use Rattle.std.specs.Io.KnownBytes.{Consumes};
 
 use std::io::Read;
 
-// Reads until the buffer is full, the input ends or a read fails, and answers how many bytes it put at the front of the buffer. On an
-// empty buffer it makes no call.
+// Reads until the buffer is full, the input ends or a read fails, and answers how many bytes it put at the front of the buffer: the
+// next ones of the input, which then goes on behind them. On an empty buffer it makes no call.
 pub fn read_full<R: Read>(input: &mut R, buffer: &mut [u8]) -> usize
-    ensures { result ≤ length buffer.new }
+    ensures room { result ≤ length buffer.new }
+    ensures bytes { Consumes (R.remaining input.old) (R.remaining input.new) (take result buffer.new) }
 {
     let mut done = 0;
     while done < buffer.len() {
