@@ -81,7 +81,7 @@ module _ (s : List ℕ) (laid : Laid s) where
     directory_again zero first end = refl
     directory_again (suc k) first end =
         let inside : first < count_of s = omega arith in
-        let All-there = laid.directory in
+        let all_present = laid.directory in
         rw (← laid.place first inside, length_again first inside)
         (ap₂ ◌++◌
         (ap₂ ◌++◌ (u16_part s bytes (2 + 4 * first) (omega arith)) (u16_part s bytes (4 + 4 * first) (omega arith))
@@ -107,7 +107,7 @@ module _ (s : List ℕ) (laid : Laid s) where
     unfolding sheet_bytes task_set_of processors_of count_of place_of
     whole_again =
         let n = count_of s in
-        let All-there = laid.directory in
+        let all_present = laid.directory in
         rw tasks_taken
         (ap₂ ◌++◌
         (ap₂ ◌++◌ (two_part s 0 (omega arith)) (directory_again n 0 (omega arith)) ∙ join s 0 2 (2 + 4 * 0) (4 * n) (2 + 4 * n) refl refl)

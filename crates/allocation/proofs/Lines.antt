@@ -161,7 +161,7 @@ no_line M = record { cells = totals_of M [] }
 unfoldable pub lines : ℕ → List (ℕ → ℕ) → ℕ → ℕ → List Totals
 lines M offers n k = cells 17 (line M offers n) (no_line M) (k + 1)
 
-module _ (M n : ℕ) (offers : List (ℕ → ℕ)) (All-there : length offers ≡ n) where
+module _ (M n : ℕ) (offers : List (ℕ → ℕ)) (all_present : length offers ≡ n) where
   last_line : drop (n - 0) offers ≡ []
   last_line =
       let past : length offers ≤ n - 0 = omega arith in
@@ -200,19 +200,19 @@ line_more M n offers there k inside =
     ∙ ap (λ (x : ℕ). cell_at (get_or offers (n - (k + 1)) missing_offer) ∷ drop x (offers_up_to n offers)) next)))
 
 -- What the selection reads off the lines of n tasks.
-module _ (M n : ℕ) (offers : List (ℕ → ℕ)) (All-there : length offers ≡ n) (few : n ≤ 16) where
+module _ (M n : ℕ) (offers : List (ℕ → ℕ)) (all_present : length offers ≡ n) (few : n ≤ 16) where
   pub whole_line : (get_or (last_totals M offers n) n missing_totals).cells ≡ totals_of M offers
   whole_line =
       let none : n - n ≡ 0 = omega arith in
-      rw (← lines_last M n offers All-there)
-      (ap (λ (x : Totals). x.cells) (lines_at M n offers All-there n n (omega arith) (omega arith))
+      rw (← lines_last M n offers all_present)
+      (ap (λ (x : Totals). x.cells) (lines_at M n offers all_present n n (omega arith) (omega arith))
       ∙ ap (λ (x : ℕ). totals_of M (drop x offers)) none)
 
   pub rest_line : (i : ℕ) → i < n → (get_or (last_totals M offers n) (n - 1 - i) missing_totals).cells ≡ totals_of M (drop (i + 1) offers)
   rest_line i inside =
       let place : n - (n - 1 - i) ≡ i + 1 = omega arith in
-      rw (← lines_last M n offers All-there)
-      (ap (λ (x : Totals). x.cells) (lines_at M n offers All-there n (n - 1 - i) (omega arith) (omega arith))
+      rw (← lines_last M n offers all_present)
+      (ap (λ (x : Totals). x.cells) (lines_at M n offers all_present n (n - 1 - i) (omega arith) (omega arith))
       ∙ ap (λ (x : ℕ). totals_of M (drop x offers)) place)
 
 -- The best typical total.

@@ -23,7 +23,7 @@ use Rattle.basics.specs.Order.{no_later}
 use Rattle.allocation.specs.Choice.{options_of, choices, fits, rank, chosen}
 use Rattle.allocation.specs.Way.{MayTake, TakesNothing, FittingWay, BestWay}
 use Rattle.allocation.specs.Allocation.{no_share, no_fit, tasks_of, chosen_for, share_answer, choice_answer}
-use Rattle.allocation.specs.Verdict.{CanTake, Verdict, no_share_lem, no_fit_lem, accepted}
+use Rattle.allocation.specs.Verdict.{CanTake, Verdict, nothing_to_take, nothing_fits, accepted}
 use Rattle.sheet.proofs.Faults.{over_accepted}
 use Rattle.basics.proofs.Members.{empty_none}
 use Rattle.allocation.proofs.Optimal.{Takes, takes_choice, choice_takes}
@@ -121,7 +121,7 @@ module _ (set : TaskSet) where
     where
       by_way : ((i : ℕ) → i < set.count → CanTake set i) → (o : Option (List Share)) → chosen_for set ≡ o →
           Verdict set (refused_if (is_none o) no_fit no_task)
-      by_way can none e = no_fit_lem can ((set_best set).none_fits e)
+      by_way can none e = nothing_fits can ((set_best set).none_fits e)
       by_way can (some best) e = accepted can best ((set_best set).fits best e)
 
       named : (i number task : ℕ) → number ≡ no_share → task ≡ i → Verdict set (Refused no_share i) → Verdict set (Refused number task)
@@ -137,6 +137,6 @@ module _ (set : TaskSet) where
           let inside = found.1.0 in
           let none_left = share_refused set found.0 number task found.1.1 in
           named found.0 number task none_left.1 none_left.2
-          (no_share_lem (omega arith)
+          (nothing_to_take (omega arith)
           (λ can. (no_option_plain set.processors (task_in set found.0)).nothing none_left.0 can.0 can.1)
           (λ j before. share_accepted j (found.1.2 j (omega arith) before)))

@@ -77,9 +77,9 @@ pub record Worked : Type 0 where
   -- The low task leaves 3 of 5 processors, so that one of two steep tasks takes 1 and the other 2: the first takes 1.
   pub smaller_first : chosen_for (on 5 (high steep ∷ high steep ∷ low (low_task 30) ∷ [])) ≡ some (pair 1 3 ∷ pair 2 2 ∷ pair 2 0 ∷ [])
   -- Refusal 7: on 1 processor the low task's share is too large; what comes after it is not asked.
-  pub no_share_lem : choice_answer (on 1 (low (low_task 30) ∷ high task_a ∷ [])) ≡ Refused 7 0
+  pub nothing_to_take : choice_answer (on 1 (low (low_task 30) ∷ high task_a ∷ [])) ≡ Refused 7 0
   -- Refusal 8: on 3 processors A twice needs 4 in critical mode.
-  pub no_fit_lem : choice_answer (on 3 (high task_a ∷ high task_a ∷ [])) ≡ Refused 8 255
+  pub nothing_fits : choice_answer (on 3 (high task_a ∷ high task_a ∷ [])) ≡ Refused 8 255
   pub nothing : chosen_for (on 3 (high task_a ∷ high task_a ∷ [])) ≡ none
   -- S11.11: A and B on 5 and on 3 processors.
   pub on_five : choice_answer (on 5 ab) ≡ Refused 8 255
@@ -154,8 +154,8 @@ worked =
       by_b = refl;
       twice = refl;
       smaller_first = refl;
-      no_share_lem = refl;
-      no_fit_lem = refl;
+      nothing_to_take = refl;
+      nothing_fits = refl;
       nothing = refl;
       on_five = refl;
       on_three = refl;

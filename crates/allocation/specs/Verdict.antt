@@ -16,9 +16,9 @@ CanTake set i = (s : Share) × MayTake set.processors (task_in set i) s
 -- One of three holds, and it says which answer is given.
 pub data Verdict (set : TaskSet) : Answer → Type 0 where
   -- S9.7: task i may take nothing, and each task before it may take something.
-  no_share_lem : {i : ℕ} → i < set.count → (CanTake set i → ⊥) → ((j : ℕ) → j < i → CanTake set j) → Verdict set (Refused no_share i)
+  nothing_to_take : {i : ℕ} → i < set.count → (CanTake set i → ⊥) → ((j : ℕ) → j < i → CanTake set j) → Verdict set (Refused no_share i)
   -- S9.8: each task may take something, and no way fits.
-  no_fit_lem : ((i : ℕ) → i < set.count → CanTake set i) → ((way : List Share) → FittingWay set.processors (tasks_of set) way → ⊥) →
+  nothing_fits : ((i : ℕ) → i < set.count → CanTake set i) → ((way : List Share) → FittingWay set.processors (tasks_of set) way → ⊥) →
       Verdict set (Refused no_fit no_task)
   -- Each task may take something, and a way fits.
   accepted : ((i : ℕ) → i < set.count → CanTake set i) → (way : List Share) → FittingWay set.processors (tasks_of set) way →

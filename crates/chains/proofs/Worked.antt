@@ -44,7 +44,7 @@ pub record Worked : Type 0 where
   -- Without predecessors the span is the greatest time, and in a row it is the work.
   pub apart : budget_of (0 ∷ 0 ∷ 0 ∷ []) (time_at four) 3 ≡ record { work = 10; span = 5 }
   pub in_a_row : budget_of (0 ∷ 1 ∷ 2 ∷ []) (time_at four) 3 ≡ record { work = 10; span = 10 }
-  pub no_nodes_lem : budget_of [] (time_at four) 0 ≡ record { work = 0; span = 0 }
+  pub budget_of_none : budget_of [] (time_at four) 0 ≡ record { work = 0; span = 0 }
 
 pub worked : Worked
 unfolding has range members predecessors_of sum_below longest_among chain_at chains_below span_of budget_of
@@ -64,7 +64,7 @@ worked =
       grown = refl;
       apart = refl;
       in_a_row = refl;
-      no_nodes_lem = refl;
+      budget_of_none = refl;
     }
 
 -- The diamond's masks name lower nodes only, its times are at least 1, and the others are nowhere less.

@@ -165,13 +165,13 @@ run_is gives calls i =
     (shares_of_lem gives)
 
 high_run_is : high_run ≡ high_run_lem
-high_run_is = run_is sheets.high_only_lem high_tested 0
+high_run_is = run_is sheets.a_high_task high_tested 0
 
 high_among_is : high_among ≡ high_among_lem
 high_among_is = run_is sheets.all_three high_among_three 1
 
 low_run_is : low_run ≡ low_run_lem
-low_run_is = run_is sheets.low_only_lem low_tested 0
+low_run_is = run_is sheets.a_low_task low_tested 0
 
 low_among_is : low_among ≡ low_among_lem
 low_among_is = run_is sheets.all_three low_among_three 2
@@ -190,19 +190,19 @@ unfolding Guarantee
 isolation_met =
     let asked : HighAsked high_run high_among = subst₂ HighAsked (sym high_run_is) (sym high_among_is) high_asked in
     record {
-      started = start_accepts sheets.high_only_lem;
+      started = start_accepts sheets.a_high_task;
       other_started = start_accepts sheets.all_three;
       same = asked.same;
       shares = asked.shares;
       given = asked.given;
       modes = asked.modes;
-      processors = ap (λ (ts : TaskSet). ts.processors) (set_of_lem sheets.high_only_lem);
+      processors = ap (λ (ts : TaskSet). ts.processors) (set_of_lem sheets.a_high_task);
       other_processors = ap (λ (ts : TaskSet). ts.processors) (set_of_lem sheets.all_three);
-      offset = λ critical. ap (λ (shares : List Share). offset_in critical shares 0) (shares_of_lem sheets.high_only_lem) ∙ offset_is critical;
+      offset = λ critical. ap (λ (shares : List Share). offset_in critical shares 0) (shares_of_lem sheets.a_high_task) ∙ offset_is critical;
       other_offset = λ critical. ap (λ (shares : List Share). offset_in critical shares 1) (shares_of_lem sheets.all_three) ∙ other_offset_is critical;
       said =
-          (guarantee high_only (start_accepts sheets.high_only_lem) high_tested).answers
-          ∙ ap (λ (m : Model). all_model_said m high_tested) (model_of sheets.high_only_lem)
+          (guarantee high_only (start_accepts sheets.a_high_task) high_tested).answers
+          ∙ ap (λ (m : Model). all_model_said m high_tested) (model_of sheets.a_high_task)
           ∙ runs.said;
       other_said =
           (guarantee three_tasks (start_accepts sheets.all_three) high_among_three).answers
@@ -217,19 +217,19 @@ unfolding task_in share_at
 commissioning_met =
     let asked : LowAsked low_run low_among = subst₂ LowAsked (sym low_run_is) (sym low_among_is) low_asked in
     record {
-      started = start_accepts sheets.low_only_lem;
+      started = start_accepts sheets.a_low_task;
       other_started = start_accepts sheets.all_three;
-      single = ap (λ (ts : TaskSet). ts.count) (set_of_lem sheets.low_only_lem);
+      single = ap (λ (ts : TaskSet). ts.count) (set_of_lem sheets.a_low_task);
       known = rw (set_of_lem sheets.all_three) (omega arith);
       says =
-          ap (λ (ts : TaskSet). task_in ts 0) (set_of_lem sheets.low_only_lem) ∙ ap (λ (ts : TaskSet). task_in ts 2) (sym (set_of_lem sheets.all_three));
+          ap (λ (ts : TaskSet). task_in ts 0) (set_of_lem sheets.a_low_task) ∙ ap (λ (ts : TaskSet). task_in ts 2) (sym (set_of_lem sheets.all_three));
       typical =
-          ap (λ (shares : List Share). (share_at shares 0).typical) (shares_of_lem sheets.low_only_lem)
+          ap (λ (shares : List Share). (share_at shares 0).typical) (shares_of_lem sheets.a_low_task)
           ∙ ap (λ (shares : List Share). (share_at shares 2).typical) (sym (shares_of_lem sheets.all_three));
       given = asked.given;
       unswitched = asked.unswitched;
       other_unswitched = asked.other_unswitched;
-      critical = ap (λ (shares : List Share). (share_at shares 0).critical) (shares_of_lem sheets.low_only_lem);
+      critical = ap (λ (shares : List Share). (share_at shares 0).critical) (shares_of_lem sheets.a_low_task);
       other_critical = ap (λ (shares : List Share). (share_at shares 2).critical) (shares_of_lem sheets.all_three);
     }
 
@@ -281,18 +281,18 @@ pub modes_matter : ModesMatter
 unfolding Guarantee model_for
 modes_matter =
     let apart : Parted (task_run high_only released_late 0) (task_run two_high beside_overrun 0) =
-    subst₂ Parted (sym (run_is sheets.high_only_lem released_late 0))
-    (sym (run_is sheets.two_high_lem beside_overrun 0)) parted in
+    subst₂ Parted (sym (run_is sheets.a_high_task released_late 0))
+    (sym (run_is sheets.two_high_tasks beside_overrun 0)) parted in
     record {
-      started = start_accepts sheets.high_only_lem;
-      other_started = start_accepts sheets.two_high_lem;
+      started = start_accepts sheets.a_high_task;
+      other_started = start_accepts sheets.two_high_tasks;
       same = apart.same;
       shares = apart.shares;
       given = apart.given;
       mode = apart.mode;
       other_mode = apart.other_mode;
       running =
-          ap (λ (m : Model). running_at m 0) (guarantee high_only (start_accepts sheets.high_only_lem) released_late).states ∙ apart.running;
+          ap (λ (m : Model). running_at m 0) (guarantee high_only (start_accepts sheets.a_high_task) released_late).states ∙ apart.running;
       other_running =
-          ap (λ (m : Model). running_at m 0) (guarantee two_high (start_accepts sheets.two_high_lem) beside_overrun).states ∙ apart.other_running;
+          ap (λ (m : Model). running_at m 0) (guarantee two_high (start_accepts sheets.two_high_tasks) beside_overrun).states ∙ apart.other_running;
     }

@@ -42,13 +42,13 @@ pub started : (start_of two_tasks).answer ≡ Accepted
 started = start_accepts sheets.two
 
 kept_started : (start_of one_kept).answer ≡ Accepted
-kept_started = start_accepts sheets.one_kept
+kept_started = start_accepts sheets.one_task_kept
 
 read_set : tasks_for two_tasks ≡ both
 read_set = set_of_lem sheets.two
 
 kept_set : tasks_for one_kept ≡ with_one_kept
-kept_set = set_of_lem sheets.one_kept
+kept_set = set_of_lem sheets.one_task_kept
 
 task_is : high_task ≡ high
 unfolding task_in
@@ -79,10 +79,10 @@ abbrev first_kept : Model
 first_kept = after kept_start (take 4 over_switch)
 
 kept_shares : shares_for one_kept ≡ kept_pairs
-kept_shares = shares_of_lem sheets.one_kept
+kept_shares = shares_of_lem sheets.one_task_kept
 
 kept_model : model_for one_kept ≡ kept_start
-kept_model = model_of sheets.one_kept
+kept_model = model_of sheets.one_task_kept
 
 -- The high task has one edge, from node 1 to node 2, so that a chain is a node alone or these two.
 no_mask : (n v : ℕ) → ◌≡◌ {A = ℕ} (get_or (replicate n 0) v 0) 0

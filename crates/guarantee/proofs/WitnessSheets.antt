@@ -130,20 +130,20 @@ module _ {sheet : List ℕ} {ts : TaskSet} {shares : List Share} (gives : Gives 
 
 pub record AllGive : Type 0 where
   pub two : Gives two_tasks both pairs
-  pub one_kept : Gives one_kept with_one_kept kept_pairs
-  pub high_only_lem : Gives high_only only_high only_pairs
-  pub low_only_lem : Gives low_only only_low only_low_pairs
+  pub one_task_kept : Gives one_kept with_one_kept kept_pairs
+  pub a_high_task : Gives high_only only_high only_pairs
+  pub a_low_task : Gives low_only only_low only_low_pairs
   pub all_three : Gives three_tasks three three_pairs
-  pub two_high_lem : Gives two_high twice twice_pairs
+  pub two_high_tasks : Gives two_high twice twice_pairs
 
 pub sheets : AllGive
 unfolding first_over byte_at u16_at u32_at processors_of count_of offset_of length_of place_of cells_from level_at nodes_at figure_at figures_at masks_at task_at zero_task tasks_below task_set_of level_lawful shape_lawful in_range in_order low_lawful figures_lawful mask_lawful all_below masks_lawful is_heavy task_answer header_lawful header_answer place_answer end_answer shape_answer record_answer read_answer read_of is_high figure_limit bytes_before_masks is_wide choice_answer share_answer chosen_for task_in range is_low ceil_div low_share has_low_share excess demand passes low_options pairs_within high_options options_of fits least_by fitting chosen share_at low_numbers holdable first_held typical_share_at left_over kept_tasks kept_share with_kept shares_with shares_of
 sheets =
     record {
       two = record { read = refl; chosen = refl; shared = refl };
-      one_kept = record { read = refl; chosen = refl; shared = refl };
-      high_only_lem = record { read = refl; chosen = refl; shared = refl };
-      low_only_lem = record { read = refl; chosen = refl; shared = refl };
+      one_task_kept = record { read = refl; chosen = refl; shared = refl };
+      a_high_task = record { read = refl; chosen = refl; shared = refl };
+      a_low_task = record { read = refl; chosen = refl; shared = refl };
       all_three = record { read = refl; chosen = refl; shared = refl };
-      two_high_lem = record { read = refl; chosen = refl; shared = refl };
+      two_high_tasks = record { read = refl; chosen = refl; shared = refl };
     }

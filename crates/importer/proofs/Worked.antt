@@ -112,21 +112,21 @@ pub record Worked : Type 0 where
   pub rounded_none : scaled 100 7 ≡ 7
   pub rounded_four : scaled 400 7 ≡ 28
   -- S14.2: the graphs that the texts say.
-  pub row_graph_lem : graph_of row ≡ some row_graph
-  pub again_graph_lem : graph_of row_again ≡ some again_graph
-  pub fork_graph_lem : graph_of fork ≡ some fork_graph
+  pub graph_of_row : graph_of row ≡ some row_graph
+  pub graph_of_again : graph_of row_again ≡ some again_graph
+  pub graph_of_fork : graph_of fork ≡ some fork_graph
   -- S14.7: D, CN, CO, LN and LO. Overload times of the row are 5 and 6, of the fork 3, 5 and 8.
   pub row_figures : figures_of row_graph (terms 1 9 150) ≡ figures 9 7 11 7 11
   pub light_figures : figures_of row_graph (terms 1 11 150) ≡ figures 11 7 11 7 11
   pub fork_figures : figures_of fork_graph (terms 1 15 150) ≡ figures 15 10 16 7 11
   pub fork_whole : figures_of fork_graph (terms 0 15 100) ≡ figures 15 10 10 7 7
   -- S14.9: from the bytes of a text to those of a record; the other text of the row makes the same.
-  pub row_record_lem : imported_record row (terms 1 9 150) ≡ row_record
+  pub row_bytes : imported_record row (terms 1 9 150) ≡ row_record
   pub again_record : imported_record row_again (terms 1 9 150) ≡ row_record
-  pub light_record_lem : imported_record row (terms 1 11 150) ≡ light_record
+  pub light_bytes : imported_record row (terms 1 11 150) ≡ light_record
   pub fork_record : imported_record fork (terms 1 15 150)
       ≡ 1 ∷ 3 ∷ 15 ∷ 0 ∷ 10 ∷ 0 ∷ 16 ∷ 0 ∷ 7 ∷ 0 ∷ 11 ∷ 0 ∷ 0 ∷ 0 ∷ 0 ∷ 0 ∷ 1 ∷ 0 ∷ 0 ∷ 0 ∷ 1 ∷ 0 ∷ 0 ∷ 0 ∷ []
-  pub low_record_lem : imported_record one (terms 0 2 100) ≡ 0 ∷ 1 ∷ 2 ∷ 0 ∷ 3 ∷ 0 ∷ 3 ∷ 0 ∷ 3 ∷ 0 ∷ 3 ∷ 0 ∷ 0 ∷ 0 ∷ 0 ∷ 0 ∷ []
+  pub low_bytes : imported_record one (terms 0 2 100) ≡ 0 ∷ 1 ∷ 2 ∷ 0 ∷ 3 ∷ 0 ∷ 3 ∷ 0 ∷ 3 ∷ 0 ∷ 3 ∷ 0 ∷ 0 ∷ 0 ∷ 0 ∷ 0 ∷ []
   -- S9.17: the buffer, with as many bytes as the record and with one fewer.
   pub room_enough : import_answer row (terms 1 9 150) 20 ≡ Accepted
   pub light_accepted : import_answer row (terms 1 11 150) 20 ≡ Accepted
@@ -169,18 +169,18 @@ worked =
       rounded_least = refl;
       rounded_none = refl;
       rounded_four = refl;
-      row_graph_lem = refl;
-      again_graph_lem = refl;
-      fork_graph_lem = refl;
+      graph_of_row = refl;
+      graph_of_again = refl;
+      graph_of_fork = refl;
       row_figures = refl;
       light_figures = refl;
       fork_figures = refl;
       fork_whole = refl;
-      row_record_lem = refl;
+      row_bytes = refl;
       again_record = refl;
-      light_record_lem = refl;
+      light_bytes = refl;
       fork_record = refl;
-      low_record_lem = refl;
+      low_bytes = refl;
       room_enough = refl;
       light_accepted = refl;
       room_short = refl;
@@ -223,16 +223,16 @@ sheet_before = 8 ∷ 1 ∷ 6 ∷ 0 ∷ 20 ∷ 0 ∷ []
 pub row_taken : record_answer (sheet_before ++ (row_record ++ [])) 0 ≡ Accepted
 unfolding ReaderTakes is_heavy offset_of length_of u16_at byte_at
 row_taken =
-    rw (worked.row_record_lem, worked.row_figures) at
-    (reader_takes row (terms 1 9 150) 20 row_graph sheet_before [] 0 worked.room_enough worked.row_graph_lem refl
-    (sym (ap length worked.row_record_lem)))
+    rw (worked.row_bytes, worked.row_figures) at
+    (reader_takes row (terms 1 9 150) 20 row_graph sheet_before [] 0 worked.room_enough worked.graph_of_row refl
+    (sym (ap length worked.row_bytes)))
 
 pub row_light : record_answer (sheet_before ++ (light_record ++ [])) 0 ≡ Refused 6 0
 unfolding ReaderTakes is_heavy offset_of length_of u16_at byte_at
 row_light =
-    rw (worked.light_record_lem, worked.light_figures) at
-    (reader_takes row (terms 1 11 150) 20 row_graph sheet_before [] 0 worked.light_accepted worked.row_graph_lem refl
-    (sym (ap length worked.light_record_lem)))
+    rw (worked.light_bytes, worked.light_figures) at
+    (reader_takes row (terms 1 11 150) 20 row_graph sheet_before [] 0 worked.light_accepted worked.graph_of_row refl
+    (sym (ap length worked.light_bytes)))
 
 -- So the reader accepts that sheet.
 pub row_read : read_answer (sheet_before ++ (row_record ++ [])) ≡ Accepted
@@ -241,7 +241,7 @@ row_read = rw row_taken
 
 pub row_budgets : BudgetsFit row_graph (terms 1 9 150)
 unfolding TimesKeepBudgets
-row_budgets = times_keep_budgets row (terms 1 9 150) 20 row_graph worked.room_enough worked.row_graph_lem
+row_budgets = times_keep_budgets row (terms 1 9 150) 20 row_graph worked.room_enough worked.graph_of_row
 
 -- Both texts of the row become one task.
 again_times : (v : ℕ) → v < 2 → time_of row_graph v ≡ time_of again_graph v

@@ -36,19 +36,19 @@ module _ (M n : ℕ) (shares : List Share) where
   -- What is known once the tasks below i are seen: either the task is n, and none with which the total is within M was seen, or it is the
   -- first of those that were. A total below `below` is within M and comes before it.
   pub data Seen (i task below : ℕ) : Type 0 where
-    no_task_lem : task ≡ n → below ≡ M + 1 → ((j : ℕ) → j < i → critical_share_at shares j ≡ 0 → M < with j) → Seen i task below
+    nothing_seen : task ≡ n → below ≡ M + 1 → ((j : ℕ) → j < i → critical_share_at shares j ≡ 0 → M < with j) → Seen i task below
     a_task : task < i → critical_share_at shares task ≡ 0 → below ≡ with task → below ≤ M →
         ((j : ℕ) → j < i → critical_share_at shares j ≡ 0 → NotAfter (typical_share_at shares) task j) → Seen i task below
 
   pub seen_none : (task below : ℕ) → task ≡ n → below ≡ M + 1 → Seen 0 task below
-  seen_none task below no_one whole = no_task_lem no_one whole (λ j before low. absurd (omega arith))
+  seen_none task below no_one whole = nothing_seen no_one whole (λ j before low. absurd (omega arith))
 
   -- Up to the next number.
   below_next : (P : ℕ → Type 0) (i : ℕ) → ((j : ℕ) → j < i → P j) → P i → (j : ℕ) → j < i + 1 → P j
   below_next P i before here j within = below_cases P i before here j (omega arith)
 
   at_least : (i task below : ℕ) → Seen i task below → (j : ℕ) → j < i → critical_share_at shares j ≡ 0 → below ≤ with j
-  at_least i task below (no_task_lem none_yet whole more) j before low = let past = more j before low in omega arith
+  at_least i task below (nothing_seen none_yet whole more) j before low = let past = more j before low in omega arith
   at_least i task below (a_task inside zero-share same fits first) j before low = go (first j before low)
     where
       go : NotAfter (typical_share_at shares) task j → below ≤ with j
@@ -56,7 +56,7 @@ module _ (M n : ℕ) (shares : List Share) where
       go (inr (equal, _)) = omega arith
 
   to_cap : (i task below : ℕ) → Seen i task below → below ≤ M + 1
-  to_cap i task below (no_task_lem none_yet whole more) = omega arith
+  to_cap i task below (nothing_seen none_yet whole more) = omega arith
   to_cap i task below (a_task inside zero-share same fits first) = omega arith
 
   -- A smaller total comes first.
@@ -71,8 +71,8 @@ module _ (M n : ℕ) (shares : List Share) where
 
   -- Any other leaves what was found.
   seen_on : (i task below : ℕ) → Seen i task below → (critical_share_at shares i ≡ 0 → below ≤ with i) → Seen (i + 1) task below
-  seen_on i task below (no_task_lem none_yet whole more) past =
-      no_task_lem none_yet whole
+  seen_on i task below (nothing_seen none_yet whole more) past =
+      nothing_seen none_yet whole
       (below_next (λ j. critical_share_at shares j ≡ 0 → M < with j) i more (λ low. omega (arith, past low)))
   seen_on i task below (a_task inside zero-share same fits first) past =
       a_task (omega arith) zero-share same fits
@@ -88,5 +88,5 @@ module _ (M n : ℕ) (shares : List Share) where
   seen_left i task below seen past task' below' same same' = rw (same, same') (seen_on i task below seen past)
 
   pub seen_all : (task below : ℕ) → Seen n task below → Next M n shares task below
-  seen_all task below (no_task_lem none_yet whole more) = rw (none_yet, whole) (none more)
+  seen_all task below (nothing_seen none_yet whole more) = rw (none_yet, whole) (none more)
   seen_all task below (a_task inside low same fits first) = rw same (found inside low (omega arith) first)

@@ -35,7 +35,7 @@ fn critical_total(shares: [Share; 16], n: usize) -> u8
 // is none, or where that total is above m.
 fn next_kept(shares: [Share; 16], n: usize, total: u8, m: u8) -> NextKept
     requires keepable { Keepable m n shares }
-    requires total_value { total ≡ critical_total (take n shares) }
+    requires is_total { total ≡ critical_total (take n shares) }
     ensures next { Next m n shares result.task result.total }
     ensures held { result.total ≡ capped_at (m + 1) (least (totals_with_one n shares)) }
 {

@@ -205,7 +205,7 @@ pub record Worked : Type 0 where
   pub not_again : answers ladder (release 0 ∷ tick (1 ∷ []) ∷ tick (1 ∷ []) ∷ [])
       ≡ accepted ∷ ran ∷ refused (record { number = 15; task = 0 }) ∷ []
   -- S9.11 and S9.13: a Release is refused for an unknown task, and while a job is alive or the age is below D.
-  pub too_early_lem : answers alone (release 1 ∷ release 0 ∷ release 0 ∷ [])
+  pub released_too_early : answers alone (release 1 ∷ release 0 ∷ release 0 ∷ [])
       ≡ refused (record { number = 11; task = 255 }) ∷ accepted ∷ refused (record { number = 13; task = 0 }) ∷ []
   pub not_yet : answers (after alone ends_in_time) (release 0 ∷ quiet 35 ++ release 0 ∷ quiet 1 ++ release 0 ∷ [])
       ≡ refused (record { number = 13; task = 0 })
@@ -259,7 +259,7 @@ worked =
       level_four = refl;
       stays_ended = refl;
       not_again = refl;
-      too_early_lem = refl;
+      released_too_early = refl;
       not_yet = refl;
       afresh = refl;
     }

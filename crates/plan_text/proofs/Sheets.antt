@@ -30,12 +30,12 @@ pub record Sheets : Type 0 where
       ∷ 49 ∷ 32 ∷ 49 ∷ 32 ∷ 50 ∷ 32 ∷ 50 ∷ 32 ∷ 54 ∷ 32 ∷ 55 ∷ 32 ∷ 49 ∷ 10
       ∷ 50 ∷ 32 ∷ 51 ∷ 32 ∷ 53 ∷ 32 ∷ 56 ∷ 32 ∷ 48 ∷ 32 ∷ 48 ∷ 32 ∷ 48 ∷ 10 ∷ []
   -- S11.12: on 7 processors `refused 8 255`.
-  pub no_fit_lem : text_of (sheet_abe 7) ≡ 114 ∷ 101 ∷ 102 ∷ 117 ∷ 115 ∷ 101 ∷ 100 ∷ 32 ∷ 56 ∷ 32 ∷ 50 ∷ 53 ∷ 53 ∷ 10 ∷ []
+  pub nothing_fits : text_of (sheet_abe 7) ≡ 114 ∷ 101 ∷ 102 ∷ 117 ∷ 115 ∷ 101 ∷ 100 ∷ 32 ∷ 56 ∷ 32 ∷ 50 ∷ 53 ∷ 53 ∷ 10 ∷ []
   -- S9.7: on 3 processors there is no share for B: `refused 7 1`.
-  pub no_share_lem : text_of (sheet_abe 3) ≡ 114 ∷ 101 ∷ 102 ∷ 117 ∷ 115 ∷ 101 ∷ 100 ∷ 32 ∷ 55 ∷ 32 ∷ 49 ∷ 10 ∷ []
+  pub nothing_to_take : text_of (sheet_abe 3) ≡ 114 ∷ 101 ∷ 102 ∷ 117 ∷ 115 ∷ 101 ∷ 100 ∷ 32 ∷ 55 ∷ 32 ∷ 49 ∷ 10 ∷ []
   -- S9.2: with a byte behind the last record `refused 2 2`.
   pub too_long : text_of (sheet_abe 8 ++ 0 ∷ []) ≡ 114 ∷ 101 ∷ 102 ∷ 117 ∷ 115 ∷ 101 ∷ 100 ∷ 32 ∷ 50 ∷ 32 ∷ 50 ∷ 10 ∷ []
 
 sheets : Sheets
 unfolding first_over byte_at u16_at u32_at processors_of count_of offset_of length_of place_of cells_from level_at nodes_at figure_at figures_at masks_at task_at zero_task tasks_below task_set_of zero_task_set task_in level_lawful shape_lawful in_range in_order low_lawful figures_lawful mask_lawful all_below masks_lawful is_heavy task_answer header_lawful header_answer place_answer end_answer shape_answer record_answer read_answer read_of excess demand passes division_of virtual_deadline is_low ceil_div low_share has_low_share virtual_deadline_of remainder_of range low_options pairs_within high_options options_of fits least_by fitting chosen offset_in chosen_for share_answer choice_answer low_numbers holdable first_held typical_share_at left_over kept_tasks kept_share with_kept shares_with shares_of share_at allocation_of allocations_of allocation_at allocation_answer allocated_of digits_within decimal fields_of plan_lines refusal_line text_of is_high figure_limit bytes_before_masks is_wide
-sheets = record { no_bytes = refl; printed = refl; no_fit_lem = refl; no_share_lem = refl; too_long = refl }
+sheets = record { no_bytes = refl; printed = refl; nothing_fits = refl; nothing_to_take = refl; too_long = refl }

@@ -79,7 +79,7 @@ pub record Worked : Type 0 where
   pub then_nine : plan_answer (sheet_on 3) 17 ≡ Refused 9 255
   pub room_enough : plan_answer (sheet_on 3) 18 ≡ Accepted
   -- S5.5: typical blocks, critical blocks, V, remainders; the byte behind them stays. A refusal leaves the buffer as it was.
-  pub plan_bytes_lem : planned (sheet_on 3) (replicate 19 7)
+  pub bytes_of_three : planned (sheet_on 3) (replicate 19 7)
       ≡ 0 ∷ 1 ∷ 1 ∷ 2 ∷ 0 ∷ 2 ∷ 2 ∷ 0 ∷ 88 ∷ 2 ∷ 0 ∷ 0 ∷ 0 ∷ 0 ∷ 0 ∷ 0 ∷ 0 ∷ 0 ∷ 7 ∷ []
   -- S5.6: on 4 processors the high task leaves two over, and the low one is kept.
   pub plan_kept : planned (sheet_on 4) (replicate 19 7)
@@ -114,7 +114,7 @@ worked =
       then_eight = refl;
       then_nine = refl;
       room_enough = refl;
-      plan_bytes_lem = refl;
+      bytes_of_three = refl;
       plan_kept = refl;
       left_alone = refl;
       on_eight = refl;

@@ -34,7 +34,7 @@ fn write_task(buffer: &mut [u8], n: usize, i: usize, a: Allocation)
 
 // The plan's 9n bytes, at the front of the buffer.
 fn write_plan(buffer: &mut [u8], allocations: [Allocation; 16], n: u8)
-    requires n_in_bounds { 9 * n ≤ length buffer.old }
+    requires room { 9 * n ≤ length buffer.old }
     requires all_bounded { AllBounded allocations n }
     ensures { buffer.new ≡ sets buffer.old 0 (plan_bytes n allocations) }
 {

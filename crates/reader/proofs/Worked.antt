@@ -81,7 +81,7 @@ pub record Worked : Type 0 where
   pub most_processors : read_answer (64 ∷ 1 ∷ 6 ∷ 0 ∷ 16 ∷ 0 ∷ task_a) ≡ Accepted
   pub processors_above : read_answer (65 ∷ 1 ∷ 6 ∷ 0 ∷ 16 ∷ 0 ∷ task_a) ≡ Refused 1 255
   -- S2.2: n from 1 to 16.
-  pub no_task_lem : read_answer (8 ∷ 0 ∷ []) ≡ Refused 1 255
+  pub zero_tasks : read_answer (8 ∷ 0 ∷ []) ≡ Refused 1 255
   pub one_task : read_answer (many 1) ≡ Accepted
   pub most_tasks : read_answer (many 16) ≡ Accepted
   pub tasks_above : read_answer (many 17) ≡ Refused 1 255
@@ -116,7 +116,7 @@ pub record Worked : Type 0 where
   -- S9.5: node 0 before itself.
   pub own_bit : read_answer (both task_a (small 1 45 9 52 4 20 1)) ≡ Refused 5 1
   -- S9.6: CO equal to D.
-  pub not_heavy_lem : read_answer (both task_a (small 1 52 9 52 4 20 0)) ≡ Refused 6 1
+  pub too_light : read_answer (both task_a (small 1 52 9 52 4 20 0)) ≡ Refused 6 1
   -- S3.3: causes 4 and 5 in one task; causes in both tasks; a place before any record; the header before all.
   pub lower_first : read_answer (alone 16 (small 1 0 9 52 4 20 1)) ≡ Refused 4 0
   pub first_task : read_answer (both (small 1 52 9 52 4 20 0) (small 2 45 9 52 4 20 0)) ≡ Refused 6 0
@@ -162,7 +162,7 @@ worked =
       one_processor = refl;
       most_processors = refl;
       processors_above = refl;
-      no_task_lem = refl;
+      zero_tasks = refl;
       one_task = refl;
       most_tasks = refl;
       tasks_above = refl;
@@ -189,7 +189,7 @@ worked =
       figure_order = refl;
       low_figures = refl;
       own_bit = refl;
-      not_heavy_lem = refl;
+      too_light = refl;
       lower_first = refl;
       first_task = refl;
       places_first = refl;

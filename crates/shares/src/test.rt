@@ -43,7 +43,7 @@ pub fn terms_of(f: Figures, a: u8) -> Terms
 // Whether critical share b passes.
 pub fn meets(t: Terms, a: u8, b: u8) -> bool
     requires small { Small t }
-    requires a_le_b { a ≤ b }
+    requires ordered { a ≤ b }
     ensures { result ≡ meets t a b }
 {
     let share = b as u64;

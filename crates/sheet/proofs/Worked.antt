@@ -120,7 +120,7 @@ pub record Worked : Type 0 where
   pub wide_high : is_high 17 ≡ true
   pub level_refused : shape_lawful 2 1 16 ≡ false
   -- S2.7: the number of nodes, each with the length that goes with it.
-  pub one_node_lem : shape_lawful 0 1 16 ≡ true
+  pub shape_of_one_node : shape_lawful 0 1 16 ≡ true
   pub most_nodes : shape_lawful 1 32 140 ≡ true
   pub nodes_above : shape_lawful 1 33 144 ≡ false
   pub no_node : shape_lawful 1 0 12 ≡ false
@@ -178,7 +178,7 @@ pub record Worked : Type 0 where
   pub mask_of_one : masks_lawful (0 ∷ 2 ∷ 3 ∷ []) 3 ≡ false
   -- S2.13: CO above D.
   pub heavy : is_heavy (figures 51 9 52 4 20) ≡ true
-  pub not_heavy_lem : is_heavy (figures 52 9 52 4 20) ≡ false
+  pub too_light : is_heavy (figures 52 9 52 4 20) ≡ false
   -- S9.4, S9.5, S9.6 by themselves, and S3.3: of two the lower number is the answer.
   pub lawful : task_answer (task_a (0 ∷ 1 ∷ 3 ∷ [])) 7 ≡ Accepted
   pub figures_broken : task_answer (broken_a (0 ∷ 1 ∷ 3 ∷ [])) 7 ≡ Refused 4 7
@@ -224,7 +224,7 @@ worked =
       wide_low = refl;
       wide_high = refl;
       level_refused = refl;
-      one_node_lem = refl;
+      shape_of_one_node = refl;
       most_nodes = refl;
       nodes_above = refl;
       no_node = refl;
@@ -274,7 +274,7 @@ worked =
       mask_of_each = refl;
       mask_of_one = refl;
       heavy = refl;
-      not_heavy_lem = refl;
+      too_light = refl;
       lawful = refl;
       figures_broken = refl;
       mask_broken = refl;

@@ -48,7 +48,7 @@ unfolding typical_share_at share_at
 next_kept-next-requires-in-loop-next c =
     let at = (goal.at.next_kept-next-requires-in-loop-next c).In-loop-next in
     let both = asked at _ _ (omega arith) (omega (arith, some_share at)) _ (omega arith) in
-    record { keepable = both.0; total_value = both.1 }
+    record { keepable = both.0; is_total = both.1 }
 
 pub loop-next-smaller : goal.loop-next-smaller
 unfolding typical_share_at share_at

@@ -40,7 +40,7 @@ room_enough c =
 pub write_plan-requires : goal.write_plan-requires
 write_plan-requires c =
     record {
-      n_in_bounds = omega (arith, c.if-buffer-n.false);
+      room = omega (arith, c.if-buffer-n.false);
       all_bounded = subst (λ (r : Allocated). AllBounded r.allocations r.count) (sym c.allocate-allocated.ensures.whole)
           (allocated_bounded c.args.sheet.now (accepted (goal.at.write_plan-requires c).In_default));
     }
