@@ -1,6 +1,7 @@
 """Tests of graph.py and of the graph line of sheet.py: layouts, each error with its places, and that the program
 stg_import has the same records and refusals."""
 
+import os
 import pathlib
 import random
 import re
@@ -399,6 +400,15 @@ class Program(Files):
         self.says((".", "1", "45", "100"), ".: Is a directory")
         self.says(("a" * 5000, "1", "45", "100"), "FILE: File name too long")
 
+    def test_names_are_text(self):
+        (self.folder / "getriebe-größe.stg").write_bytes(FORK)
+        done = subprocess.run(
+            [IMPORTER, "getriebe-größe.stg", "1", "45", "100"], capture_output=True, check=False, cwd=self.folder
+        )
+        self.assertEqual((len(done.stdout), done.stderr), (24, b""))
+        (self.folder / os.fsdecode(b"fork-\xff.stg")).write_bytes(FORK)
+        self.says((b"fork-\xff.stg", "1", "45", "100"), "FILE: expected a name in UTF-8")
+
     def test_long_files(self):
         for more, fits in ((0, True), (1, False), (70_000, False)):
             self.file.write_bytes(FORK.ljust(65_536 + more))
@@ -412,6 +422,12 @@ class Program(Files):
             command = ["sh", "-c", f'exec "$0" "$@" {where}', IMPORTER, "fork.stg", "1", "45", "100"]
             done = subprocess.run(command, capture_output=True, check=False, cwd=self.folder)
             self.assertEqual(done.stderr, b"stg_import: the record could not be written\n")
+        reader, writer = os.pipe()
+        os.close(reader)
+        with os.fdopen(writer, "wb") as pipe:
+            command = [IMPORTER, "fork.stg", "1", "45", "100"]
+            done = subprocess.run(command, stdout=pipe, stderr=subprocess.PIPE, check=False, cwd=self.folder)
+        self.assertEqual((done.returncode, done.stderr), (0, b"stg_import: the record could not be written\n"))
 
 
 if __name__ == "__main__":

@@ -18,11 +18,11 @@ NOT_RUN = {
     "DIBWUNEK_SEED=7 ./test": "it runs this test",
     "python3 -m unittest discover -s tools": "it runs this test",
     "rt ci": "`./test` runs it first; it takes minutes",
-    "./build plan_printer": "`rt ci` has built the printer; anew it takes minutes",
+    "./build plan_printer": "`./test` runs it before this test; anew it takes minutes",
     "./build stg_import": "as the one before it",
-    "./build exports": "`./test` runs it before this test; anew it takes minutes",
-    "./build replays": "as the one before it",
-    "./build importer": "as the two before it",
+    "./build exports": "as the two before it",
+    "./build replays": "as the three before it",
+    "./build importer": "as the four before it",
 }
 
 # What a command needs that another one builds: without it the command is skipped. In `./test` all of it is there.

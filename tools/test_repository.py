@@ -102,13 +102,29 @@ class Trust(unittest.TestCase):
                 at = f"{name}:{number}: {line.strip()}"
                 self.assertNotRegex(code, r"^\s*axiom\b", at)
                 self.assertNotRegex(code, r"Prim\.Axiom|\bLEM\b|\bAC\b", at)
-                self.assertNotRegex(code, r'extern\s+"C"\s*\{', at)
+                self.assertNotRegex(code, r'\bextern(\s+"\w+")?\s*\{|\bunsafe\s*\{|\bunsafe\s+(fn|impl)\b', at)
+                self.assertNotRegex(code, r"\b(Abort|Wait|Threads|Net|Processes)\b", at)
 
     def test_no_hole_stands_in_the_proofs(self):
         for name, text in texts():
             if name.endswith(".antt"):
                 for number, line in enumerate(text.splitlines(), 1):
-                    self.assertNotRegex(line.split("--")[0], r"(^|[\s(])\?\w*($|[\s)])", f"{name}:{number}")
+                    self.assertNotRegex(line.split("--")[0], r"(^|[\s({,])\?\w*($|[\s;,)}])|\{!", f"{name}:{number}")
+
+
+class Build(unittest.TestCase):
+    """What `./build` says of names that it can't build, before it proves anything."""
+
+    def says(self, words, expected):
+        done = subprocess.run(["./build", *words], cwd=ROOT, capture_output=True, text=True, check=False)
+        self.assertEqual((done.returncode, done.stdout, done.stderr), (2, "", f"build: {expected}\n"))
+
+    def test_names_that_cannot_be_built(self):
+        self.says([], "which program or archive? plan_printer, stg_import, exports, replays or importer")
+        self.says(["printer"], "printer is no program and no archive of this repository")
+        self.says(["nodes"], "nodes is no program and no archive of this repository")
+        self.says(["../build"], "'../build' is no name of a crate")
+        self.says([""], "'' is no name of a crate")
 
 
 if __name__ == "__main__":

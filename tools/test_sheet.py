@@ -5,6 +5,7 @@ import contextlib
 import dataclasses
 import io
 import itertools
+import os
 import pathlib
 import random
 import shutil
@@ -660,6 +661,11 @@ class Plan(unittest.TestCase):
             command = ["sh", "-c", f'exec "$0" {where}', sheets.PRINTER]
             done = subprocess.run(command, input=data, capture_output=True, check=False)
             self.assertEqual((done.returncode, done.stderr), (0, errors), where)
+        reader, writer = os.pipe()
+        os.close(reader)
+        with os.fdopen(writer, "wb") as pipe:
+            done = subprocess.run([sheets.PRINTER], input=CASE_14, stdout=pipe, stderr=subprocess.PIPE, check=False)
+        self.assertEqual((done.returncode, done.stderr), (0, unwritten), "a pipe that nobody reads")
         name = HERE.parent / "examples" / "case-14.sheet"
         done = subprocess.run([sheets.PRINTER, name], input=CASE_14, capture_output=True, check=False)
         self.assertEqual(done.stdout, b"")
