@@ -13,7 +13,7 @@ use Rattle.basics.specs.Lists.{any, is_none}
 use Rattle.basics.proofs.Lists.{any_none, none_any}
 use Rattle.sheet.specs.Level.{is_high}
 use Rattle.model.specs.Row.{Row, has_high_job}
-use Rattle.model.specs.Step.{Model, release, tick, Refusal, refusal, Step, step, step_by, returned, too_early, row_at, no_row, release_refusal, refusal_of, ticked_rows, lowest_late, switched_to, returned_to, turning, ticked}
+use Rattle.model.specs.Step.{Model, tick, Refusal, refusal, Step, step, step_by, returned, too_early, row_at, no_row, release_refusal, refusal_of, ticked_rows, lowest_late, switched_to, returned_to, turning, ticked}
 use Rattle.model.specs.Run.{is_accepted}
 use Rattle.model.specs.Claim.{is_returned}
 use Rattle.model.specs.Return.{MayReturn, OpenToAll, ReturnLaw}

@@ -1,4 +1,3 @@
-use Prim.Native.Nat.{◌-◌}
 use mathlib.Core.Path.{◌≡◌, refl, sym, ap, ◌∙◌}
 use Rattle.reader.proofs.Readings.{reading_refused, reading_accepted, set_whole}
 use Rattle.sheet.specs.Format.{processors_of, tasks_below}

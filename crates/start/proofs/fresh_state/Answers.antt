@@ -1,6 +1,5 @@
 -- `start::fresh_state`: the goals that the check leaves.
 use native.Mathlib.Omega.{arith}
-use Prim.Native.Nat.{◌-◌}
 use mathlib.Core.List.{List}
 use lib.ListN.{set}
 use Rattle.sheet.specs.Format.{task_in}

@@ -2,7 +2,6 @@
 -- The measure is the tasks left. Assumes nothing.
 use Prim.Native.Nat.{◌≤◌, ◌-◌}
 use mathlib.Core.Bool.{false}
-use lib.ListN.{set}
 use mathlib.Core.Path.{◌≡◌}
 use Rattle.start.specs.Start.{entries_below}
 use Rattle.start.proofs.fresh_state.Given as goal

@@ -1,5 +1,4 @@
 -- `dispatcher::board::clear`: the goals that the check leaves.
-use Prim.Native.Nat.{◌-◌}
 use mathlib.Core.Path.{refl, ◌∙◌}
 use native.Mathlib.Omega.{arith}
 use lib.ListN.{length-set}

@@ -1,5 +1,4 @@
 -- `exports::decoding::state_from`: the goals that the check leaves.
-use Prim.Native.Nat.{◌-◌}
 use mathlib.Core.Path.{◌≡◌, ap, ◌∙◌}
 use native.Mathlib.Omega.{arith}
 use Rattle.exports.proofs.Lines.{StateLine, state_line}

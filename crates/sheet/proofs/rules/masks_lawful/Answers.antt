@@ -1,4 +1,4 @@
-use Prim.Native.Nat.{ℕ, ◌-◌}
+use Prim.Native.Nat.{ℕ}
 use mathlib.Core.Path.{◌≡◌, refl, sym, ◌∙◌, ap}
 use Rattle.basics.specs.Lists.{all_below}
 use Rattle.sheet.specs.Rules.{masks_lawful, mask_lawful}
