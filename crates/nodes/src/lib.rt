@@ -14,6 +14,7 @@ fn bit(v: u32) -> u32
 }
 
 // The set of the k lowest nodes: all 32 where k is larger.
+#[tactic(auto, using(crate::proofs::Whole::full_below, crate::proofs::Whole::full_beyond))]
 pub fn full(k: u32) -> u32
     ensures { result ≡ set_of (range 0 (min k 32)) }
 {

@@ -3,6 +3,7 @@ ghost use Rattle.std.specs.Prelude.{◌≡◌, ◌<◌};
 ghost use Rattle.sheet.specs.Level.{level_lawful, is_high, is_low, is_wide, figure_limit, bytes_before_masks};
 
 // S2.7: low is 0, high is 1; in the wide form they are 16 and 17.
+#[tactic(auto, unfolding(crate::specs::Level::level_lawful))]
 pub fn is_lawful(level: u8) -> bool
     ensures { result ≡ level_lawful level }
 {
@@ -10,6 +11,7 @@ pub fn is_lawful(level: u8) -> bool
 }
 
 // S2.6.
+#[tactic(auto, unfolding(crate::specs::Level::is_high))]
 pub fn is_high(level: u8) -> bool
     ensures { result ≡ is_high level }
 {

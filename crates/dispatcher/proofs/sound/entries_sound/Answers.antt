@@ -30,4 +30,6 @@ loop-i-preserved c = (
 )
 
 pub returns : goal.returns
-returns c = passed_all c.args.state (omega (arith, long (goal.at.returns c).Start)) c.loop-i.i _ _ (omega arith) c.loop-i.invariant.1
+returns c =
+    let all = passed_all c.args.state (omega (arith, long (goal.at.returns c).Start)) c.loop-i.i _ _ (omega arith) c.loop-i.invariant.1 in
+    grind (arith, all)

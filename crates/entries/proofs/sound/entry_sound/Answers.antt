@@ -33,6 +33,8 @@ within_limit e tested limits same = rw (tested, limits, same)
 pub returns : goal.returns
 returns c =
     let e = c.args.e in
+    let tests =
     entry_by_tests e _ _ _ _ _ (nodes_kept (goal.at.returns c).Else-not-is_within) c.is_lawful.ensures c.masks_lawful.ensures
     (within_limit e c.is_within-2.ensures c.figure_limit.ensures (omega arith))
-    c.full.ensures c.all_ended.ensures
+    c.full.ensures c.all_ended.ensures in
+    grind (arith, tests)

@@ -10,4 +10,6 @@ pub returns-then-room-lt2 : goal.returns-then-room-lt2
 returns-then-room-lt2 c = sym (lt-leb (2 + c.args.count * c.args.size) c.args.room (omega (arith, c.if-room-lt2.true)))
 
 pub returns : goal.returns
-returns c = room_quotient c.args.room c.args.count c.args.size c.requires (omega arith)
+returns c =
+    let quotient = room_quotient c.args.room c.args.count c.args.size c.requires (omega arith) in
+    grind (arith, quotient)

@@ -4,6 +4,7 @@ use mathlib.Core.Bool.{Bool, ◌&&◌, ◌||◌}
 use mathlib.Core.Path.{◌≡◌, sym, ap}
 use lib.Dec.{leb, eqb}
 use borrow.Author.Tests.{leb-true}
+use native.Mathlib.Omega.{arith}
 use Rattle.basics.specs.Numbers.{within}
 use Rattle.basics.proofs.Logic.{under, left_true}
 use Rattle.sheet.specs.Level.{is_high}
@@ -22,4 +23,5 @@ high_first level inside whole =
 pub returns : goal.returns
 unfolding terms_lawful
 returns c =
-    rw c.is_within.ensures (high_first c.args.t.level (within 100 400 c.args.t.percentage) (eqb c.args.t.percentage 100))
+    let high = high_first c.args.t.level (within 100 400 c.args.t.percentage) (eqb c.args.t.percentage 100) in
+    rw c.is_within.ensures (grind (arith, high))
