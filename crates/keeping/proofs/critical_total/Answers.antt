@@ -1,3 +1,4 @@
+-- `keeping::critical_total`: the goals that the check leaves.
 use Prim.Native.Nat.{ℕ, ◌+◌, ◌≤◌, ◌<◌}
 use mathlib.Core.Path.{◌≡◌}
 use mathlib.Core.Bool.{true}

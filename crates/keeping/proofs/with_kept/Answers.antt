@@ -1,3 +1,4 @@
+-- `keeping::with_kept`: the goals that the check leaves.
 use Prim.Native.Nat.{ℕ, ◌+◌, ◌≤◌}
 use mathlib.Core.Path.{◌≡◌, refl, ◌∙◌}
 use mathlib.Core.List.{List}

@@ -1,3 +1,4 @@
+-- `nodes::lowest`: the goals that the check leaves.
 use mathlib.Core.Path.{sym}
 use native.Mathlib.Omega.{arith}
 use Rattle.nodes.proofs.Members.{set_of_lowest_lt}

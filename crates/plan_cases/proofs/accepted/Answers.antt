@@ -1,3 +1,4 @@
+-- `plan_cases::accepted`: the goals that the check leaves.
 use Prim.Native.Nat.{ℕ, suc, ◌+◌, ◌<◌}
 use mathlib.Core.List.{List, ◌∷◌, append-nil}
 use mathlib.Core.Path.{◌≡◌, ap, ◌∙◌}

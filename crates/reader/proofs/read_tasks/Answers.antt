@@ -1,3 +1,4 @@
+-- `reader::read_tasks`: the goals that the check leaves.
 use mathlib.Core.Path.{◌≡◌, refl, sym, ap, ◌∙◌}
 use Rattle.reader.proofs.Readings.{reading_refused, reading_accepted, set_whole}
 use Rattle.sheet.specs.Format.{processors_of, tasks_below}

@@ -1,3 +1,4 @@
+-- `entries::entry::ready`: the goals that the check leaves.
 use mathlib.Core.Bool.{Bool}
 use mathlib.Core.List.{[]}
 use mathlib.Core.Path.{◌≡◌, ap, ◌∙◌}

@@ -1,3 +1,4 @@
+-- `graph_text::graph::read_entries`: the goals that the check leaves.
 use Prim.Native.Nat.{ℕ, suc, ◌+◌, ◌-◌, ◌≤◌}
 use mathlib.Core.Bool.{true, ◌&&◌}
 use mathlib.Core.List.{List}

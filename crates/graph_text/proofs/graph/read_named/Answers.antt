@@ -1,3 +1,4 @@
+-- `graph_text::graph::read_named`: the goals that the check leaves.
 use Prim.Native.Nat.{◌-◌}
 use mathlib.Core.Path.{◌≡◌, refl, sym, ap, ◌∙◌}
 use native.Mathlib.Omega.{arith}

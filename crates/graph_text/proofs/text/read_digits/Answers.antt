@@ -1,3 +1,4 @@
+-- `graph_text::text::read_digits`: the goals that the check leaves.
 use Prim.Native.Nat.{◌+◌, ◌≤◌, ◌<◌}
 use mathlib.Core.Bool.{true, false}
 use mathlib.Core.Path.{◌≡◌, refl, sym, ◌∙◌}

@@ -1,3 +1,4 @@
+-- `graph_text::text::skip_blanks`: the goals that the check leaves.
 use Prim.Native.Nat.{◌<◌}
 use mathlib.Core.Bool.{true}
 use mathlib.Core.Path.{◌≡◌, refl, sym, ◌∙◌}

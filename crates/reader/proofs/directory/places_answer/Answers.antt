@@ -1,3 +1,4 @@
+-- `reader::directory::places_answer`: the goals that the check leaves.
 use Prim.Native.Nat.{ℕ, ◌+◌, ◌*◌}
 use mathlib.Core.Path.{◌≡◌, sym, ap, ◌∙◌}
 use lib.ListN.{length}

@@ -1,3 +1,4 @@
+-- `reader::record::masks_at`: the goals that the check leaves.
 use native.Mathlib.Omega.{arith}
 use Prim.Native.Nat.{◌+◌, ◌*◌}
 use mathlib.Core.Path.{◌≡◌, ap, ◌∙◌}

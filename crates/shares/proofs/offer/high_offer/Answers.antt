@@ -1,3 +1,4 @@
+-- `shares::offer::high_offer`: the goals that the check leaves.
 use Prim.Native.Nat.{ℕ, ◌+◌, ◌-◌, ◌<◌}
 use mathlib.Core.Path.{◌≡◌, sym, ap, ◌∙◌}
 use native.Mathlib.Omega.{arith}

@@ -1,3 +1,4 @@
+-- `sheet::rules::masks_lawful`: the goals that the check leaves.
 use Prim.Native.Nat.{ℕ}
 use mathlib.Core.Path.{◌≡◌, refl, sym, ◌∙◌, ap}
 use Rattle.basics.specs.Lists.{all_below}
