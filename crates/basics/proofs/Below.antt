@@ -1,10 +1,12 @@
 -- A test of every number below a bound, and of every number of a range: what it says of each, and what it takes.
 use Prim.Native.Nat.{ℕ, zero, suc, ◌+◌, ◌≤◌, ◌<◌}
-use mathlib.Core.Path.{◌≡◌, refl, ap, ap₂, ◌∙◌}
-use mathlib.Core.Bool.{Bool, true, false, ◌&&◌, and-eq-true_iff}
+use mathlib.Core.Path.{◌≡◌, refl, sym, ap, ap₂, ◌∙◌}
+use mathlib.Core.Bool.{Bool, true, false, ◌&&◌, and_assoc, and-true, and-eq-true_iff}
 use native.Mathlib.Nat.{le_refl}
 use native.Mathlib.Omega.{arith}
+use native.Mathlib.Numerals.{add-one}
 use native.Mathlib.Decide.{dec_lt, ℕ_discrete}
+use Rattle.std.specs.List.{list_all, range_with_len}
 use Rattle.basics.specs.Lists.{range, all, all_below}
 use Rattle.basics.proofs.Logic.{left_true, right_true}
 
@@ -44,6 +46,18 @@ all_fails k p v l e = go (all_below k p) refl
 pub all_more : (n : ℕ) (test : ℕ → Bool) → all_below n test ≡ true → test n ≡ true → all_below (suc n) test ≡ true
 unfolding all_below
 all_more n test h e = rw (h, e)
+
+-- The numbers of a range that std lists, tested one by one.
+all_below-range : (test : ℕ → Bool) (first n : ℕ) → all_below (first + n) test ≡ (all_below first test && list_all test (range_with_len first n))
+unfolding all_below
+all_below-range test first zero = let e : first + 0 ≡ first = omega arith in rw e (sym (and-true (all_below first test)))
+all_below-range test first (suc n) =
+    let e : first + suc n ≡ suc first + n = omega arith in
+    rw (e, add-one first) (all_below-range test (suc first) n ∙ and_assoc (all_below first test) (test first) (list_all test (range_with_len (suc first) n)))
+
+pub list_all-range : (test : ℕ → Bool) (n : ℕ) → list_all test (range_with_len 0 n) ≡ all_below n test
+unfolding all_below
+list_all-range test n = let e : 0 + n ≡ n = omega arith in sym (rw e at (all_below-range test 0 n))
 
 -- The same of the numbers of a range.
 pub range-all_at : (p : ℕ → Bool) (first n v : ℕ) → all p (range first n) ≡ true → first ≤ v → v < first + n → p v ≡ true

@@ -1,4 +1,5 @@
--- Cells filled one after the other: a store at the count gives the cells of the count plus one. And what each of them holds.
+-- Cells filled one after the other: a store at the count gives the cells of the count plus one. And what each of them
+-- holds.
 use Prim.Native.Nat.{ℕ, zero, suc, ◌≤◌, ◌<◌, ◌+◌, ◌-◌}
 use mathlib.Core.Bool.{Bool, true, false, cond}
 use mathlib.Core.List.{List, [], ◌∷◌, map}

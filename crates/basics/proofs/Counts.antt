@@ -1,4 +1,5 @@
--- Counts of the numbers that pass a test, and the s lowest of them: as a list they are the first s of `keep`, as a test those with fewer than s passing below. By induction on the range, its start free.
+-- Counts of the numbers that pass a test, and the s lowest of them: as a list they are the first s of `keep`, as a
+-- test those with fewer than s passing below. By induction on the range, its start free.
 use Prim.Native.Nat.{ℕ, zero, suc, ◌+◌, ◌-◌, ◌≤◌, ◌<◌}
 use mathlib.Core.Path.{◌≡◌, refl, sym, ap, ap₂, ◌∙◌}
 use mathlib.Core.Bool.{Bool, true, false, ◌&&◌}

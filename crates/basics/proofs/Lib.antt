@@ -6,5 +6,6 @@ pub mod Below
 pub mod Counts
 pub mod Cells
 pub mod Bytes
+pub mod Stores
 pub mod Digits
 pub mod Parts

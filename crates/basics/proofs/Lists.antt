@@ -1,4 +1,5 @@
--- Laws of `range`, `keep`, `each` and `any`: lengths, elements, and tests that agree. By induction on the list or on the count of the range.
+-- Laws of `range`, `keep`, `each` and `any`: lengths, elements, and tests that agree. By induction on the list or on
+-- the count of the range.
 use Prim.Native.Nat.{ℕ, zero, suc, ◌+◌, ◌≤◌, ◌<◌}
 use mathlib.Core.Path.{◌≡◌, refl, sym, ap, ap₂, ◌∙◌}
 use mathlib.Core.Bool.{Bool, true, false, ◌||◌, false≢true}

@@ -1,5 +1,5 @@
--- The order by numbers: no two lists come no later than each other, and the least of a list is the one member that comes no later than
--- any; and what the least of some numbers up to a cap is.
+-- The order by numbers: no two lists come no later than each other, and the least of a list is the one member that
+-- comes no later than any; and what the least of some numbers up to a cap is.
 use Prim.Native.Nat.{ℕ, ◌≤◌, ◌<◌}
 use mathlib.Core.Path.{◌≡◌, refl, sym, ◌∙◌, subst}
 use mathlib.Core.Logic.{◌⊎◌, inl, inr}
@@ -146,7 +146,8 @@ module _ {A : Type 0} (numbers : A → List ℕ) where
       let found = least_among c cs in
       absurd (least_there numbers (c ∷ cs) found.0 found.1.0 found.1.1 e)
 
--- The least of some numbers up to a cap: a number within the cap that exceeds none of them, and that is one of them if below the cap.
+-- The least of some numbers up to a cap: a number within the cap that exceeds none of them, and that is one of them
+-- if below the cap.
 module _ (cap : ℕ) (numbers : List ℕ) (x : ℕ) (to : x ≤ cap) (below : (y : ℕ) → Memᴰ y numbers → x ≤ y)
     (one : x < cap → Memᴰ x numbers) where
   whole : Memᴰ x numbers ⊎ (x ≡ cap)

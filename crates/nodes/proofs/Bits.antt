@@ -1,5 +1,5 @@
--- The bits of a set kept in a number: `has` of each operation on words, parts of a set, and that the bits determine the set.
--- By induction on the bit's place or on the digits, one halving a step.
+-- The bits of a set kept in a number: `has` of each operation on words, parts of a set, and that the bits determine
+-- the set. By induction on the bit's place or on the digits, one halving a step.
 use Prim.Native.Nat.{ℕ, zero, suc, ◌-◌, ◌*◌, ◌/◌, ◌%◌, ◌^◌, ◌≤◌, ◌<◌, zero-le}
 use mathlib.Core.Path.{◌≡◌, refl, sym, ap, ◌∙◌}
 use mathlib.Core.Logic.{◌⊎◌, inl, inr}

@@ -1,16 +1,17 @@
--- The lowest member of a set is the number of zeros below its lowest one. By induction on the width, an even and an odd set apart.
+-- The lowest member of a set is the number of zeros below its lowest one. By induction on the width, an even and an
+-- odd set apart.
 use Prim.Native.Nat.{ℕ, zero, suc, ◌-◌, ◌/◌, ◌%◌, ◌^◌, ◌≤◌, ◌<◌}
 use mathlib.Core.Path.{◌≡◌, ap, ◌∙◌}
 use mathlib.Core.Logic.{◌⊎◌, inl, inr}
 use mathlib.Core.Bool.{true}
-use mathlib.Core.List.{◌∷◌, map}
+use mathlib.Core.List.{[], ◌∷◌, map}
 use native.Mathlib.Nat.{pow-suc}
 use native.Mathlib.Omega.{arith}
 use lib.Bits.{bit_and, and_step, and_self}
 use lib.Count.{count_trailing_zeros}
 use Rattle.nodes.specs.Sets.{has, members}
 use Rattle.nodes.proofs.Bits.{digit_cases, has_first, has_next, has_lt, within_power, within_le}
-use Rattle.nodes.proofs.Members.{members_next}
+use Rattle.nodes.proofs.Members.{members_zero, members_next}
 
 -- An even set has zeros of its half and one more; an odd set has none.
 trailing_even : (k set : ℕ) → set % 2 ≡ 0 → count_trailing_zeros (suc k) set ≡ suc (count_trailing_zeros k (set / 2))
@@ -77,3 +78,13 @@ without_lowest (suc k) set low high = go (digit_cases set) (λ pos. without_lowe
     go (inr e) rest =
         let half : (set - 1) / 2 ≡ set / 2 = omega arith in
         rw (trailing_odd k set e) (omega (arith, and_step set (set - 1), ap (bit_and (set / 2)) half, and_self (set / 2)))
+
+-- Taking the members one by one: an empty word has none, and any other has its lowest one before those of the word
+-- without it.
+pub members_end : (set : ℕ) → set ≡ 0 → members 32 set ≡ []
+members_end set none = ap (members 32) none ∙ members_zero 32
+
+pub members_step : (set : ℕ) → (set ≡ 0 → ⊥) → set < 2 ^ 32 →
+    members 32 set ≡ count_trailing_zeros 32 set ∷ members 32 (bit_and set (set - 1))
+members_step set some below =
+    rw (without_lowest 32 set (omega arith) below) (members_trailing 32 set (omega arith) below)

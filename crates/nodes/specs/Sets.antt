@@ -15,6 +15,7 @@ abbrev pub set_of : List ℕ → ℕ
 set_of [] = 0
 set_of (v ∷ vs) = 2 ^ v + set_of vs
 
--- For S8.2, where all predecessors have ended: whether every member of the set a, among the nodes below k, is a member of the set b.
+-- For S8.2, where all predecessors have ended: whether every member of the set a, among the nodes below k, is a
+-- member of the set b.
 unfoldable pub is_within : ℕ → ℕ → ℕ → Bool
 is_within k a b = all (has b) (members k a)

@@ -1,45 +1,65 @@
-// Refusals 1 and 2: the header and the directory.
-ghost use Rattle.std.specs.Prelude.{◌≡◌, ◌≤◌};
-ghost use Rattle.sheet.specs.Answers.{◌or_else◌, first_over};
-ghost use Rattle.sheet.specs.Format.{count_of};
+//! Refusals 1 and 2: the header and the directory.
+ghost use Rattle.std.specs.Prelude.{◌≡◌, ◌+◌, ◌*◌, ◌≤◌, ◌<◌};
+ghost use Rattle.sheet.specs.Refusal.{◌or_else◌, first_over};
+ghost use Rattle.sheet.specs.Format.{count_of, offset_of, length_of};
 ghost use Rattle.reader.specs.Reading.{header_lawful, place_answer, end_answer};
 
-use basics::numbers::{byte_at, is_within, u16_at};
-use sheet::answer::Answer;
+use basics::numbers::{byte_at, u16_at};
+use sheet::refusal::Refusal;
 
-// Refusal 2.
-const BAD_DIRECTORY: u8 = 2;
+/// S2.3: where task i's entry of the directory begins. Where one of a task n would begin, the directory ends.
+fn entry_place(i: u8) -> u16
+    ensures { result ≡ 2 + 4 * i }
+{
+    2 + 4 * u16::from(i)
+}
 
-// S9.1: whether refusal 1 does not hold.
+/// S2.3: where task i's record begins.
+#[tactic(auto, using(crate::proofs::Records::offset_read))]
+pub fn offset_of(s: &[u8], i: u8) -> u32
+    ensures value { result ≡ offset_of s.now i }
+    ensures bound { result < 65536 }
+{
+    u16_at(s, usize::from(entry_place(i)))
+}
+
+/// S2.3: the length of task i's record.
+#[tactic(auto, using(crate::proofs::Records::length_read))]
+pub fn length_of(s: &[u8], i: u8) -> u32
+    ensures value { result ≡ length_of s.now i }
+    ensures bound { result < 65536 }
+{
+    u16_at(s, usize::from(entry_place(i)) + 2)
+}
+
+/// S9.1: whether refusal 1 does not hold.
+#[tactic(auto, unfolding(crate::specs::Reading::header_lawful, sheet::specs::Format::processors_of, sheet::specs::Format::count_of))]
 pub fn header_lawful(s: &[u8]) -> bool
     ensures { result ≡ header_lawful s.now }
 {
     let n = byte_at(s, 1);
-    (2 <= s.len())
-        & is_within(1, 64, byte_at(s, 0) as u32)
-        & is_within(1, 16, n as u32)
-        & (2 + 4 * (n as usize) <= s.len())
+    2 <= s.len()
+        && (1..=64).contains(&byte_at(s, 0))
+        && (1..=16).contains(&n)
+        && usize::from(entry_place(n)) <= s.len()
 }
 
-// S9.2: each record begins where the one before it ended, and the sheet ends with the last one.
-pub fn places_answer(s: &[u8], n: u8) -> Answer
+/// S9.2: each record begins where the one before it ended, and the sheet ends with the last one.
+pub fn places_answer(s: &[u8], n: u8) -> Result<(), Refusal>
     requires { (n ≡ count_of s.now) × (1 ≤ n) × (n ≤ 16) }
     ensures { result ≡ first_over (place_answer s.now) 0 n or_else end_answer s.now }
 {
-    let mut start = 2 + 4 * (n as u32);
-    let mut i: u8 = 0;
-    while i < n {
-        let at = 2 + 4 * (i as usize);
-        let offset = u16_at(s, at);
+    let mut start = u32::from(entry_place(n));
+    for i in 0..n {
+        let offset = offset_of(s, i);
         if offset != start {
-            return Answer::Refused(BAD_DIRECTORY, i);
+            return Err(Refusal::BadPlace(i));
         }
-        start = offset + u16_at(s, at + 2);
-        i += 1;
+        start = offset + length_of(s, i);
     }
-    if start as usize == s.len() {
-        Answer::Accepted
-    } else {
-        Answer::Refused(BAD_DIRECTORY, n - 1)
+    // `u32` has no `From` to `usize`.
+    if start as usize != s.len() {
+        return Err(Refusal::BadPlace(n - 1));
     }
+    Ok(())
 }

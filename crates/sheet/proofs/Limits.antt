@@ -1,4 +1,5 @@
--- S2.9: the limit of a level's figures: within a million, within the bytes of a figure, and no smaller in the wide form.
+-- S2.9: the limit of a level's figures: within a million, within the bytes of a figure, and no smaller in the wide
+-- form.
 use Prim.Native.Nat.{ℕ, ◌≤◌, ◌<◌}
 use mathlib.Core.Bool.{Bool, true, false, cond}
 use mathlib.Core.Path.{◌≡◌}

@@ -2,9 +2,9 @@
 use Prim.Native.Nat.{ℕ, suc, ◌≤◌, ◌<◌, ◌+◌, ◌-◌, ◌*◌, ◌/◌, ◌^◌}
 use mathlib.Core.Bool.{Bool, true, false, cond, ◌&&◌, and-false}
 use mathlib.Core.List.{List}
-use mathlib.Core.Path.{◌≡◌, ap}
+use mathlib.Core.Path.{◌≡◌, sym, ap, ◌∙◌}
 use native.Mathlib.Omega.{arith}
-use native.Mathlib.Decide.{dec_lt}
+use native.Mathlib.Decide.{dec_lt, ℕ_discrete}
 use native.Mathlib.Nat.{div-lt_iff_lt-mul, div-eq_of_lt, le_of_eq}
 use lib.Dec.{leb, ltb, eqb}
 use lib.ListN.{get_or}
@@ -29,6 +29,14 @@ module _ (masks : List ℕ) (v : ℕ) where
       go : Dec (get_or masks v 0 < 2 ^ v) → ltb (get_or masks v 0) (2 ^ v) ≡ false
       go (yes h) = absurd (n (div-eq_of_lt h))
       go (no h) = le-ltb (get_or masks v 0) (2 ^ v) (omega arith)
+
+  -- The test that the code makes.
+  pub shifted_lawful : eqb (get_or masks v 0 / 2 ^ v) 0 ≡ mask_lawful masks v
+  shifted_lawful = go (ℕ_discrete (get_or masks v 0 / 2 ^ v) 0)
+    where
+      go : Dec (get_or masks v 0 / 2 ^ v ≡ 0) → eqb (get_or masks v 0 / 2 ^ v) 0 ≡ mask_lawful masks v
+      go (yes e) = rw e (sym (mask_kept e))
+      go (no n) = ne_eqb _ 0 n ∙ sym (mask_broken n)
 
 -- Where the guards hold, the sums compare as the differences do.
 pub order_by_sums : (g : Bool) (ln cn lo co x y : ℕ) → x ≡ lo + cn → y ≡ co + ln → (g && leb cn co && leb ln lo && leb x y) ≡ (g && leb cn co && leb ln lo && leb (lo - ln) (co - cn))

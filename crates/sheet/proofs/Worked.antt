@@ -5,10 +5,12 @@ use mathlib.Core.Bool.{true, false}
 use mathlib.Core.List.{List, [], ◌∷◌, ◌++◌}
 use native.Mathlib.Omega.{arith}
 use lib.ListN.{length, replicate}
-use Rattle.sheet.specs.declared.answer.Answer.TheVariants.{Accepted, Refused}
+use Rattle.std.specs.Prelude.{Ok, Err, ⊤, map}
+use Rattle.sheet.specs.declared.refusal.Refusal.{Refusal}
+use Rattle.sheet.specs.declared.refusal.Refusal.TheVariants.{BadHeader, BadPlace, BadRecord, BadFigure, BadMask, NotHeavy, NoShare, NoFit, ShortBuffer, NotSound, UnknownTask, LowInCritical, TooEarly, WrongCount, NotRunning, WrongLength, BadText, BadGraph, FigureOutside}
 use Rattle.sheet.specs.declared.task.Figures.{Figures}
 use Rattle.sheet.specs.declared.task.Task.{Task}
-use Rattle.sheet.specs.Answers.{number_of, task_of}
+use Rattle.sheet.specs.Refusal.{number, number_of, task_of}
 use Rattle.basics.specs.Numbers.{byte_at, u16_at, u32_at, u16_bytes, u32_bytes}
 use Rattle.basics.specs.Lists.{cells_from, all_below}
 use Rattle.sheet.specs.Format.{level_at, nodes_at, figure_at, figures_at, masks_at, task_at}
@@ -25,6 +27,12 @@ figures d cn co ln lo =
       nominal = record { work = cn; span = ln };
       overload = record { work = co; span = lo };
     }
+
+-- S9: the refusals in the order of the table; those that name a task name 7.
+abbrev refusals : List Refusal
+refusals =
+    BadHeader ∷ BadPlace 7 ∷ BadRecord 7 ∷ BadFigure 7 ∷ BadMask 7 ∷ NotHeavy 7 ∷ NoShare 7 ∷ NoFit ∷ ShortBuffer ∷ NotSound
+    ∷ UnknownTask ∷ LowInCritical 7 ∷ TooEarly 7 ∷ WrongCount ∷ NotRunning 7 ∷ WrongLength ∷ BadText ∷ BadGraph ∷ FigureOutside ∷ []
 
 -- The task A of S11 with three nodes and the given masks.
 abbrev task_a : List ℕ → Task
@@ -78,6 +86,11 @@ encodable =
     }
 
 pub record Worked : Type 0 where
+  -- S9: each refusal's number, and S3.1: the task that it names, 255 for none.
+  pub refusal_numbers : map (λ r. number r) refusals
+      ≡ 1 ∷ 2 ∷ 3 ∷ 4 ∷ 5 ∷ 6 ∷ 7 ∷ 8 ∷ 9 ∷ 10 ∷ 11 ∷ 12 ∷ 13 ∷ 14 ∷ 15 ∷ 16 ∷ 17 ∷ 18 ∷ 19 ∷ []
+  pub refusal_tasks : map (λ r. task_of {A = ⊤} (Err r)) refusals
+      ≡ 255 ∷ 7 ∷ 7 ∷ 7 ∷ 7 ∷ 7 ∷ 7 ∷ 255 ∷ 255 ∷ 255 ∷ 255 ∷ 7 ∷ 7 ∷ 255 ∷ 7 ∷ 255 ∷ 255 ∷ 255 ∷ 255 ∷ []
   -- S1.1: two and four bytes, the lowest first; a byte past the end is 0.
   pub two_bytes : u16_at (7 ∷ 1 ∷ 2 ∷ []) 1 ≡ 513
   pub four_bytes : u32_at (7 ∷ 1 ∷ 2 ∷ 3 ∷ 4 ∷ []) 1 ≡ 67305985
@@ -180,22 +193,24 @@ pub record Worked : Type 0 where
   pub heavy : is_heavy (figures 51 9 52 4 20) ≡ true
   pub too_light : is_heavy (figures 52 9 52 4 20) ≡ false
   -- S9.4, S9.5, S9.6 by themselves, and S3.3: of two the lower number is the answer.
-  pub lawful : task_answer (task_a (0 ∷ 1 ∷ 3 ∷ [])) 7 ≡ Accepted
-  pub figures_broken : task_answer (broken_a (0 ∷ 1 ∷ 3 ∷ [])) 7 ≡ Refused 4 7
-  pub mask_broken : task_answer (task_a (0 ∷ 1 ∷ 4 ∷ [])) 7 ≡ Refused 5 7
-  pub light : task_answer (light_a (0 ∷ 1 ∷ 3 ∷ [])) 7 ≡ Refused 6 7
-  pub figures-first : task_answer (broken_a (0 ∷ 1 ∷ 4 ∷ [])) 7 ≡ Refused 4 7
-  pub mask_first_of_two : task_answer (light_a (0 ∷ 1 ∷ 4 ∷ [])) 7 ≡ Refused 5 7
+  pub lawful : task_answer (task_a (0 ∷ 1 ∷ 3 ∷ [])) 7 ≡ Ok tt
+  pub figures_broken : task_answer (broken_a (0 ∷ 1 ∷ 3 ∷ [])) 7 ≡ Err (BadFigure 7)
+  pub mask_broken : task_answer (task_a (0 ∷ 1 ∷ 4 ∷ [])) 7 ≡ Err (BadMask 7)
+  pub light : task_answer (light_a (0 ∷ 1 ∷ 3 ∷ [])) 7 ≡ Err (NotHeavy 7)
+  pub figures-first : task_answer (broken_a (0 ∷ 1 ∷ 4 ∷ [])) 7 ≡ Err (BadFigure 7)
+  pub mask_first_of_two : task_answer (light_a (0 ∷ 1 ∷ 4 ∷ [])) 7 ≡ Err (BadMask 7)
   -- S3.1: the two numbers of an answer.
-  pub accepted_number : number_of Accepted ≡ 0
-  pub accepted_task : task_of Accepted ≡ 255
-  pub refused_number : number_of (Refused 4 7) ≡ 4
-  pub refused_task : task_of (Refused 4 7) ≡ 7
+  pub accepted_number : number_of {A = ⊤} (Ok tt) ≡ 0
+  pub accepted_task : task_of {A = ⊤} (Ok tt) ≡ 255
+  pub refused_number : number_of {A = ⊤} (Err (BadFigure 7)) ≡ 4
+  pub refused_task : task_of {A = ⊤} (Err (BadFigure 7)) ≡ 7
 
 worked : Worked
 unfolding u16_bytes u32_bytes masks_bytes record_bytes byte_at u16_at u32_at cells_from level_at nodes_at figures_at masks_at task_at level_lawful shape_lawful in_range in_order low_lawful figures_lawful mask_lawful all_below masks_lawful is_heavy task_answer is_high figure_limit bytes_before_masks is_wide figure_at figure_bytes
 worked =
     record {
+      refusal_numbers = refl;
+      refusal_tasks = refl;
       two_bytes = refl;
       four_bytes = refl;
       highest = refl;

@@ -29,7 +29,8 @@ record_bytes t =
     ++ figure_bytes wide t.figures.overload.span
     ++ masks_bytes t.nodes t.predecessors
 
--- S2.3: the directory of tasks whose first record begins at a place: for each task where its record begins, and its length.
+-- S2.3: the directory of tasks whose first record begins at a place: for each task where its record begins, and its
+-- length.
 unfoldable pub directory_bytes : ℕ → List Task → List ℕ
 directory_bytes place [] = []
 directory_bytes place (t ∷ tasks) =

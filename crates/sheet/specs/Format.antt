@@ -23,8 +23,8 @@ offset_of s i = u16_at s (2 + 4 * i)
 unfoldable pub length_of : List ℕ → ℕ → ℕ
 length_of s i = u16_at s (4 + 4 * i)
 
--- S2.4: where task i's record has to begin: the first behind the directory, each other one at the end of the one before it.
--- For i = n it is the end of the last record.
+-- S2.4: where task i's record has to begin: the first behind the directory, each other one at the end of the one
+-- before it. For i = n it is the end of the last record.
 unfoldable pub place_of : List ℕ → ℕ → ℕ
 place_of s zero = 2 + 4 * count_of s
 place_of s (suc i) = offset_of s i + length_of s i

@@ -2,11 +2,11 @@
 use Rattle.std.specs.Prelude.{ℕ, ◌+◌, ◌*◌, ◌-◌, ◌^◌, Bool, ◌&&◌, ◌||◌, not, List, leb, ltb, eqb, get_or}
 use Rattle.basics.specs.Lists.{all_below}
 use Rattle.basics.specs.Numbers.{within}
-use Rattle.sheet.specs.declared.answer.Answer.{Answer}
+use Rattle.sheet.specs.declared.refusal.Refusal.TheVariants.{BadFigure, BadMask, NotHeavy}
 use Rattle.sheet.specs.declared.task.Figures.{Figures}
 use Rattle.sheet.specs.declared.task.Task.{Task}
 use Rattle.sheet.specs.Level.{level_lawful, is_high, figure_limit, bytes_before_masks}
-use Rattle.sheet.specs.Answers.{bad_figure, bad_mask, not_heavy, refused_if, ◌or_else◌}
+use Rattle.sheet.specs.Refusal.{Answer, refused_if, ◌or_else◌}
 
 -- S2.7: the level, 1 to 32 nodes, and as many bytes as go with them.
 unfoldable pub shape_lawful : ℕ → ℕ → ℕ → Bool
@@ -21,8 +21,8 @@ in_range level f =
     && within 1 (figure_limit level) f.nominal.span
     && within 1 (figure_limit level) f.overload.span
 
--- S2.10: a span is no greater than its work, overload figures are no smaller than nominal ones, and the span grows no more
--- than the work.
+-- S2.10: a span is no greater than its work, overload figures are no smaller than nominal ones, and the span grows no
+-- more than the work.
 unfoldable pub in_order : Figures → Bool
 in_order f =
     leb f.nominal.span f.nominal.work
@@ -56,6 +56,6 @@ is_heavy f = ltb f.deadline f.overload.work
 -- S3.3: refusals 4, 5 and 6 in this order, of a task with the number i.
 unfoldable pub task_answer : Task → ℕ → Answer
 task_answer t i =
-    refused_if (not (figures_lawful t.level t.figures)) bad_figure i
-    or_else refused_if (not (masks_lawful t.predecessors t.nodes)) bad_mask i
-    or_else refused_if (not (is_heavy t.figures)) not_heavy i
+    refused_if (not (figures_lawful t.level t.figures)) (BadFigure i)
+    or_else refused_if (not (masks_lawful t.predecessors t.nodes)) (BadMask i)
+    or_else refused_if (not (is_heavy t.figures)) (NotHeavy i)

@@ -26,8 +26,8 @@ wide_set set =
       tasks = cells 16 (λ i. wide_task (task_in set i)) zero_task set.count;
     }
 
--- What a level says that is not wide, and so of every sheet without a wide record: 0 is low and 1 is high, figures of two bytes are at
--- most 10,000, and 12 bytes stand before the masks.
+-- What a level says that is not wide, and so of every sheet without a wide record: 0 is low and 1 is high, figures of
+-- two bytes are at most 10,000, and 12 bytes stand before the masks.
 pub record Narrow (level : ℕ) : Type 0 where
   pub lawful : level_lawful level ≡ leb level 1
   pub high : is_high level ≡ eqb level 1

@@ -1,7 +1,7 @@
-// The sheet: the format of its bytes, what they say, and the rules of a record.
+//! The sheet: the format of its bytes, what they say, and the rules of a record.
 #![tactic(auto)]
 
-pub mod answer;
 pub mod level;
+pub mod refusal;
 pub mod rules;
 pub mod task;

@@ -1,4 +1,4 @@
--- `nodes::bit` meets its contract: nothing is shifted out of a word. Assumes nothing.
+-- `nodes::bit`: nothing is shifted out of a word.
 use Rattle.nodes.proofs.Bits.{shl_one}
 use Rattle.nodes.proofs.bit.Goals as goal
 

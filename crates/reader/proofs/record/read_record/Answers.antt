@@ -1,37 +1,46 @@
--- `reader::record::read_record` meets its contract: the record's shape is put to refusal 3, and the task that it
--- holds to 4, 5 and 6. Assumes nothing.
-use native.Mathlib.Omega.{arith}
-use mathlib.Core.Path.{◌≡◌, sym, ◌∙◌, ap}
-use Prim.Native.Nat.{ℕ}
-use mathlib.Core.Bool.{true}
-use Rattle.sheet.specs.declared.task.Task.{Task}
-use Rattle.sheet.specs.Format.{task_at, level_at, nodes_at}
-use Rattle.sheet.specs.Rules.{shape_lawful, task_answer}
-use Rattle.reader.proofs.Records.{record_refused, record_shaped, record_task, nodes_few}
-use Rattle.reader.proofs.record.read_record.Goals.{Else-not-shape_at}
+-- `reader::record::read_record`: the directory says where and how long; then the record's shape, then its task, decide.
+use Rattle.std.proofs.Common.{◌≡◌, sym, ◌∙◌}
+use Rattle.reader.specs.Reading.{record_answer}
+use Rattle.sheet.specs.Format.{task_at, level_at, nodes_at, offset_of, length_of}
+use Rattle.sheet.specs.Rules.{shape_lawful}
+use Rattle.reader.proofs.Records.{record_refused, record_shaped, nodes_few}
+use Rattle.std.proofs.lemmas.Result.{err_from_is_err_and}
+use Rattle.sheet.proofs.Faults.{after_refused, after_accepted}
+use Rattle.reader.proofs.record.read_record.Goals.{After-is_shaped, After-answer}
 use Rattle.reader.proofs.record.read_record.Goals as goal
 
-pub returns-then-not-shape_at : goal.returns-then-not-shape_at
-returns-then-not-shape_at c =
-    let e =
-    record_refused c.args.s.now c.args.i c.u16_at-at.result c.u16_at-bytes.result
-    c.u16_at-at.ensures.value
-    c.u16_at-bytes.ensures.value
-    (sym c.shape_at.ensures ∙ c.if-not-shape_at.true) in
-    record { answered = sym e; told = λ r. let never : ◌≡◌ {A = ℕ} 0 1 = cc in absurd (omega arith) }
+-- The place of the record, and its shape, as the directory says them.
+at_is : (c : After-is_shaped) → c.offset_of.result ≡ offset_of c.args.s.now c.args.i
+at_is c = c.offset_of.ensures.value
 
--- Past the test the record has a lawful shape.
-shaped : (c : Else-not-shape_at) → shape_lawful (level_at c.args.s.now c.u16_at-at.result) (nodes_at c.args.s.now c.u16_at-at.result) c.u16_at-bytes.result ≡ true
-shaped c = sym c.shape_at.ensures ∙ c.if-not-shape_at.false
+shape_is : (c : After-is_shaped) → c.is_shaped.result ≡ shape_lawful (level_at c.args.s.now (offset_of c.args.s.now c.args.i)) (nodes_at c.args.s.now (offset_of c.args.s.now c.args.i)) (length_of c.args.s.now c.args.i)
+shape_is c = rw (c.is_shaped.ensures, at_is c, c.length_of.ensures.value)
 
-pub task_at-task-requires : goal.task_at-task-requires
-task_at-task-requires c = (c.u16_at-at.ensures.bound, nodes_few _ _ _ (shaped c))
+pub returns-then-not-is_shaped : goal.returns-then-not-is_shaped
+returns-then-not-is_shaped c =
+    let before = (goal.at.returns-then-not-is_shaped c).After-is_shaped in
+    sym (after_refused _ _ (record_refused c.args.s.now c.args.i (sym (shape_is before) ∙ c.if-not-is_shaped.true)))
 
-pub task_answer-requires : goal.task_answer-requires
+pub task-task-requires : goal.task-task-requires
+task-task-requires c = nodes_few _ _ _ (sym c.is_shaped.ensures ∙ c.if-not-is_shaped.false)
+
+pub answer-requires : goal.answer-requires
 unfolding task_at
-task_answer-requires c = rw c.task_at-task.ensures (nodes_few _ _ _ (shaped (goal.at.task_answer-requires c).Else-not-shape_at))
+answer-requires c = rw c.task-task.ensures (nodes_few _ _ _ (sym c.is_shaped.ensures ∙ c.if-not-is_shaped.false))
+
+-- Past the test the answer is the task's.
+answered : (c : After-answer) → record_answer c.args.s.now c.args.i ≡ c.answer.result
+answered c =
+    let before = (goal.at.After-answer c).After-is_shaped in
+    record_shaped c.args.s.now c.args.i (sym (shape_is before) ∙ c.if-not-is_shaped.false)
+    ∙ rw (c.answer.ensures, c.task-task.ensures, at_is before)
+
+pub returns-in_err-answer : goal.returns-in_err-answer
+returns-in_err-answer c =
+    let p = err_from_is_err_and c.from_residual.result c.from_residual.ensures.1 in
+    rw (p.1, p.2) (sym (after_refused _ _ (answered (goal.at.returns-in_err-answer c).After-answer ∙ c.in_err-answer.was)))
 
 pub returns : goal.returns
 returns c =
-    let e = record_shaped c.args.s.now c.args.i c.u16_at-at.result c.u16_at-bytes.result c.u16_at-at.ensures.value c.u16_at-bytes.ensures.value (shaped (goal.at.returns c).Else-not-shape_at) in
-    let t = c.task_at-task.ensures in record { answered = c.task_answer.ensures ∙ ap (λ (t : Task). task_answer t c.args.i) t ∙ sym e; told = λ _. t ∙ record_task c.args.s.now c.args.i c.u16_at-at.result c.u16_at-bytes.result c.u16_at-at.ensures.value c.u16_at-bytes.ensures.value }
+    let before = (goal.at.returns c).After-is_shaped in
+    rw (c.task-task.ensures, at_is before) (sym (after_accepted _ _ (answered (goal.at.returns c).After-answer ∙ c.in_ok-answer.was)))
