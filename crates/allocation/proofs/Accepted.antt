@@ -1,51 +1,35 @@
 -- What an accepted reading says: the sheet's task set, which is lawful, since no cause of 1 to 6 holds for it.
 use Prim.Native.Nat.{ℕ, ◌<◌}
-use mathlib.Core.Path.{◌≡◌, refl, sym, ap, ◌∙◌, subst}
+use mathlib.Core.Path.{◌≡◌, refl, sym, subst}
 use mathlib.Core.Bool.{true, ◌&&◌, not}
 use mathlib.Core.List.{List}
 use mathlib.Core.Option.{Option, none, some}
 use native.Mathlib.Omega.{arith}
 use lib.Dec.{leb}
 use lib.ListN.{length}
-use Rattle.sheet.specs.declared.answer.Answer.{Answer}
-use Rattle.sheet.specs.declared.answer.Answer.TheVariants.{Accepted, Refused}
 use Rattle.sheet.specs.declared.task.Task.{Task}
 use Rattle.sheet.specs.declared.task.TaskSet.{TaskSet}
-use Rattle.sheet.specs.Answers.{refused_if, first_over, bad_header, bad_record, bad_figure, bad_mask, not_heavy, no_task}
+use Rattle.std.specs.Prelude.{Ok}
+use Rattle.sheet.specs.declared.refusal.Refusal.TheVariants.{BadHeader, BadRecord, BadFigure, BadMask, NotHeavy, NoFit}
+use Rattle.sheet.specs.Refusal.{refused_if, first_over}
 use Rattle.sheet.specs.Format.{processors_of, count_of, offset_of, length_of, level_at, nodes_at, task_at, tasks_below, task_set_of, task_in, missing_task, zero_task}
 use Rattle.basics.specs.Numbers.{within}
 use Rattle.sheet.specs.Level.{level_lawful}
 use Rattle.sheet.specs.Rules.{shape_lawful, figures_lawful, masks_lawful, is_heavy, task_answer}
-use Rattle.reader.specs.Reading.{header_lawful, header_answer, place_answer, end_answer, shape_answer, record_answer, reading_of, read_of, read_answer}
+use Rattle.reader.specs.Reading.{header_lawful, header_answer, place_answer, end_answer, shape_answer, record_answer, read_answer}
 use Rattle.basics.proofs.Cells.{cells-length, cells_at}
 use Rattle.sheet.proofs.Faults.{both_accepted, rule_kept, over_accepted}
 use Rattle.basics.proofs.Logic.{left_true, right_true, all_four, within_bounds}
 use Rattle.shares.specs.declared.share.Share.{Share}
 use Rattle.basics.specs.Lists.{is_none}
-use Rattle.allocation.specs.Allocation.{no_fit, chosen_for, share_answer, choice_answer, shares_chosen}
+use Rattle.allocation.specs.Allocation.{chosen_for, share_answer, choice_answer, shares_chosen}
 use Rattle.allocation.specs.Lawful.{LawfulTask, LawfulSet}
 
 module _ (s : List ℕ) where
-  read_answer_lem : (read_of s).answer ≡ read_answer s
-  unfolding read_of
-  read_answer_lem = go (read_answer s)
-    where
-      go : (a : Answer) → (reading_of a s).answer ≡ a
-      go Accepted = refl
-      go (Refused number task) = refl
-
-  module _ (accepted : (read_of s).answer ≡ Accepted) where
-    answer_accepted : read_answer s ≡ Accepted
-    answer_accepted = sym read_answer_lem ∙ accepted
-
-    -- The task set is the sheet's.
-    pub accepted_set : (read_of s).set ≡ task_set_of s
-    unfolding read_of
-    accepted_set = ap (λ (a : Answer). (reading_of a s).set) answer_accepted
-
+  module _ (accepted : read_answer s ≡ Ok tt) where
     pub header_kept : header_lawful s ≡ true
     unfolding read_answer header_answer
-    header_kept = rule_kept (header_lawful s) bad_header no_task (both_accepted (header_answer s) _ answer_accepted).0
+    header_kept = rule_kept (header_lawful s) BadHeader (both_accepted (header_answer s) _ accepted).0
 
     ranges : (within 1 64 (processors_of s) ≡ true) × (within 1 16 (count_of s) ≡ true)
     unfolding header_lawful
@@ -54,35 +38,35 @@ module _ (s : List ℕ) where
         (all.1, all.2)
 
     -- The places, the end and the records pass.
-    pub behind_header : (first_over (place_answer s) 0 (count_of s) ≡ Accepted)
-        × (end_answer s ≡ Accepted)
-        × (first_over (record_answer s) 0 (count_of s) ≡ Accepted)
+    pub behind_header : (first_over (place_answer s) 0 (count_of s) ≡ Ok tt)
+        × (end_answer s ≡ Ok tt)
+        × (first_over (record_answer s) 0 (count_of s) ≡ Ok tt)
     unfolding read_answer
     behind_header =
-        let later = (both_accepted (header_answer s) _ answer_accepted).1 in
+        let later = (both_accepted (header_answer s) _ accepted).1 in
         let places = both_accepted (first_over (place_answer s) 0 (count_of s)) _ later in
         let last = both_accepted (end_answer s) _ places.1 in
         (places.0, last.0, last.1)
 
     module _ (i : ℕ) (inside : i < count_of s) where
-      record_accepted : record_answer s i ≡ Accepted
+      record_accepted : record_answer s i ≡ Ok tt
       record_accepted = over_accepted (record_answer s) 0 (count_of s) i behind_header.2 (omega arith) (omega arith)
 
       pub shape_kept : shape_lawful (level_at s (offset_of s i)) (nodes_at s (offset_of s i)) (length_of s i) ≡ true
       unfolding record_answer shape_answer
-      shape_kept = rule_kept _ bad_record i (both_accepted (shape_answer s i) _ record_accepted).0
+      shape_kept = rule_kept _ (BadRecord i) (both_accepted (shape_answer s i) _ record_accepted).0
 
-      task_accepted : task_answer (task_at s (offset_of s i)) i ≡ Accepted
+      task_accepted : task_answer (task_at s (offset_of s i)) i ≡ Ok tt
       unfolding record_answer
       task_accepted = (both_accepted (shape_answer s i) _ record_accepted).1
 
-      rules_kept : (t : Task) → task_answer t i ≡ Accepted →
+      rules_kept : (t : Task) → task_answer t i ≡ Ok tt →
           (figures_lawful t.level t.figures ≡ true) × (masks_lawful t.predecessors t.nodes ≡ true) × (is_heavy t.figures ≡ true)
       unfolding task_answer
       rules_kept t e =
-          let first = both_accepted (refused_if (not (figures_lawful t.level t.figures)) bad_figure i) _ e in
-          let second = both_accepted (refused_if (not (masks_lawful t.predecessors t.nodes)) bad_mask i) _ first.1 in
-          (rule_kept _ bad_figure i first.0, rule_kept _ bad_mask i second.0, rule_kept _ not_heavy i second.1)
+          let first = both_accepted (refused_if (not (figures_lawful t.level t.figures)) (BadFigure i)) _ e in
+          let second = both_accepted (refused_if (not (masks_lawful t.predecessors t.nodes)) (BadMask i)) _ first.1 in
+          (rule_kept _ (BadFigure i) first.0, rule_kept _ (BadMask i) second.0, rule_kept _ (NotHeavy i) second.1)
 
       task_lawful : LawfulTask (task_at s (offset_of s i))
       unfolding task_at shape_lawful
@@ -117,15 +101,11 @@ module _ (s : List ℕ) where
           lawful = λ i inside. subst LawfulTask (sym (task_in_lem i inside)) (task_lawful i inside);
         }
 
-    -- The task set of an accepted reading keeps the rules.
-    pub accepted_lawful : LawfulSet (read_of s).set
-    accepted_lawful = subst LawfulSet (sym accepted_set) sheet_lawful
-
 -- The answer on a task set that is accepted comes with a choice.
-pub accepted_choice : (set : TaskSet) → choice_answer set ≡ Accepted → chosen_for set ≡ some (shares_chosen (chosen_for set))
+pub accepted_choice : (set : TaskSet) → choice_answer set ≡ Ok tt → chosen_for set ≡ some (shares_chosen (chosen_for set))
 unfolding choice_answer
 accepted_choice set e = go (chosen_for set) (both_accepted (first_over (share_answer set) 0 set.count) _ e).1
   where
-    go : (o : Option (List Share)) → refused_if (is_none o) no_fit no_task ≡ Accepted → o ≡ some (shares_chosen o)
-    go none h = absurd (let z : ◌≡◌ {A = ℕ} 0 1 = cc in omega arith)
+    go : (o : Option (List Share)) → refused_if (is_none o) NoFit ≡ Ok tt → o ≡ some (shares_chosen o)
+    go none h = absurd (cc)
     go (some choice) h = refl

@@ -1,5 +1,5 @@
--- S2: a sheet that is accepted is what is written of its task set. The directory says where the records stand, one behind the other up to
--- the end, and each part that is read is written as it was.
+-- S2: a sheet that is accepted is what is written of its task set. The directory says where the records stand, one
+-- behind the other up to the end, and each part that is read is written as it was.
 use Prim.Native.Nat.{ℕ, zero, suc, ◌≤◌, ◌<◌, ◌+◌, ◌-◌, ◌*◌}
 use mathlib.Core.Bool.{true}
 use mathlib.Core.List.{List, ◌++◌, map}
@@ -14,20 +14,21 @@ use Rattle.basics.specs.Numbers.{within}
 use Rattle.basics.proofs.Cells.{cells_taken}
 use Rattle.basics.proofs.Logic.{all_four, within_bounds}
 use Rattle.basics.proofs.Parts.{part, join, two_part, u16_part}
-use Rattle.sheet.specs.declared.answer.Answer.TheVariants.{Accepted}
 use Rattle.sheet.specs.declared.task.Task.{Task}
-use Rattle.sheet.specs.Answers.{bad_directory}
+use Rattle.std.specs.Prelude.{Ok}
+use Rattle.sheet.specs.declared.refusal.Refusal.TheVariants.{BadPlace}
 use Rattle.sheet.specs.Format.{processors_of, count_of, offset_of, length_of, place_of, level_at, nodes_at, task_at, tasks_below, task_set_of, zero_task}
 use Rattle.sheet.specs.Level.{bytes_before_masks}
 use Rattle.sheet.specs.Encoding.{record_bytes, directory_bytes, sheet_bytes}
-use Rattle.reader.specs.Reading.{header_lawful, place_answer, end_answer, read_of}
+use Rattle.reader.specs.Reading.{header_lawful, place_answer, end_answer, read_answer}
 use Rattle.sheet.proofs.Faults.{rule_kept, over_accepted}
 use Rattle.sheet.proofs.Parts.{record_part, record_size}
 use Rattle.reader.proofs.Records.{nodes_few, shape_size}
 use Rattle.allocation.specs.Wide.{SheetAgain}
-use Rattle.allocation.proofs.Accepted.{accepted_set, header_kept, behind_header, shape_kept}
+use Rattle.allocation.proofs.Accepted.{header_kept, behind_header, shape_kept}
 
--- How an accepted sheet is laid out: the directory fits, each record begins where the one before it ends, and has its length.
+-- How an accepted sheet is laid out: the directory fits, each record begins where the one before it ends, and has its
+-- length.
 record Laid (s : List ℕ) : Type 0 where
   few : count_of s ≤ 16
   directory : 2 + 4 * count_of s ≤ length s
@@ -115,7 +116,7 @@ module _ (s : List ℕ) (laid : Laid s) where
         ∙ take-append-drop (2 + 4 * n) s)
 
 -- What the reader asks of a sheet that it accepts.
-module _ (s : List ℕ) (accepted : (read_of s).answer ≡ Accepted) where
+module _ (s : List ℕ) (accepted : read_answer s ≡ Ok tt) where
   header_fits : (count_of s ≤ 16) × (2 + 4 * count_of s ≤ length s)
   unfolding header_lawful
   header_fits =
@@ -126,11 +127,11 @@ module _ (s : List ℕ) (accepted : (read_of s).answer ≡ Accepted) where
   unfolding place_answer
   place_kept i inside =
       let here = over_accepted (place_answer s) 0 (count_of s) i (behind_header s accepted).0 (omega arith) (omega arith) in
-      eqb-true (offset_of s i) (place_of s i) (rule_kept _ bad_directory i here)
+      eqb-true (offset_of s i) (place_of s i) (rule_kept _ (BadPlace i) here)
 
   end_kept : place_of s (count_of s) ≡ length s
   unfolding end_answer
-  end_kept = eqb-true (place_of s (count_of s)) (length s) (rule_kept _ bad_directory _ (behind_header s accepted).1)
+  end_kept = eqb-true (place_of s (count_of s)) (length s) (rule_kept _ (BadPlace _) (behind_header s accepted).1)
 
   accepted_laid : Laid s
   accepted_laid =
@@ -145,4 +146,4 @@ module _ (s : List ℕ) (accepted : (read_of s).answer ≡ Accepted) where
 
 pub sheet_again : SheetAgain
 unfolding SheetAgain
-sheet_again s bytes accepted = ap sheet_bytes (accepted_set s accepted) ∙ whole_again s (accepted_laid s accepted) bytes
+sheet_again s bytes accepted = whole_again s (accepted_laid s accepted) bytes

@@ -1,32 +1,33 @@
--- What is fixed for the tasks of a set: a line of sixteen shares fixes what the shares do, the numbers are small since the shares
--- fit, and a sheet's answers go refusal by refusal.
+-- What is fixed for the tasks of a set: a line of sixteen shares fixes what the shares do, the numbers are small since
+-- the shares fit, and a sheet's answers go refusal by refusal.
 use Prim.Native.Nat.{ℕ, ◌+◌, ◌≤◌, ◌<◌}
 use mathlib.Core.Bool.{true, false}
 use mathlib.Core.List.{List}
-use mathlib.Core.Path.{◌≡◌, refl, sym, ap, ◌∙◌}
+use mathlib.Core.Path.{◌≡◌, refl, sym}
 use native.Mathlib.Omega.{arith}
 use lib.ListN.{length, take, set, replicate}
-use Rattle.sheet.specs.declared.answer.Answer.{Answer}
-use Rattle.sheet.specs.declared.answer.Answer.TheVariants.{Accepted, Refused}
 use Rattle.sheet.specs.declared.task.TaskSet.{TaskSet}
-use Rattle.sheet.specs.Format.{task_in}
+use Rattle.sheet.specs.Format.{task_in, task_set_of}
 use Rattle.basics.specs.Lists.{cells}
 use Rattle.basics.proofs.Cells.{cells_none, cells_store, cells-length, cells_at, cells_same}
-use Rattle.reader.specs.Reading.{read_of}
+use Rattle.std.specs.Prelude.{Ok, Err}
+use Rattle.sheet.specs.declared.refusal.Refusal.{Refusal}
+use Rattle.sheet.specs.Refusal.{Answer, ◌or_else◌}
+use Rattle.reader.specs.Reading.{read_answer}
 use Rattle.shares.specs.declared.share.Share.{Share}
 use Rattle.shares.specs.Totals.{share_at, share_total}
 use Rattle.allocation.specs.declared.allocate.Allocated.{Allocated}
 use Rattle.allocation.specs.declared.allocate.Allocation.{Allocation}
 use Rattle.allocation.specs.Blocks.{offset_in, length_in}
 use Rattle.allocation.specs.Lawful.{LawfulSet, LawfulShares}
-use Rattle.allocation.specs.Allocation.{choice_answer, sixteen, shares_of, allocation_of, no_allocation, allocations_of, allocation_at, allocation_answer, allocated_with, allocated_of}
+use Rattle.allocation.specs.Allocation.{choice_answer, sixteen, shares_of, allocation_of, no_allocation, allocations_of, allocation_at, allocation_answer, allocations_for, allocated_of}
 use Rattle.allocation.specs.means.Bounds.{SharesFit, Bounded, AllBounded}
-use Rattle.allocation.proofs.Accepted.{accepted_lawful}
+use Rattle.allocation.proofs.Accepted.{sheet_lawful}
 use Rattle.allocation.proofs.KeptLine.{accepted_shares}
 use Rattle.shares.proofs.Division.{remainder_less}
 use Rattle.shares.proofs.Totals.{total_part}
 use Rattle.allocation.proofs.Blocks.{shares_blocks}
-use Rattle.sheet.proofs.Faults.{both_accepted}
+use Rattle.sheet.proofs.Faults.{both_accepted, or_else_ok, or_else_err}
 use Rattle.sheet.proofs.Limits.{limit_most}
 use Rattle.allocation.proofs.Lawfulness.{figures_kept}
 use Rattle.allocation.proofs.Sixteen.{share_same, sixteen-take, offset_same}
@@ -98,73 +99,73 @@ module _ (tasks : TaskSet) (lawful : LawfulSet tasks) (shares : List Share) (giv
             omega (arith, remainder_less (task_in tasks i) (share_at shares i).typical (given.some_share i inside));
       }
 
--- The answer on a sheet, and what goes with it.
-pub answer_with : (a : Answer) (count : ℕ) (allocations : List Allocation) → (allocated_with a count allocations).answer ≡ a
-answer_with Accepted count allocations = refl
-answer_with (Refused number task) count allocations = refl
-
--- The answer of a sheet, and two sheets for which the same is fixed.
-pub answer_is : (s : List ℕ) → (allocated_of s).answer ≡ allocation_answer s
-unfolding allocated_of
-answer_is s = answer_with (allocation_answer s) _ _
-
+-- Two sheets for which the same is fixed are answered the same.
 pub answer_same : (s t : List ℕ) → allocated_of s ≡ allocated_of t → allocation_answer s ≡ allocation_answer t
-answer_same s t same = sym (answer_is s) ∙ ap (λ (a : Allocated). a.answer) same ∙ answer_is t
+unfolding allocated_of
+answer_same s t same = go _ _ (allocation_answer s) (allocation_answer t) same
+  where
+    go : (x y : Allocated) (a b : Answer) → (a or_else Ok x) ≡ (b or_else Ok y) → a ≡ b
+    go x y (Ok u) (Ok v) e = refl
+    go x y (Ok u) (Err r) e = absurd (cc)
+    go x y (Err r) (Ok v) e = absurd (cc)
+    go x y (Err r) (Err q) e = cc
 
 module _ (s : List ℕ) where
-  pub answer_read : {number task : ℕ} → (read_of s).answer ≡ Refused number task → allocation_answer s ≡ Refused number task
+  pub answer_read : {r : Refusal} → read_answer s ≡ Err r → allocation_answer s ≡ Err r
   unfolding allocation_answer
   answer_read e = rw e
 
-  pub answer_choice : (read_of s).answer ≡ Accepted → allocation_answer s ≡ choice_answer (read_of s).set
+  pub answer_choice : read_answer s ≡ Ok tt → allocation_answer s ≡ choice_answer (task_set_of s)
   unfolding allocation_answer
   answer_choice e = rw e
 
-  pub allocated_refused : (answer : Answer) (allocations : List Allocation) {number task : ℕ} → answer ≡ Refused number task →
-      allocation_answer s ≡ answer → allocations ≡ replicate 16 no_allocation →
-      record { answer = answer; count = 0; allocations = allocations } ≡ allocated_of s
+  pub allocated_refused : {r : Refusal} → allocation_answer s ≡ Err r → Err r ≡ allocated_of s
   unfolding allocated_of
-  allocated_refused answer allocations refused same zeros = rw (same, refused, zeros)
+  allocated_refused refused = rw refused
 
-  module _ (accepted : allocation_answer s ≡ Accepted) where
-    both_passed : ((read_of s).answer ≡ Accepted) × (choice_answer (read_of s).set ≡ Accepted)
+  module _ (accepted : allocation_answer s ≡ Ok tt) where
+    both_passed : (read_answer s ≡ Ok tt) × (choice_answer (task_set_of s) ≡ Ok tt)
     unfolding allocation_answer
-    both_passed = both_accepted (read_of s).answer (choice_answer (read_of s).set) accepted
+    both_passed = both_accepted (read_answer s) (choice_answer (task_set_of s)) accepted
 
-    pub read_lawful : LawfulSet (read_of s).set
-    read_lawful = accepted_lawful s both_passed.0
+    pub read_lawful : LawfulSet (task_set_of s)
+    read_lawful = sheet_lawful s both_passed.0
 
-    pub read_shares : LawfulShares (read_of s).set (shares_of (read_of s).set)
-    read_shares = accepted_shares (read_of s).set read_lawful both_passed.1
-
-    pub allocated_count : (allocated_of s).count ≡ (read_of s).set.count
-    unfolding allocated_of
-    allocated_count = rw accepted
-
-    pub allocated_line : (allocated_of s).allocations ≡ allocations_of (read_of s).set (shares_of (read_of s).set)
-    unfolding allocated_of
-    allocated_line = rw accepted
+    pub read_shares : LawfulShares (task_set_of s) (shares_of (task_set_of s))
+    read_shares = accepted_shares (task_set_of s) read_lawful both_passed.1
 
     -- What is fixed by the line of sixteen shares.
-    pub line_fixed : allocations_of (read_of s).set (sixteen (shares_of (read_of s).set)) ≡ (allocated_of s).allocations
-    line_fixed = allocations_same (read_of s).set read_lawful _ read_shares ∙ sym allocated_line
+    pub line_fixed : allocations_of (task_set_of s) (sixteen (shares_of (task_set_of s))) ≡ allocations_for s
+    unfolding allocations_for
+    line_fixed = allocations_same (task_set_of s) read_lawful _ read_shares
 
-    pub allocated_accepted : (count : ℕ) (allocations : List Allocation) → count ≡ (read_of s).set.count →
-        allocations ≡ (allocated_of s).allocations → record { answer = Accepted; count = count; allocations = allocations } ≡ allocated_of s
+    pub allocated_accepted : (count : ℕ) (allocations : List Allocation) → count ≡ (task_set_of s).count →
+        allocations ≡ allocations_for s → Ok (record { count = count; allocations = allocations }) ≡ allocated_of s
     unfolding allocated_of
     allocated_accepted count allocations e f = rw (e, f, accepted)
 
-    pub allocated_at : (i : ℕ) → i < (read_of s).set.count →
-        allocation_at (allocated_of s).allocations i ≡ allocation_of (read_of s).set (shares_of (read_of s).set) i
-    allocated_at i inside = rw allocated_line (allocations_at (read_of s).set _ read_lawful.few_tasks i inside)
+    pub allocated_at : (i : ℕ) → i < (task_set_of s).count →
+        allocation_at (allocations_for s) i ≡ allocation_of (task_set_of s) (shares_of (task_set_of s)) i
+    unfolding allocations_for
+    allocated_at i inside = allocations_at (task_set_of s) _ read_lawful.few_tasks i inside
 
-    pub allocated_length : length (allocated_of s).allocations ≡ 16
-    allocated_length = rw allocated_line (allocations_length (read_of s).set _)
+    pub allocated_length : length (allocations_for s) ≡ 16
+    unfolding allocations_for
+    allocated_length = allocations_length (task_set_of s) _
 
-    pub allocated_bounded : AllBounded (allocated_of s).allocations (allocated_of s).count
+    pub allocated_bounded : AllBounded (allocations_for s) (task_set_of s).count
     allocated_bounded =
-        rw allocated_count
         record {
           few = read_lawful.few_tasks;
-          each = λ i inside. rw (allocated_at i inside) (allocation_bounded (read_of s).set read_lawful _ read_shares i inside);
+          each = λ i inside. rw (allocated_at i inside) (allocation_bounded (task_set_of s) read_lawful _ read_shares i inside);
         }
+
+-- What the allocation says of the answer.
+pub allocated_ok : (s : List ℕ) {a : Allocated} → allocated_of s ≡ Ok a →
+    (allocation_answer s ≡ Ok tt) × (a ≡ record { count = (task_set_of s).count; allocations = allocations_for s })
+unfolding allocated_of
+allocated_ok s e = or_else_ok (allocation_answer s) e
+
+pub allocated_err : (s : List ℕ) {r : Refusal} → allocated_of s ≡ Err r → allocation_answer s ≡ Err r
+unfolding allocated_of
+allocated_err s e = or_else_err (allocation_answer s) _ e

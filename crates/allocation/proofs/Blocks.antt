@@ -1,4 +1,5 @@
--- The blocks lie in order: each begins where the one before it ends, and the last end is the sum of the shares, which is within M.
+-- The blocks lie in order: each begins where the one before it ends, and the last end is the sum of the shares, which
+-- is within M.
 use Prim.Native.Nat.{ℕ, zero, suc, ◌+◌, ◌-◌, ◌≤◌, ◌<◌}
 use mathlib.Core.Path.{◌≡◌, refl, sym, subst}
 use mathlib.Core.Bool.{Bool, true, false}

@@ -1,4 +1,5 @@
--- The sheet of a task set: each record stands where the directory says, as long as it says, and the last one ends with the sheet.
+-- The sheet of a task set: each record stands where the directory says, as long as it says, and the last one ends with
+-- the sheet.
 use Prim.Native.Nat.{ℕ, zero, suc, ◌+◌, ◌*◌, ◌/◌, ◌%◌, ◌≤◌, ◌<◌}
 use mathlib.Core.List.{List, [], ◌∷◌, ◌++◌, append_assoc}
 use mathlib.Core.Path.{◌≡◌, refl, sym, ap, ap₂, ◌∙◌}

@@ -1,5 +1,5 @@
--- The first number at which a function is least: it is in the range, no number of the range has less, and those before it
--- have more.
+-- The first number at which a function is least: it is in the range, no number of the range has less, and those before
+-- it have more.
 use Prim.Native.Nat.{ℕ, zero, suc, ◌+◌, ◌-◌, ◌≤◌, ◌<◌}
 use mathlib.Core.Path.{◌≡◌, refl, sym, ap, ◌∙◌}
 use mathlib.Core.Bool.{Bool, true, false, cond}

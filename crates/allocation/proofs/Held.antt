@@ -11,12 +11,11 @@ use borrow.Author.Tests.{eqb-true, eq-eqb}
 use Rattle.basics.specs.Order.{capped_at}
 use Rattle.basics.proofs.Members.{map-has, map_from, keep-has, keep_from}
 use Rattle.basics.proofs.Order.{capped_is}
-use Rattle.sheet.specs.declared.answer.Answer.TheVariants.{Accepted}
 use Rattle.sheet.specs.declared.task.Task.{Task}
 use Rattle.sheet.specs.declared.task.TaskSet.{TaskSet}
 use Rattle.sheet.specs.Format.{task_in}
 use Rattle.sheet.specs.Level.{is_low}
-use Rattle.reader.specs.Reading.{read_of}
+use Rattle.reader.specs.Reading.{read_answer}
 use Rattle.shares.specs.declared.share.Share.{Share}
 use Rattle.shares.specs.Offer.{critical_at}
 use Rattle.shares.specs.Totals.{typical_total, critical_total}
@@ -32,7 +31,9 @@ use Rattle.allocation.proofs.Optimal.{EachOffer, Below, Takes, takes_choice, cho
 use Rattle.allocation.proofs.Options.{low_from, high_from_lem, high_has, options_low, options_high, low_share_positive, offer_of_lem}
 use Rattle.allocation.proofs.Lines.{lines_at, lines_last, entry_totals, offers_length}
 use Rattle.allocation.proofs.Sets.{cell_is, offers_there, offers_at, each_from, set_offers}
-use Rattle.allocation.proofs.Accepted.{accepted_lawful}
+use Rattle.allocation.proofs.Accepted.{sheet_lawful}
+use Rattle.std.specs.Prelude.{Ok}
+use Rattle.sheet.specs.Format.{task_set_of}
 
 -- A task, with as many processors in the critical mode as one likes.
 module _ (M N : ℕ) (t : Task) (more : M ≤ N) where
@@ -173,5 +174,5 @@ held set lawful =
     }
 
 -- For every sheet that the reader accepts.
-pub sheet_held : (sheet : List ℕ) → (read_of sheet).answer ≡ Accepted → HeldInBytes (read_of sheet).set (offers_of (read_of sheet).set) (totals_for (read_of sheet).set)
-sheet_held sheet accepted = held (read_of sheet).set (accepted_lawful sheet accepted)
+pub sheet_held : (sheet : List ℕ) → read_answer sheet ≡ Ok tt → HeldInBytes (task_set_of sheet) (offers_of (task_set_of sheet)) (totals_for (task_set_of sheet))
+sheet_held sheet accepted = held (task_set_of sheet) (sheet_lawful sheet accepted)

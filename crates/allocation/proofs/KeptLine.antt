@@ -1,10 +1,10 @@
--- S5.6 on the line of sixteen shares of a choice: its low tasks are those without a critical share, so that what is kept there is what
--- is to be kept beside the choice.
+-- S5.6 on the line of sixteen shares of a choice: its low tasks are those without a critical share, so that what is
+-- kept there is what is to be kept beside the choice.
 use Prim.Native.Nat.{ℕ, ◌+◌, ◌≤◌, ◌<◌}
 use mathlib.Core.Path.{◌≡◌, refl, sym, ap, ◌∙◌, subst, fun_ext}
 use mathlib.Core.Bool.{Bool, true, false, cond}
 use mathlib.Core.List.{List}
-use mathlib.Core.Option.{Option, none, some}
+use mathlib.Core.Option.{some}
 use native.Mathlib.Omega.{arith}
 use lib.Dec.{eqb}
 use lib.ListN.{length, get_or, take}
@@ -12,28 +12,29 @@ use lib.Seq.{ext_get_or, take-length}
 use borrow.Author.Tests.{eq-eqb, ne_eqb}
 use Rattle.basics.specs.Lists.{range, keep, is_in}
 use Rattle.basics.proofs.Lists.{keep_ext_below}
-use Rattle.sheet.specs.declared.answer.Answer.{Answer}
-use Rattle.sheet.specs.declared.answer.Answer.TheVariants.{Accepted, Refused}
 use Rattle.sheet.specs.declared.task.Task.{Task}
 use Rattle.sheet.specs.declared.task.TaskSet.{TaskSet}
-use Rattle.sheet.specs.Answers.{first_over}
 use Rattle.sheet.specs.Format.{missing_task}
 use Rattle.sheet.specs.Level.{is_low}
 use Rattle.shares.specs.declared.share.Share.{Share}
 use Rattle.shares.specs.Totals.{no_processors, share_at}
 use Rattle.shares.proofs.Totals.{total_next, total_part}
-use Rattle.allocation.specs.declared.choice.Chosen.{Chosen}
 use Rattle.allocation.specs.Blocks.{length_in}
 use Rattle.keeping.specs.Kept.{low_numbers, typical_share_at, kept_tasks, kept_share, with_kept}
 use Rattle.allocation.specs.Lawful.{LawfulSet, LawfulShares}
-use Rattle.allocation.specs.Allocation.{tasks_of, chosen_for, share_answer, choice_answer, shares_chosen, shares_with, shares_of, sixteen, choice_of}
+use Rattle.allocation.specs.Allocation.{tasks_of, chosen_for, choice_answer, shares_chosen, shares_with, shares_of, sixteen, choice_of}
 use Rattle.keeping.specs.Running.{critical_share_at, without}
 use Rattle.keeping.specs.means.Keeping.{kept_line, Keepable}
 use Rattle.allocation.proofs.Laws.{chosen-length, chosen_typical, chosen_critical, chosen_positive, chosen_high}
 use Rattle.allocation.proofs.Accepted.{accepted_choice}
-use Rattle.allocation.proofs.Sets.{chosen_line, none_shares, refused_none}
+use Rattle.std.specs.Prelude.{Result, Ok, Err, MatchResult}
+use Rattle.sheet.specs.declared.refusal.Refusal.{Refusal}
+use Rattle.sheet.proofs.Faults.{after_refused, or_else_ok, or_else_err}
+use Rattle.allocation.proofs.Sets.{chosen_line}
 use Rattle.allocation.proofs.Sixteen.{sixteen-length, share_same, sixteen-take}
 use Rattle.keeping.proofs.Laws.{with_length, with_share_lem}
+use Rattle.allocation.specs.Verdict.{Verdict}
+use Rattle.allocation.proofs.Ways.{choice_verdict}
 use Rattle.allocation.proofs.SetShares.{tasks_there, task_at_lem, low_zero, shares_lawful}
 
 -- The line of shares with kept ones.
@@ -116,51 +117,44 @@ module _ (set : TaskSet) (lawful : LawfulSet set) (choice : List Share) (chosen_
       }
 
 -- The shares that the tasks of an accepted set get.
-pub accepted_shares : (set : TaskSet) → LawfulSet set → choice_answer set ≡ Accepted → LawfulShares set (shares_of set)
+pub accepted_shares : (set : TaskSet) → LawfulSet set → choice_answer set ≡ Ok tt → LawfulShares set (shares_of set)
 unfolding shares_of
 accepted_shares set lawful accepted = shares_lawful set lawful (shares_chosen (chosen_for set)) (accepted_choice set accepted)
 
--- The answers of `choose`, by the choice.
-module _ (set : TaskSet) (lawful : LawfulSet set) (selected : Chosen) (same : selected ≡ chosen_line set) where
-  answer_is : selected.answer ≡ choice_answer set
-  answer_is = ap (λ (c : Chosen). c.answer) same
-
-  -- One that is refused has no shares.
-  pub choice_passed : {number task : ℕ} → selected.answer ≡ Refused number task → selected ≡ choice_of set
-  unfolding choice_of choice_answer
-  choice_passed refused =
-      same ∙ ap (λ (l : List Share). record { answer = choice_answer set; shares = sixteen l }) (nothing (chosen_for set) refl)
-    where
-      nothing : (o : Option (List Share)) → chosen_for set ≡ o → shares_chosen o ≡ shares_of set
-      nothing none e = sym (none_shares set e)
-      nothing (some choice) e = absurd (go (first_over (share_answer set) 0 set.count) refl)
-        where
-          go : (a : Answer) → first_over (share_answer set) 0 set.count ≡ a → ⊥
-          go Accepted q =
-              let taken : choice_answer set ≡ Accepted = rw (q, e) in
-              let again = sym taken ∙ sym answer_is ∙ refused in
-              let z : ◌≡◌ {A = ℕ} 0 1 = cc in
-              omega arith
-          go (Refused number task) q =
-              let again = sym (refused_none set lawful number task q) ∙ e in
-              let z : ◌≡◌ {A = ℕ} 0 1 = cc in
-              omega arith
+-- The answers of `choose`, by what was selected.
+module _ (set : TaskSet) (lawful : LawfulSet set) where
+  pub choice_passed : {r : Refusal} → chosen_line set ≡ Err r → Err r ≡ choice_of set
+  unfolding choice_of
+  choice_passed refused = sym (after_refused _ _ (or_else_err (choice_answer set) _ refused))
 
   -- One that is accepted gets the kept tasks' shares.
-  module _ (accepted : selected.answer ≡ Accepted) where
+  module _ (selected : List Share) (same : chosen_line set ≡ Ok selected) where
+    accepted : (choice_answer set ≡ Ok tt) × (selected ≡ sixteen (shares_chosen (chosen_for set)))
+    accepted = or_else_ok (choice_answer set) same
+
     chosen_it : chosen_for set ≡ some (shares_chosen (chosen_for set))
-    chosen_it = accepted_choice set (sym answer_is ∙ accepted)
+    chosen_it = accepted_choice set accepted.0
 
-    pub choice_able : Keepable set.processors set.count selected.shares
-    choice_able = rw (ap (λ (c : Chosen). c.shares) same) (line_able set lawful (shares_chosen (chosen_for set)) chosen_it)
+    pub choice_able : Keepable set.processors set.count selected
+    choice_able = rw accepted.1 (line_able set lawful (shares_chosen (chosen_for set)) chosen_it)
 
-    pub choice_kept : (shares : List Share) → shares ≡ kept_line set.processors set.count selected.shares →
-        record { answer = Accepted; shares = shares } ≡ choice_of set
+    pub choice_kept : (shares : List Share) → shares ≡ kept_line set.processors set.count selected → Ok shares ≡ choice_of set
     unfolding choice_of shares_of
     choice_kept shares line =
-        rw (
-          line,
-          sym answer_is ∙ accepted,
-          ap (λ (c : Chosen). c.shares) same,
-          line_kept set lawful (shares_chosen (chosen_for set)) chosen_it,
-        )
+        rw (line, accepted.0, accepted.1, line_kept set lawful (shares_chosen (chosen_for set)) chosen_it)
+
+-- What the choice says of the answer.
+pub choice_ok : (set : TaskSet) {shares : List Share} → choice_of set ≡ Ok shares →
+    (choice_answer set ≡ Ok tt) × (shares ≡ sixteen (shares_of set))
+unfolding choice_of
+choice_ok set e = or_else_ok (choice_answer set) e
+
+pub choice_err : (set : TaskSet) {r : Refusal} → choice_of set ≡ Err r → choice_answer set ≡ Err r
+unfolding choice_of
+choice_err set e = or_else_err (choice_answer set) _ e
+
+-- S9.7 and S9.8: what the answer of `choose` says in plain words.
+pub choice_says : (set : TaskSet) {shares : Result (List Share) Refusal} → shares ≡ choice_of set →
+    MatchResult shares (λ _. Verdict set (Ok tt)) (λ r. Verdict set (Err r))
+choice_says set {shares = Ok line} e = subst (Verdict set) (choice_ok set (sym e)).0 (choice_verdict set)
+choice_says set {shares = Err r} e = subst (Verdict set) (choice_err set (sym e)) (choice_verdict set)

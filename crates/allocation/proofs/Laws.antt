@@ -1,5 +1,6 @@
--- What is chosen, for a reader: it is a choice and fits, every other choice that fits comes after it, and nothing is chosen just
--- where nothing fits; and of a lawful task set, each task's pair passes and its virtual deadline is within its deadline.
+-- What is chosen, for a reader: it is a choice and fits, every other choice that fits comes after it, and nothing is
+-- chosen just where nothing fits; and of a lawful task set, each task's pair passes and its virtual deadline is within
+-- its deadline.
 use Prim.Native.Nat.{ℕ, ◌≤◌, ◌<◌}
 use mathlib.Core.Path.{◌≡◌, refl, sym, ap, ◌∙◌, subst}
 use mathlib.Core.Bool.{Bool, true, false, cond}

@@ -25,3 +25,4 @@ pub mod SetShares
 pub mod KeptLine
 pub mod Ways
 pub mod Blocks
+pub mod Promises

@@ -12,7 +12,6 @@ use Rattle.basics.proofs.Cells.{cells_none, cells_store, cells_at}
 use Rattle.shares.specs.declared.share.Share.{Share}
 use Rattle.shares.specs.Offer.{tabulate}
 use Rattle.shares.proofs.Offers.{tabulate_at, tabulate-length, tabulated}
-use Rattle.allocation.specs.declared.selection.Totals.{Totals}
 use Rattle.shares.specs.Totals.{no_processors}
 use Rattle.allocation.specs.Allocation.{sixteen}
 use Rattle.allocation.specs.means.Selection.{cell_at, least_from, sum_at, best_share, total_with, least_total, totals_of, offered, shares_at, best_total, missing_offer, missing_totals, offers_up_to, last_totals, total_at, Small, OfferWithin}
@@ -151,14 +150,14 @@ module _ (n : ℕ) (offers : List (List ℕ)) (there : n ≤ length offers) wher
       ∙ ap cell_at (get_or-take n offers i missing_offer inside)))
 
 -- The totals of the last k tasks.
-abbrev pub line : ℕ → List (ℕ → ℕ) → ℕ → ℕ → Totals
-line M offers n k = record { cells = totals_of M (drop (n - k) offers) }
+abbrev pub line : ℕ → List (ℕ → ℕ) → ℕ → ℕ → List ℕ
+line M offers n k = totals_of M (drop (n - k) offers)
 
-abbrev pub no_line : ℕ → Totals
-no_line M = record { cells = totals_of M [] }
+abbrev pub no_line : ℕ → List ℕ
+no_line M = totals_of M []
 
 -- The lines of up to k tasks are filled.
-unfoldable pub lines : ℕ → List (ℕ → ℕ) → ℕ → ℕ → List Totals
+unfoldable pub lines : ℕ → List (ℕ → ℕ) → ℕ → ℕ → List (List ℕ)
 lines M offers n k = cells 17 (line M offers n) (no_line M) (k + 1)
 
 module _ (M n : ℕ) (offers : List (ℕ → ℕ)) (all_present : length offers ≡ n) where
@@ -170,8 +169,8 @@ module _ (M n : ℕ) (offers : List (ℕ → ℕ)) (all_present : length offers 
   pub lines_start : replicate 17 (no_line M) ≡ lines M offers n 0
   unfolding lines
   lines_start =
-      ap (λ (x : Totals). set (replicate 17 (no_line M)) 0 x) (ap (λ (r : List (ℕ → ℕ)). record { cells = totals_of M r }) (sym last_line))
-      ∙ ap (λ (l : List Totals). set l 0 (line M offers n 0)) (sym (cells_none (line M offers n) (no_line M) 0 17 0 (omega arith)))
+      ap (λ (x : List ℕ). set (replicate 17 (no_line M)) 0 x) (ap (λ (r : List (ℕ → ℕ)). totals_of M r) (sym last_line))
+      ∙ ap (λ (l : List (List ℕ)). set l 0 (line M offers n 0)) (sym (cells_none (line M offers n) (no_line M) 0 17 0 (omega arith)))
       ∙ cells_store (line M offers n) (no_line M) 17 0 (omega arith)
 
   pub lines_at : (k j : ℕ) → j ≤ k → j < 17 → get_or (lines M offers n k) j missing_totals ≡ line M offers n j
@@ -188,8 +187,8 @@ module _ (M n : ℕ) (offers : List (ℕ → ℕ)) (all_present : length offers 
 
 -- The line that the loop stores, from the offer of the task and the line before.
 pub line_more : (M n : ℕ) (offers : List (List ℕ)) → n ≤ length offers → (k : ℕ) → k < n →
-    tabulate (total_with M (cell_at (get_or offers (n - 1 - k) missing_offer)) (total_at (line M (offers_up_to n offers) n k).cells)) 0 65
-    ≡ (line M (offers_up_to n offers) n (k + 1)).cells
+    tabulate (total_with M (cell_at (get_or offers (n - 1 - k) missing_offer)) (total_at (line M (offers_up_to n offers) n k))) 0 65
+    ≡ (line M (offers_up_to n offers) n (k + 1))
 line_more M n offers there k inside =
     let place : n - 1 - k ≡ n - (k + 1) = omega arith in
     let next : n - (k + 1) + 1 ≡ n - k = omega arith in
@@ -201,18 +200,18 @@ line_more M n offers there k inside =
 
 -- What the selection reads off the lines of n tasks.
 module _ (M n : ℕ) (offers : List (ℕ → ℕ)) (all_present : length offers ≡ n) (few : n ≤ 16) where
-  pub whole_line : (get_or (last_totals M offers n) n missing_totals).cells ≡ totals_of M offers
+  pub whole_line : (get_or (last_totals M offers n) n missing_totals) ≡ totals_of M offers
   whole_line =
       let none : n - n ≡ 0 = omega arith in
       rw (← lines_last M n offers all_present)
-      (ap (λ (x : Totals). x.cells) (lines_at M n offers all_present n n (omega arith) (omega arith))
+      (ap (λ (x : List ℕ). x) (lines_at M n offers all_present n n (omega arith) (omega arith))
       ∙ ap (λ (x : ℕ). totals_of M (drop x offers)) none)
 
-  pub rest_line : (i : ℕ) → i < n → (get_or (last_totals M offers n) (n - 1 - i) missing_totals).cells ≡ totals_of M (drop (i + 1) offers)
+  pub rest_line : (i : ℕ) → i < n → (get_or (last_totals M offers n) (n - 1 - i) missing_totals) ≡ totals_of M (drop (i + 1) offers)
   rest_line i inside =
       let place : n - (n - 1 - i) ≡ i + 1 = omega arith in
       rw (← lines_last M n offers all_present)
-      (ap (λ (x : Totals). x.cells) (lines_at M n offers all_present n (n - 1 - i) (omega arith) (omega arith))
+      (ap (λ (x : List ℕ). x) (lines_at M n offers all_present n (n - 1 - i) (omega arith) (omega arith))
       ∙ ap (λ (x : ℕ). totals_of M (drop x offers)) place)
 
 -- The best typical total.

@@ -1,8 +1,9 @@
--- Totals by rows: they are lowered by one typical share of a task after the other, and come to the least over all its shares.
+-- Totals by rows: they are lowered by one typical share of a task after the other, and come to the least over all its
+-- shares.
 use Prim.Native.Nat.{ℕ, zero, suc, ◌+◌, ◌-◌, ◌≤◌, ◌<◌, min}
 use mathlib.Core.Path.{◌≡◌, refl, sym, ap, ◌∙◌}
 use mathlib.Core.Bool.{Bool, true, false, cond, ◌||◌, or-true}
-use mathlib.Core.List.{List}
+use mathlib.Core.List.{List, [], ◌++◌}
 use native.Mathlib.Omega.{arith}
 use native.Mathlib.Decide.{dec_le, dec_lt, ℕ_discrete}
 use native.Mathlib.Nat.{min-eq_left, min-eq_right}
@@ -10,6 +11,7 @@ use lib.Dec.{leb, ltb, eqb}
 use lib.ListN.{length, get_or, set, replicate, length-set, length-replicate, get_or-replicate}
 use lib.Seq.{get_or-set_same, get_or-set_other}
 use borrow.Author.Tests.{le-leb, lt-leb, lt-ltb, le-ltb, eq-eqb, ne_eqb}
+use Rattle.std.proofs.lemmas.List.{get_or_append_left, get_or-append_right, length-append}
 use Rattle.shares.specs.Offer.{tabulate}
 use Rattle.shares.proofs.Offers.{tabulate_at, tabulate-length, tabulated}
 use Rattle.allocation.specs.means.Selection.{best_share, total_with, total_at, padded, lowered, Small}
@@ -37,67 +39,46 @@ store g h n k x inside same here =
         let place : 0 + i ≡ i = omega arith in
         get_or-set_other (tabulate g 0 n) k i x 0 (λ e. apart (sym e)) ∙ tabulate_at g 0 n i within ∙ ap g place ∙ same i apart ∙ ap h (sym place)
 
--- Padding: the totals below t stand in their cells.
+-- Padding: numbers of which none is a total, and the totals behind them.
 module _ (M : ℕ) (totals : List ℕ) where
-  unfoldable pub copied : ℕ → ℕ → ℕ
-  copied below j = cond (ltb j 63 || leb (63 + below) j) (M + 1) (total_at totals (j - 63))
+  abbrev pad : ℕ → ℕ
+  pad j = cond (ltb j 63) (M + 1) (total_at totals (j - 63))
 
-  past : (below j : ℕ) → 63 + below ≤ j → copied below j ≡ M + 1
-  unfolding copied
-  past below j h = rw (le-ltb j 63 (omega arith), le-leb (63 + below) j h)
+  ahead : (j : ℕ) → j < 63 → pad j ≡ M + 1
+  ahead j less = ap {B = ℕ} (λ (t : Bool). cond t (M + 1) (total_at totals (j - 63))) (lt-ltb j 63 less)
 
-  ahead : (below j : ℕ) → j < 63 → copied below j ≡ M + 1
-  unfolding copied
-  ahead below j h = rw (lt-ltb j 63 h)
+  from_there : (j : ℕ) → 63 ≤ j → pad j ≡ total_at totals (j - 63)
+  from_there j from = ap {B = ℕ} (λ (t : Bool). cond t (M + 1) (total_at totals (j - 63))) (le-ltb j 63 from)
 
-  inside : (below j : ℕ) → 63 ≤ j → j < 63 + below → copied below j ≡ total_at totals (j - 63)
-  unfolding copied
-  inside below j from to = rw (le-ltb j 63 from, lt-leb (63 + below) j to)
-
-  pub copied_none : (x : ℕ) → x ≡ M + 1 → replicate 128 x ≡ tabulate (copied 0) 0 128
-  copied_none x cap =
-      tabulated (copied 0) (replicate 128 x) 0 128 (length-replicate 128 x) (λ i within. get_or-replicate 128 i x 0 within ∙ cap ∙ sym (none (0 + i) (dec_le 63 (0 + i))))
+  pub padded_is : (cells : List ℕ) → cells ≡ totals → length totals ≡ 65 → replicate 63 (M + 1) ++ (cells ++ []) ≡ padded M totals
+  unfolding padded total_at
+  padded_is cells same long =
+      tabulated pad (replicate 63 (M + 1) ++ (cells ++ [])) 0 128
+      (rw (same, length-append (replicate 63 (M + 1)) (totals ++ []), length-append totals [], length-replicate 63 (M + 1)) (omega arith))
+      (λ i within.
+      let place : 0 + i ≡ i = omega arith in
+      ap (λ (l : List ℕ). get_or (replicate 63 (M + 1) ++ (l ++ [])) i 0) same ∙ go i within (dec_lt i 63) ∙ ap pad (sym place))
     where
-      none : (j : ℕ) → Dec (63 ≤ j) → copied 0 j ≡ M + 1
-      none j (yes from) = past 0 j (omega arith)
-      none j (no before) = ahead 0 j (omega arith)
-
-  pub copied_more : (below x : ℕ) → below < 65 → x ≡ total_at totals below → set (tabulate (copied below) 0 128) (63 + below) x ≡ tabulate (copied (below + 1)) 0 128
-  copied_more below x within here =
-      let place : 63 + below - 63 ≡ below = omega arith in
-      store (copied below) (copied (below + 1)) 128 (63 + below) x (omega arith) (λ j apart. others j apart (dec_le 63 j) (dec_lt j (63 + below)))
-      (here ∙ ap (total_at totals) (sym place) ∙ sym (inside (below + 1) (63 + below) (omega arith) (omega arith)))
-    where
-      others : (j : ℕ) → (63 + below ≡ j → ⊥) → Dec (63 ≤ j) → Dec (j < 63 + below) → copied below j ≡ copied (below + 1) j
-      others j apart (yes from) (yes to) = inside below j from to ∙ sym (inside (below + 1) j from (omega arith))
-      others j apart (yes from) (no h) = past below j (omega arith) ∙ sym (past (below + 1) j (beyond (dec_le (63 + (below + 1)) j)))
-        where
-          beyond : Dec (63 + (below + 1) ≤ j) → 63 + (below + 1) ≤ j
-          beyond (yes k) = k
-          beyond (no k) = absurd (apart (omega arith))
-      others j apart (no before) _ = ahead below j (omega arith) ∙ sym (ahead (below + 1) j (omega arith))
-
-  pub copied_all : tabulate (copied 65) 0 128 ≡ padded M totals
-  unfolding padded
-  copied_all = tabulate_same _ _ 128 (λ j within. go j within (dec_le 63 j))
-    where
-      go : (j : ℕ) → j < 128 → Dec (63 ≤ j) → copied 65 j ≡ cond (ltb j 63) (M + 1) (total_at totals (j - 63))
-      go j within (yes from) = inside 65 j from (omega arith) ∙ sym (ap {B = ℕ} (λ (t : Bool). cond t (M + 1) (total_at totals (j - 63))) (le-ltb j 63 from))
-      go j within (no before) =
-          ahead 65 j (omega arith) ∙ sym (ap {B = ℕ} (λ (t : Bool). cond t (M + 1) (total_at totals (j - 63))) (lt-ltb j 63 (omega arith)))
+      go : (i : ℕ) → i < 128 → Dec (i < 63) → get_or (replicate 63 (M + 1) ++ (totals ++ [])) i 0 ≡ pad i
+      go i within (yes less) =
+          get_or_append_left (replicate 63 (M + 1)) (totals ++ []) 0 i (rw (length-replicate 63 (M + 1)) less)
+          ∙ get_or-replicate 63 i (M + 1) 0 less
+          ∙ sym (ahead i less)
+      go i within (no not_less) =
+          get_or-append_right (replicate 63 (M + 1)) (totals ++ []) 63 i 0 (length-replicate 63 (M + 1)) (omega arith)
+          ∙ get_or_append_left totals [] 0 (i - 63) (omega arith)
+          ∙ sym (from_there i (omega arith))
 
   -- What padded totals say.
   pub padded_at : (t : ℕ) → t < 65 → total_at (padded M totals) (63 + t) ≡ total_at totals t
+  unfolding padded
   padded_at t within =
       let place : 63 + t - 63 ≡ t = omega arith in
-      ap (λ (l : List ℕ). total_at l (63 + t)) (sym copied_all)
-      ∙ table_at (copied 65) 128 (63 + t) (omega arith)
-      ∙ inside 65 (63 + t) (omega arith) (omega arith)
-      ∙ ap (total_at totals) place
+      table_at pad 128 (63 + t) (omega arith) ∙ from_there (63 + t) (omega arith) ∙ ap (total_at totals) place
 
   pub padded_before : (j : ℕ) → j < 63 → total_at (padded M totals) j ≡ M + 1
-  padded_before j before =
-      ap (λ (l : List ℕ). total_at l j) (sym copied_all) ∙ table_at (copied 65) 128 j (omega arith) ∙ ahead 65 j before
+  unfolding padded
+  padded_before j less = table_at pad 128 j (omega arith) ∙ ahead j less
 
   pub padded-small : M ≤ 64 → Small totals → Small (padded M totals)
   unfolding padded total_at
@@ -190,7 +171,8 @@ module _ (M : ℕ) (offer rest : ℕ → ℕ) where
   unfolding up_to
   up_to_none x cap = tabulated (λ t. M + 1) (replicate 65 x) 0 65 (length-replicate 65 x) (λ i within. get_or-replicate 65 i x 0 within ∙ cap)
 
-  -- What the totals are at t, once they are lowered so far: at most M + 1, at most what any of the shares gives, and M + 1 or what one gives.
+  -- What the totals are at t, once they are lowered so far: at most M + 1, at most what any of the shares gives, and M
+  -- + 1 or what one gives.
   record Lowered (k t x : ℕ) : Type 0 where
     pub bound : x ≤ M + 1
     pub most : (a : ℕ) → 1 ≤ a → a ≤ k → a ≤ t → x ≤ offer a + rest (t - a)
@@ -233,7 +215,8 @@ module _ (M : ℕ) (offer rest : ℕ → ℕ) where
                 one = λ within. (suc k, (omega arith, here, refl));
               })
 
-  -- Lowered by the shares up to M they are the totals of the task and the tasks after it, where nothing is offered above M.
+  -- Lowered by the shares up to M they are the totals of the task and the tasks after it, where nothing is offered
+  -- above M.
   module _ (past : (a : ℕ) → M < a → a ≤ 64 → offer a ≡ M + 1) (t : ℕ) (to : t ≤ 64) where
     low : Lowered M t (up_to M t)
     low = lower_at M t

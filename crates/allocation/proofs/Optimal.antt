@@ -1,6 +1,6 @@
--- The selection is right, for any offers. Every choice has a critical total of at least the least one at its typical total; the
--- selected shares have just that; and a rival with the same totals agrees with the offers at each task, so that the first best
--- share comes no later than the rival's.
+-- The selection is right, for any offers. Every choice has a critical total of at least the least one at its typical
+-- total; the selected shares have just that; and a rival with the same totals agrees with the offers at each task, so
+-- that the first best share comes no later than the rival's.
 use Prim.Native.Nat.{ℕ, ◌+◌, ◌-◌, ◌≤◌, ◌<◌, min}
 use mathlib.Core.Path.{◌≡◌, refl, sym, ap, ◌∙◌, subst}
 use mathlib.Core.Bool.{Bool, true, false, cond}
@@ -24,8 +24,8 @@ use Rattle.basics.proofs.Order.{least_is, least_of_none}
 use Rattle.allocation.proofs.Ranks.{pairs_no_later, ranks_no_later, rank_same}
 use Rattle.allocation.proofs.Firsts.{least_from_lem, least_to, least_at_most, least-first_at}
 
--- An offer that says no more than a task's options: each has a typical share of 1 or more and, up to a top, a critical share of at least
--- what the offer says.
+-- An offer that says no more than a task's options: each has a typical share of 1 or more and, up to a top, a critical
+-- share of at least what the offer says.
 pub record Below (top : ℕ) (options : List Share) (offer : ℕ → ℕ) : Type 0 where
   pub positive : (s : Share) → Memᴰ s options → 1 ≤ s.typical
   pub least : (s : Share) → Memᴰ s options → s.typical ≤ top → offer s.typical ≤ s.critical

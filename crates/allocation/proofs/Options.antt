@@ -1,5 +1,5 @@
--- What a task may take, and its offer: a low task's one share, and a high task's passing pairs, of which the offer has the least at
--- each typical share.
+-- What a task may take, and its offer: a low task's one share, and a high task's passing pairs, of which the offer has
+-- the least at each typical share.
 use Prim.Native.Nat.{ℕ, ◌+◌, ◌-◌, ◌≤◌, ◌<◌}
 use mathlib.Core.Path.{◌≡◌, refl, sym, ap, ◌∙◌, subst}
 use mathlib.Core.Bool.{Bool, true, false, cond}

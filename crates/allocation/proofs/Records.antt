@@ -1,5 +1,5 @@
--- S2.6 and S2.14: a record can hold a lawful task, since its figures are within their limit and its masks below 2 ^ 32; and the wide form
--- of a lawful task is lawful, since the limit only grows.
+-- S2.6 and S2.14: a record can hold a lawful task, since its figures are within their limit and its masks below 2 ^ 32;
+-- and the wide form of a lawful task is lawful, since the limit only grows.
 use Prim.Native.Nat.{ℕ, zero, suc, ◌-◌, ◌≤◌, ◌<◌, ◌^◌}
 use mathlib.Core.Bool.{Bool, true, false, ◌&&◌, ◌||◌}
 use mathlib.Core.List.{List, [], ◌∷◌}

@@ -1,4 +1,5 @@
--- S5.6 of a task set: which of its low tasks are kept beside the choice, and what holds of the shares that its tasks get.
+-- S5.6 of a task set: which of its low tasks are kept beside the choice, and what holds of the shares that its tasks
+-- get.
 use Prim.Native.Nat.{ℕ, ◌≤◌, ◌<◌}
 use mathlib.Core.Path.{◌≡◌, refl, sym, ap, ◌∙◌, subst}
 use mathlib.Core.Bool.{Bool, true, false, ◌&&◌, false≢true}

@@ -1,5 +1,5 @@
--- A lawful task set: its offers are offers of its tasks' options, so that what they select is what is chosen, and an offer that offers
--- nothing is a task without an option.
+-- A lawful task set: its offers are offers of its tasks' options, so that what they select is what is chosen, and an
+-- offer that offers nothing is a task without an option.
 use Prim.Native.Nat.{ℕ, zero, suc, ◌+◌, ◌-◌, ◌≤◌, ◌<◌}
 use mathlib.Core.Path.{◌≡◌, refl, sym, ap, ◌∙◌, subst}
 use mathlib.Core.Bool.{Bool, true, false, false≢true}
@@ -10,14 +10,15 @@ use native.Mathlib.Numerals.{add-one}
 use native.Mathlib.Omega.{arith}
 use native.Mathlib.Decide.{dec_le, dec_lt}
 use lib.Dec.{ltb}
-use lib.ListN.{length, get_or, drop, replicate, drop_of_length-le}
+use lib.ListN.{length, get_or, drop, drop_of_length-le}
 use lib.Seq.{drop-cons, length-take-le, get_or-take}
 use borrow.Author.Tests.{ltb-true, lt-ltb}
-use Rattle.sheet.specs.declared.answer.Answer.{Answer}
-use Rattle.sheet.specs.declared.answer.Answer.TheVariants.{Accepted, Refused}
 use Rattle.sheet.specs.declared.task.Task.{Task}
 use Rattle.sheet.specs.declared.task.TaskSet.{TaskSet}
-use Rattle.sheet.specs.Answers.{refused_if, ◌or_else◌, first_over}
+use Rattle.std.specs.Prelude.{Result, Ok, Err}
+use Rattle.sheet.specs.declared.refusal.Refusal.{Refusal}
+use Rattle.sheet.specs.declared.refusal.Refusal.TheVariants.{NoShare}
+use Rattle.sheet.specs.Refusal.{Answer, refused_if, ◌or_else◌, first_over}
 use Rattle.basics.specs.Lists.{is_empty, range}
 use Rattle.sheet.specs.Format.{task_in, missing_task}
 use Rattle.basics.proofs.Cells.{cells-length, cells_at}
@@ -26,24 +27,21 @@ use Rattle.shares.specs.declared.share.Share.{Share}
 use Rattle.shares.specs.Offer.{tabulate, critical_at, offer_of}
 use Rattle.shares.proofs.Levels.{critical_within, critical_bound, critical_past}
 use Rattle.shares.proofs.Offers.{offer_at}
-use Rattle.allocation.specs.declared.choice.Chosen.{Chosen}
-use Rattle.basics.specs.Order.{least_by}
-use Rattle.allocation.specs.Choice.{options_of, choices, fits, rank, fitting, chosen}
+use Rattle.allocation.specs.Choice.{options_of, choices, fits, fitting, chosen}
 use Rattle.shares.specs.Totals.{no_processors}
 use Rattle.keeping.specs.Kept.{with_kept}
-use Rattle.allocation.specs.Allocation.{no_share, tasks_of, chosen_for, share_answer, choice_answer, shares_chosen, shares_with, shares_of, sixteen, choice_of}
+use Rattle.allocation.specs.Allocation.{tasks_of, chosen_for, share_answer, choice_answer, shares_chosen, shares_with, shares_of, sixteen, choice_of}
 use Rattle.allocation.specs.Lawful.{LawfulTask, LawfulSet}
 use Rattle.allocation.specs.means.Selection.{cell_at, offered, selected, zero_offer, missing_offer, offers_of, offers_none, offer_answer, offers_up_to, selection_of, OfferWithin, OffersWithin}
-use Rattle.basics.proofs.Members.{keep_from, all_member, all-members, none_empty, empty_none}
-use Rattle.basics.proofs.Order.{least_of_none}
+use Rattle.basics.proofs.Members.{keep_from, all_member, all-members}
 use Rattle.allocation.proofs.Optimal.{OfferOf, EachOffer, Offers, no_offer, offer_and, Takes, choice_takes, select_least}
 use Rattle.allocation.proofs.Options.{offer_of_lem, offer_agrees}
 use Rattle.allocation.proofs.Cells.{tabulate_from, tabulate-has}
-use Rattle.allocation.proofs.Lines.{table_within, offers_open, offers_length, sixteen_none}
+use Rattle.allocation.proofs.Lines.{table_within, offers_open, offers_length}
 
 -- The answer on a task set beside the choice, before low tasks are kept.
-abbrev pub chosen_line : TaskSet → Chosen
-chosen_line set = record { answer = choice_answer set; shares = sixteen (shares_chosen (chosen_for set)) }
+abbrev pub chosen_line : TaskSet → Result (List Share) Refusal
+chosen_line set = choice_answer set or_else Ok (sixteen (shares_chosen (chosen_for set)))
 
 -- Where nothing is chosen there are no shares.
 pub none_shares : (set : TaskSet) → chosen_for set ≡ none → shares_of set ≡ []
@@ -103,37 +101,37 @@ module _ (M : ℕ) (t : Task) (small : M ≤ 64) (lawful : LawfulTask t) where
       go (s ∷ rest) e false h = refl
 
 -- A refusal over the tasks is that of the first task that is refused.
-pub over_first : (offer : ℕ → Answer) (first count number task : ℕ) → first_over offer first count ≡ Refused number task →
-    (i : ℕ) × ((i < first + count) × (offer i ≡ Refused number task) × ((j : ℕ) → first ≤ j → j < i → offer j ≡ Accepted))
+pub over_first : (offer : ℕ → Answer) (first count : ℕ) (r : Refusal) → first_over offer first count ≡ Err r →
+    (i : ℕ) × ((i < first + count) × (offer i ≡ Err r) × ((j : ℕ) → first ≤ j → j < i → offer j ≡ Ok tt))
 unfolding first_over
-over_first offer first zero number task e = absurd (let z : ◌≡◌ {A = ℕ} 0 1 = cc in omega arith)
-over_first offer first (suc count) number task e = go (offer first) refl (over_first offer (suc first) count number task) e
+over_first offer first zero r e = absurd (cc)
+over_first offer first (suc count) r e = go (offer first) refl (over_first offer (suc first) count r) e
   where
-    earlier : (i : ℕ) → offer first ≡ Accepted → ((j : ℕ) → suc first ≤ j → j < i → offer j ≡ Accepted) → (j : ℕ) → first ≤ j → j < i →
-        Dec (first < j) → offer j ≡ Accepted
+    earlier : (i : ℕ) → offer first ≡ Ok tt → ((j : ℕ) → suc first ≤ j → j < i → offer j ≡ Ok tt) → (j : ℕ) → first ≤ j → j < i →
+        Dec (first < j) → offer j ≡ Ok tt
     earlier i q rest j from before (yes later) = rest j later before
     earlier i q rest j from before (no not-later) = let same : j ≡ first = omega arith in ap offer same ∙ q
 
     go : (a : Answer) → offer first ≡ a →
-        (first_over offer (suc first) count ≡ Refused number task →
-        (i : ℕ) × ((i < suc first + count) × (offer i ≡ Refused number task) × ((j : ℕ) → suc first ≤ j → j < i → offer j ≡ Accepted))) →
-        (a or_else first_over offer (suc first) count) ≡ Refused number task →
-        (i : ℕ) × ((i < first + suc count) × (offer i ≡ Refused number task) × ((j : ℕ) → first ≤ j → j < i → offer j ≡ Accepted))
-    go Accepted q rest h =
+        (first_over offer (suc first) count ≡ Err r →
+        (i : ℕ) × ((i < suc first + count) × (offer i ≡ Err r) × ((j : ℕ) → suc first ≤ j → j < i → offer j ≡ Ok tt))) →
+        (a or_else first_over offer (suc first) count) ≡ Err r →
+        (i : ℕ) × ((i < first + suc count) × (offer i ≡ Err r) × ((j : ℕ) → first ≤ j → j < i → offer j ≡ Ok tt))
+    go (Ok u) q rest h =
         let found = rest h in
         let to = found.1.0 in
         (found.0, (omega arith, found.1.1, λ j from before. earlier found.0 q found.1.2 j from before (dec_lt first j)))
-    go (Refused k j) q rest h = (first, (omega arith, q ∙ h, λ j' from before. absurd (omega arith)))
+    go (Err k) q rest h = (first, (omega arith, q ∙ h, λ j' from before. absurd (omega arith)))
 
 -- Refusal 7 of a task says that it has no option, and has its number.
-pub share_refused : (set : TaskSet) (i number task : ℕ) → share_answer set i ≡ Refused number task →
-    (is_empty (options_of set.processors (task_in set i)) ≡ true) × (number ≡ no_share) × (task ≡ i)
+pub share_refused : (set : TaskSet) (i : ℕ) (r : Refusal) → share_answer set i ≡ Err r →
+    (is_empty (options_of set.processors (task_in set i)) ≡ true) × (r ≡ NoShare i)
 unfolding share_answer
-share_refused set i number task e = go (is_empty (options_of set.processors (task_in set i))) e
+share_refused set i r e = go (is_empty (options_of set.processors (task_in set i))) e
   where
-    go : (t : Bool) → refused_if t no_share i ≡ Refused number task → (t ≡ true) × (number ≡ no_share) × (task ≡ i)
-    go true h = (refl, cc, cc)
-    go false h = absurd (let z : ◌≡◌ {A = ℕ} 0 1 = cc in omega arith)
+    go : (t : Bool) → refused_if t (NoShare i) ≡ Err r → (t ≡ true) × (r ≡ NoShare i)
+    go true h = (refl, cc)
+    go false h = absurd (cc)
 
 -- An option of each task, by the task's number.
 pub takes_at : {A : Type 0} (options : A → List Share) (tasks : List A) (choice : List Share) → Takes (map options tasks) choice →
@@ -218,7 +216,7 @@ module _ (set : TaskSet) (lawful : LawfulSet set) where
   answer_same : (i : ℕ) → i < set.count → offer_answer set.processors (offers_of set) i ≡ share_answer set i
   unfolding offer_answer share_answer
   answer_same i inside =
-      ap (λ (t : Bool). refused_if t no_share i)
+      ap (λ (t : Bool). refused_if t (NoShare i))
       (ap (λ (offer : List ℕ). offers_none set.processors offer) (offers_at i inside)
       ∙ offers_empty set.processors (task_in set i) lawful.few_processors (lawful.lawful i inside))
 
@@ -241,32 +239,17 @@ module _ (set : TaskSet) (lawful : LawfulSet set) where
       subst (λ (t : Task). Memᴰ (get_or choice i no_processors) (options_of set.processors t)) (get_or-take set.count set.tasks i missing_task inside)
       (takes_at (options_of set.processors) (tasks_of set) choice (fitting_takes choice m) i missing_task (omega arith))
 
-  -- Nothing is chosen where a task has no option.
-  pub refused_none : (number task : ℕ) → first_over (share_answer set) 0 set.count ≡ Refused number task → chosen_for set ≡ none
-  unfolding chosen_for chosen
-  refused_none number task e =
-      let found = over_first (share_answer set) 0 set.count number task e in
-      let inside = found.1.0 in
-      ap (least_by rank)
-      (none_empty (fitting set.processors (tasks_of set))
-      (λ choice m.
-      empty_none _ _ (share_refused set found.0 number task found.1.1).0 (fitting_option choice m found.0 (omega arith))))
-      ∙ least_of_none rank
-
   -- The answers of `choose`, by the offers.
   module _ (offers : List (List ℕ)) (of_set : offers ≡ offers_of set) where
     answers_are : first_over (share_answer set) 0 set.count ≡ first_over (offer_answer set.processors offers) 0 set.count
     answers_are = rw of_set (sym answers_same)
 
-    pub choice_refused : (number task : ℕ) → first_over (offer_answer set.processors offers) 0 set.count ≡ Refused number task →
-        record { answer = Refused number task; shares = replicate 16 no_processors } ≡ choice_of set
+    pub choice_refused : {r : Refusal} → first_over (offer_answer set.processors offers) 0 set.count ≡ Err r → Err r ≡ choice_of set
     unfolding choice_of choice_answer
-    choice_refused number task refused =
-        let here = answers_are ∙ refused in
-        rw (here, none_shares set (refused_none number task here), sixteen_none)
+    choice_refused refused = let here = answers_are ∙ refused in rw here
 
     -- What is selected is the choice.
-    pub choice_selected : (chosen_shares : Chosen) → first_over (offer_answer set.processors offers) 0 set.count ≡ Accepted →
+    pub choice_selected : (chosen_shares : Result (List Share) Refusal) → first_over (offer_answer set.processors offers) 0 set.count ≡ Ok tt →
         chosen_shares ≡ selection_of set.processors (offers_up_to set.count offers) → chosen_shares ≡ chosen_line set
     unfolding choice_answer selection_of
     choice_selected chosen_shares accepted same =

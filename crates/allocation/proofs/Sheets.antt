@@ -1,5 +1,5 @@
--- S2 and S2.14: a lawful task set that is written as a sheet is read as it is, since records can hold its tasks and its directory tells
--- where they stand; and the task set of an accepted sheet is such a set, and so is its wide form.
+-- S2 and S2.14: a lawful task set that is written as a sheet is read as it is, since records can hold its tasks and its
+-- directory tells where they stand; and the task set of an accepted sheet is such a set, and so is its wide form.
 use Prim.Native.Nat.{ℕ, ◌+◌, ◌*◌, ◌-◌, ◌≤◌, ◌<◌}
 use mathlib.Core.Bool.{true}
 use mathlib.Core.List.{List}
@@ -11,10 +11,10 @@ use Rattle.basics.specs.Lists.{cells_from}
 use Rattle.basics.specs.Numbers.{byte_at}
 use Rattle.basics.proofs.Cells.{cells-length, cells_at, cells_whole, cells_rest}
 use Rattle.basics.proofs.Logic.{within_bounds}
-use Rattle.sheet.specs.declared.answer.Answer.TheVariants.{Accepted}
 use Rattle.sheet.specs.declared.task.Task.{Task}
 use Rattle.sheet.specs.declared.task.TaskSet.{TaskSet}
-use Rattle.sheet.specs.Answers.{no_task, bad_header, bad_directory, not_heavy}
+use Rattle.std.specs.Prelude.{Ok}
+use Rattle.sheet.specs.declared.refusal.Refusal.TheVariants.{BadHeader, BadPlace, NotHeavy}
 use Rattle.sheet.specs.Level.{bytes_before_masks}
 use Rattle.sheet.specs.Format.{processors_of, count_of, offset_of, length_of, place_of, nodes_at, masks_at, task_at, tasks_below, task_set_of, task_in, missing_task, zero_task}
 use Rattle.sheet.specs.Rules.{shape_lawful, is_heavy}
@@ -28,17 +28,17 @@ use Rattle.reader.proofs.Places.{end_kept}
 use Rattle.reader.proofs.Records.{record_answers}
 use Rattle.allocation.specs.Lawful.{LawfulTask, LawfulSet}
 use Rattle.allocation.specs.Wide.{Padded, SheetRead, wide_form, WideRead}
-use Rattle.allocation.proofs.Accepted.{accepted_set, accepted_lawful, sheet_lawful, task_in_lem}
+use Rattle.allocation.proofs.Accepted.{sheet_lawful, task_in_lem}
 use Rattle.allocation.proofs.Records.{encodable, wide_lawful}
 use Rattle.allocation.proofs.Directory.{sheet_head, sheet_length, sheet_task, sheet_places, sheet_ends}
 
 -- A record that is read as a lawful task, and has as many bytes as go with it.
 record_passes : (s : List ℕ) (i : ℕ) (t : Task) → LawfulTask t → task_at s (offset_of s i) ≡ t →
-    length_of s i ≡ bytes_before_masks t.level + 4 * t.nodes → record_answer s i ≡ Accepted
+    length_of s i ≡ bytes_before_masks t.level + 4 * t.nodes → record_answer s i ≡ Ok tt
 unfolding shape_lawful
 record_passes s i t lawful read bytes =
     record_answers s i t read (rw (lawful.level, lawful.nodes, eq-eqb (length_of s i) _ bytes)) lawful.figures lawful.masks
-    ∙ kept (is_heavy t.figures) not_heavy i lawful.heavy
+    ∙ kept (is_heavy t.figures) (NotHeavy i) lawful.heavy
 
 -- The sheet of a lawful task set with zeros in its unused places.
 module _ (set : TaskSet) (lawful : LawfulSet set) (padded : Padded set) where
@@ -72,21 +72,21 @@ module _ (set : TaskSet) (lawful : LawfulSet set) (padded : Padded set) where
         le-leb (2 + 4 * set.count) (length sheet) there,
       )
 
-  places_pass : (i : ℕ) → i < set.count → place_answer sheet i ≡ Accepted
+  places_pass : (i : ℕ) → i < set.count → place_answer sheet i ≡ Ok tt
   unfolding place_answer
-  places_pass i inside = kept_equal (offset_of sheet i) (place_of sheet i) bad_directory i (sheet_places set lawful fits i inside)
+  places_pass i inside = kept_equal (offset_of sheet i) (place_of sheet i) (BadPlace i) (sheet_places set lawful fits i inside)
 
-  records_pass : (i : ℕ) → i < set.count → record_answer sheet i ≡ Accepted
+  records_pass : (i : ℕ) → i < set.count → record_answer sheet i ≡ Ok tt
   unfolding RecordLength
   records_pass i inside =
       record_passes sheet i (task_in set i) (lawful.lawful i inside) (sheet_task set lawful fits i inside)
       (sheet_length set lawful fits i inside ∙ record_length (task_in set i) (fits i inside))
 
-  sheet_passes : read_answer sheet ≡ Accepted
+  sheet_passes : read_answer sheet ≡ Ok tt
   unfolding read_answer header_answer
   sheet_passes =
       rw (
-        kept (header_lawful sheet) bad_header no_task header_passes,
+        kept (header_lawful sheet) BadHeader header_passes,
         end_kept sheet set.count (sym count_read) (sheet_ends set lawful fits),
         count_read,
         all_pass (place_answer sheet) 0 set.count (λ i from to. places_pass i (omega arith)),
@@ -122,8 +122,8 @@ module _ (s : List ℕ) (at : ℕ) where
   unfolding task_at masks_at
   masks_rest few = cells_rest _ 0 (nodes_at s at) 0 32 (nodes_at s at) (omega arith) few
 
-module _ (s : List ℕ) (accepted : (read_of s).answer ≡ Accepted) where
-  sheet_padded : Padded (task_set_of s)
+module _ (s : List ℕ) (accepted : read_answer s ≡ Ok tt) where
+  pub sheet_padded : Padded (task_set_of s)
   unfolding task_set_of tasks_below
   sheet_padded =
       let lawful = sheet_lawful s accepted in
@@ -166,12 +166,9 @@ module _ (set : TaskSet) (lawful : LawfulSet set) where
         tasks_none = cells_rest (λ i. wide_task (task_in set i)) zero_task set.count 0 16 set.count (omega arith) lawful.few_tasks;
       }
 
-pub accepted_padded : (s : List ℕ) → (read_of s).answer ≡ Accepted → Padded (read_of s).set
-accepted_padded s accepted = rw (accepted_set s accepted) (sheet_padded s accepted)
-
 pub wide_read : WideRead
 unfolding WideRead wide_form SheetRead
 wide_read s accepted =
-    let set = (read_of s).set in
-    let lawful = accepted_lawful s accepted in
-    sheet_read (wide_set set) (wide_set_lawful set lawful) (wide_padded set lawful (accepted_padded s accepted))
+    let set = (task_set_of s) in
+    let lawful = sheet_lawful s accepted in
+    sheet_read (wide_set set) (wide_set_lawful set lawful) (wide_padded set lawful (sheet_padded s accepted))

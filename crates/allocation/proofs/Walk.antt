@@ -4,18 +4,17 @@ use mathlib.Core.Path.{◌≡◌, refl, sym, ap, ◌∙◌}
 use mathlib.Core.List.{List, ◌∷◌}
 use mathlib.Core.Option.{none, some}
 use native.Mathlib.Omega.{arith}
-use lib.ListN.{length, get_or, drop, set, replicate}
+use lib.ListN.{length, get_or, drop, set}
 use borrow.Author.Tests.{le-leb, lt-leb}
-use Rattle.sheet.specs.declared.answer.Answer.TheVariants.{Accepted, Refused}
-use Rattle.sheet.specs.Answers.{no_task}
+use Rattle.std.specs.Prelude.{Ok, Err}
+use Rattle.sheet.specs.declared.refusal.Refusal.TheVariants.{NoFit}
 use Rattle.basics.specs.Lists.{cells}
 use Rattle.basics.proofs.Cells.{cells_store}
 use Rattle.shares.specs.declared.share.Share.{Share}
-use Rattle.allocation.specs.declared.selection.Totals.{Totals}
 use Rattle.shares.specs.Totals.{no_processors}
-use Rattle.allocation.specs.Allocation.{no_fit, sixteen}
+use Rattle.allocation.specs.Allocation.{sixteen}
 use Rattle.allocation.specs.means.Selection.{cell_at, least_from, best_share, least_total, totals_of, offered, shares_at, best_total, selected, missing_offer, offers_up_to, last_totals, selection_of, total_at, missing_totals, Small}
-use Rattle.allocation.proofs.Lines.{totals_small, offers_length, offers_open, whole_line, rest_line, entry_totals, best_total_is, step_some, step_from, step_to, step-within, step_shares, shares_length, open_at, open_rest, sixteen_is, sixteen_none}
+use Rattle.allocation.proofs.Lines.{totals_small, offers_length, offers_open, whole_line, rest_line, entry_totals, best_total_is, step_some, step_from, step_to, step-within, step_shares, shares_length, open_at, open_rest, sixteen_is}
 
 -- The answers that the walk ends in.
 module _ (M : ℕ) (offers : List (ℕ → ℕ)) where
@@ -28,31 +27,31 @@ module _ (M : ℕ) (offers : List (ℕ → ℕ)) where
   select_within within = rw (le-leb _ M within)
 
   pub selection_none : M < least_total M offers (best_total M offers) →
-      record { answer = Refused no_fit no_task; shares = replicate 16 no_processors } ≡ selection_of M offers
+      Err NoFit ≡ selection_of M offers
   unfolding selection_of
-  selection_none past = rw (select_past past, sixteen_none)
+  selection_none past = rw (select_past past)
 
   pub selection_some : least_total M offers (best_total M offers) ≤ M → (shares : List Share) →
-      shares ≡ sixteen (shares_at M offers (best_total M offers)) → record { answer = Accepted; shares = shares } ≡ selection_of M offers
+      shares ≡ sixteen (shares_at M offers (best_total M offers)) → Ok shares ≡ selection_of M offers
   unfolding selection_of
   selection_some within shares e = rw (select_within within, e)
 
 -- Before the walk: the best typical total is read off the line of all tasks.
 module _ (M n : ℕ) (offers : List (List ℕ)) (there : n ≤ length offers) (few : n ≤ 16) (small : M ≤ 64)
-    (all : List Totals) (lines : all ≡ last_totals M (offers_up_to n offers) n) where
-  whole_is : (get_or all n missing_totals).cells ≡ totals_of M (offers_up_to n offers)
+    (all : List (List ℕ)) (lines : all ≡ last_totals M (offers_up_to n offers) n) where
+  whole_is : (get_or all n missing_totals) ≡ totals_of M (offers_up_to n offers)
   whole_is = rw lines (whole_line M n (offers_up_to n offers) (offers_length n offers there) few)
 
-  pub first_is : least_from (total_at (get_or all n missing_totals).cells) 0 M ≡ best_total M (offers_up_to n offers)
+  pub first_is : least_from (total_at (get_or all n missing_totals)) 0 M ≡ best_total M (offers_up_to n offers)
   first_is = rw whole_is (best_total_is M (offers_up_to n offers) small)
 
-  pub total_is : (t : ℕ) → t ≤ M → get_or (get_or all n missing_totals).cells t 0 ≡ least_total M (offers_up_to n offers) t
+  pub total_is : (t : ℕ) → t ≤ M → get_or (get_or all n missing_totals) t 0 ≡ least_total M (offers_up_to n offers) t
   unfolding total_at
   total_is t to = rw whole_is (entry_totals M (offers_up_to n offers) t (omega arith))
 
 -- The totals of the tasks after task i are small.
-pub rest_small : (M n : ℕ) (offers : List (List ℕ)) → n ≤ length offers → n ≤ 16 → M ≤ 64 → (i : ℕ) → i < n → (all : List Totals) →
-    all ≡ last_totals M (offers_up_to n offers) n → Small (get_or all (n - 1 - i) missing_totals).cells
+pub rest_small : (M n : ℕ) (offers : List (List ℕ)) → n ≤ length offers → n ≤ 16 → M ≤ 64 → (i : ℕ) → i < n → (all : List (List ℕ)) →
+    all ≡ last_totals M (offers_up_to n offers) n → Small (get_or all (n - 1 - i) missing_totals)
 rest_small M n offers there few small i inside all lines =
     rw (lines, rest_line M n (offers_up_to n offers) (offers_length n offers there) few i inside)
     (totals_small M (drop (i + 1) (offers_up_to n offers)) small)
@@ -76,8 +75,8 @@ module _ (M n : ℕ) (offers : List (List ℕ)) (there : n ≤ length offers) (f
   walk_some =
       step_some M (cell_at (get_or offers i missing_offer)) (drop (i + 1) (offers_up_to n offers)) left _ (omega arith) here refl
 
-  module _ (all : List Totals) (lines : all ≡ last_totals M (offers_up_to n offers) n) (a : ℕ)
-      (best : a ≡ best_share (cell_at (get_or offers i missing_offer)) (total_at (get_or all (n - 1 - i) missing_totals).cells) left)
+  module _ (all : List (List ℕ)) (lines : all ≡ last_totals M (offers_up_to n offers) n) (a : ℕ)
+      (best : a ≡ best_share (cell_at (get_or offers i missing_offer)) (total_at (get_or all (n - 1 - i) missing_totals)) left)
       (shares : List Share) (from : drop i shares ≡ shares_at M (drop i (offers_up_to n offers)) left) where
     best_is : a ≡ best_share (cell_at (get_or offers i missing_offer)) (total_at (totals_of M (drop (i + 1) (offers_up_to n offers)))) left
     best_is = rw (lines, rest_line M n (offers_up_to n offers) (offers_length n offers there) few i inside) at best

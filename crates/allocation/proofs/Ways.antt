@@ -1,5 +1,5 @@
--- The choice in plain words: an enumerated choice is a way and a way is one, task by task, so that the least choice that fits is
--- the best way that fits; and the answer on a task set follows.
+-- The choice in plain words: an enumerated choice is a way and a way is one, task by task, so that the least choice
+-- that fits is the best way that fits; and the answer on a task set follows.
 use Prim.Native.Nat.{ℕ, suc, ◌<◌}
 use mathlib.Core.Path.{◌≡◌, refl, sym}
 use mathlib.Core.Bool.{Bool, true, false, false≢true}
@@ -9,11 +9,12 @@ use native.Mathlib.Omega.{arith}
 use lib.Dec.{leb}
 use lib.ListN.{length, get_or}
 use borrow.Author.Tests.{leb-true, le-leb}
-use Rattle.sheet.specs.declared.answer.Answer.{Answer}
-use Rattle.sheet.specs.declared.answer.Answer.TheVariants.{Accepted, Refused}
 use Rattle.sheet.specs.declared.task.Task.{Task}
 use Rattle.sheet.specs.declared.task.TaskSet.{TaskSet}
-use Rattle.sheet.specs.Answers.{no_task, refused_if, ◌or_else◌, first_over}
+use Rattle.std.specs.Prelude.{Ok, Err}
+use Rattle.sheet.specs.declared.refusal.Refusal.{Refusal}
+use Rattle.sheet.specs.declared.refusal.Refusal.TheVariants.{NoShare, NoFit}
+use Rattle.sheet.specs.Refusal.{Answer, refused_if, ◌or_else◌, first_over}
 use Rattle.sheet.specs.Format.{task_in, missing_task}
 use Rattle.basics.proofs.Logic.{left_true, right_true}
 use Rattle.shares.specs.declared.share.Share.{Share}
@@ -22,7 +23,7 @@ use Rattle.basics.specs.Lists.{is_empty, is_none}
 use Rattle.basics.specs.Order.{no_later}
 use Rattle.allocation.specs.Choice.{options_of, choices, fits, rank, chosen}
 use Rattle.allocation.specs.Way.{MayTake, TakesNothing, FittingWay, BestWay}
-use Rattle.allocation.specs.Allocation.{no_share, no_fit, tasks_of, chosen_for, share_answer, choice_answer}
+use Rattle.allocation.specs.Allocation.{tasks_of, chosen_for, share_answer, choice_answer}
 use Rattle.allocation.specs.Verdict.{CanTake, Verdict, nothing_to_take, nothing_fits, accepted}
 use Rattle.sheet.proofs.Faults.{over_accepted}
 use Rattle.basics.proofs.Members.{empty_none}
@@ -106,13 +107,13 @@ set_best set = chosen_best set.processors (tasks_of set)
 
 -- The answer on a task set in plain words: the first task that may take nothing, or else whether a way fits.
 module _ (set : TaskSet) where
-  share_accepted : (i : ℕ) → share_answer set i ≡ Accepted → CanTake set i
+  share_accepted : (i : ℕ) → share_answer set i ≡ Ok tt → CanTake set i
   unfolding share_answer
   share_accepted i e =
       (no_option_plain set.processors (task_in set i)).something (go (is_empty (options_of set.processors (task_in set i))) e)
     where
-      go : (t : Bool) → refused_if t no_share i ≡ Accepted → t ≡ false
-      go true h = absurd (let z : ◌≡◌ {A = ℕ} 0 1 = cc in omega arith)
+      go : (t : Bool) → refused_if t (NoShare i) ≡ Ok tt → t ≡ false
+      go true h = absurd (cc)
       go false h = refl
 
   pub choice_verdict : Verdict set (choice_answer set)
@@ -120,23 +121,23 @@ module _ (set : TaskSet) where
   choice_verdict = by_share (first_over (share_answer set) 0 set.count) refl
     where
       by_way : ((i : ℕ) → i < set.count → CanTake set i) → (o : Option (List Share)) → chosen_for set ≡ o →
-          Verdict set (refused_if (is_none o) no_fit no_task)
+          Verdict set (refused_if (is_none o) NoFit)
       by_way can none e = nothing_fits can ((set_best set).none_fits e)
       by_way can (some best) e = accepted can best ((set_best set).fits best e)
 
-      named : (i number task : ℕ) → number ≡ no_share → task ≡ i → Verdict set (Refused no_share i) → Verdict set (Refused number task)
-      named i number task same same' v = rw (same, same') v
+      named : (i : ℕ) {r : Refusal} → r ≡ NoShare i → Verdict set (Err (NoShare i)) → Verdict set (Err r)
+      named i same v = rw same v
 
       by_share : (a : Answer) → first_over (share_answer set) 0 set.count ≡ a →
-          Verdict set (a or_else refused_if (is_none (chosen_for set)) no_fit no_task)
-      by_share Accepted e =
+          Verdict set (a or_else refused_if (is_none (chosen_for set)) NoFit)
+      by_share (Ok u) e =
           by_way (λ i inside. share_accepted i (over_accepted (share_answer set) 0 set.count i e (omega arith) (omega arith)))
           (chosen_for set) refl
-      by_share (Refused number task) e =
-          let found = over_first (share_answer set) 0 set.count number task e in
+      by_share (Err r) e =
+          let found = over_first (share_answer set) 0 set.count r e in
           let inside = found.1.0 in
-          let none_left = share_refused set found.0 number task found.1.1 in
-          named found.0 number task none_left.1 none_left.2
+          let none_left = share_refused set found.0 r found.1.1 in
+          named found.0 none_left.1
           (nothing_to_take (omega arith)
           (λ can. (no_option_plain set.processors (task_in set found.0)).nothing none_left.0 can.0 can.1)
           (λ j before. share_accepted j (found.1.2 j (omega arith) before)))

@@ -1,5 +1,5 @@
--- S2.14: the planner fixes the same for a sheet and for its wide form: a task keeps its level's meaning and its figures, so that it has
--- the same options, V and remainder, and from these all else is made.
+-- S2.14: the planner fixes the same for a sheet and for its wide form: a task keeps its level's meaning and its
+-- figures, so that it has the same options, V and remainder, and from these all else is made.
 use Prim.Native.Nat.{ℕ, zero, suc, ◌<◌}
 use mathlib.Core.Bool.{not}
 use mathlib.Core.List.{List, [], ◌∷◌, map}
@@ -7,29 +7,29 @@ use mathlib.Core.Path.{◌≡◌, refl, sym, ap, ap₂, ◌∙◌}
 use native.Mathlib.Omega.{arith}
 use lib.ListN.{length, get_or, length-map, get_or-map}
 use lib.Seq.{ext_get_or, get_or-take, length-take-le}
-use Rattle.sheet.specs.declared.answer.Answer.{Answer}
-use Rattle.sheet.specs.declared.answer.Answer.TheVariants.{Accepted}
 use Rattle.sheet.specs.declared.task.Task.{Task}
 use Rattle.sheet.specs.declared.task.TaskSet.{TaskSet}
-use Rattle.sheet.specs.Answers.{◌or_else◌}
-use Rattle.sheet.specs.Format.{task_in, missing_task, zero_task}
+use Rattle.sheet.specs.Refusal.{◌or_else◌}
+use Rattle.sheet.specs.Format.{task_set_of, task_in, missing_task, zero_task}
 use Rattle.sheet.specs.Level.{is_low}
 use Rattle.sheet.specs.Wide.{wide_level, wide_task, wide_set, WideLevels}
 use Rattle.sheet.proofs.Wide.{wide_levels}
 use Rattle.sheet.proofs.Faults.{over_same}
 use Rattle.basics.proofs.Cells.{cells-length, cells_same}
 use Rattle.basics.proofs.Lists.{keep_ext_below}
-use Rattle.reader.specs.Reading.{read_of}
+use Rattle.reader.specs.Reading.{read_of, read_answer}
 use Rattle.keeping.specs.Kept.{low_numbers, kept_tasks}
 use Rattle.shares.specs.declared.share.Share.{Share}
 use Rattle.shares.specs.Deadline.{virtual_deadline_of, remainder_of}
 use Rattle.allocation.specs.Choice.{options_of, fitting, chosen}
-use Rattle.allocation.specs.Allocation.{tasks_of, chosen_for, share_answer, choice_answer, shares_chosen, shares_with, shares_of, allocation_of, no_allocation, allocations_of, allocation_answer, allocated_with, allocated_of}
+use Rattle.allocation.specs.Allocation.{tasks_of, chosen_for, share_answer, choice_answer, shares_chosen, shares_with, shares_of, allocation_of, no_allocation, allocations_of, allocation_answer, allocations_for, allocated_of}
 use Rattle.allocation.specs.Lawful.{LawfulSet}
 use Rattle.allocation.specs.Wide.{wide_form, WideRead, WideAllocated}
-use Rattle.allocation.proofs.Accepted.{accepted_lawful}
+use Rattle.allocation.proofs.Accepted.{sheet_lawful}
 use Rattle.allocation.proofs.Directory.{tasks_length}
 use Rattle.allocation.proofs.Sheets.{wide_at, wide_task_lem, wide_read}
+use Rattle.std.specs.Prelude.{Ok}
+use Rattle.reader.proofs.Readings.{read_ok, read_accepted}
 
 -- The wide form of a level is low where the level is.
 low_wide : (level : ℕ) → is_low (wide_level level) ≡ is_low level
@@ -128,16 +128,33 @@ module _ (set : TaskSet) (lawful : LawfulSet set) where
       cells_same (allocation_of (wide_set set) shares) (allocation_of set shares) no_allocation 0 16 set.count (allocation_wide shares)
 
 -- What is fixed for a sheet, by its reading.
-allocated_by : (s : List ℕ) (a : Answer) (set : TaskSet) → read_of s ≡ record { answer = a; set = set } →
-    allocated_of s ≡ allocated_with (a or_else choice_answer set) set.count (allocations_of set (shares_of set))
-unfolding allocated_of allocation_answer
-allocated_by s a set e = rw e
+allocated_by : (s : List ℕ) (set : TaskSet) → read_of s ≡ Ok set →
+    allocated_of s ≡ (choice_answer set or_else Ok (record { count = set.count; allocations = allocations_of set (shares_of set) }))
+unfolding allocated_of allocation_answer allocations_for
+allocated_by s set e = let told = read_ok s e in rw (told.0, told.1)
 
 pub wide_allocated : WideAllocated
 unfolding WideAllocated WideRead wide_set
 wide_allocated s accepted =
-    let set = (read_of s).set in
-    let lawful = accepted_lawful s accepted in
-    allocated_by (wide_form s) Accepted (wide_set set) (wide_read s accepted)
+    let set = task_set_of s in
+    let lawful = sheet_lawful s accepted in
+    allocated_by (wide_form s) (wide_set set) (wide_read s accepted)
     ∙ rw (choice_answer_wide set lawful, shares_wide set lawful, allocations_wide set lawful (shares_of set))
-    (sym (allocated_by s Accepted set (ap (λ (a : Answer). record { answer = a; set = set }) accepted)))
+    (sym (allocated_by s set (read_accepted s accepted)))
+
+-- The number of tasks and what is fixed for them.
+module _ (s : List ℕ) (accepted : read_answer s ≡ Ok tt) where
+  wide_told : wide_set (task_set_of s) ≡ task_set_of (wide_form s)
+  unfolding WideRead
+  wide_told = (read_ok (wide_form s) (wide_read s accepted)).1
+
+  pub wide_count : (task_set_of (wide_form s)).count ≡ (task_set_of s).count
+  unfolding wide_set
+  wide_count = ap (λ (t : TaskSet). t.count) (sym wide_told)
+
+  pub wide_line : allocations_for (wide_form s) ≡ allocations_for s
+  unfolding allocations_for
+  wide_line =
+      let set = task_set_of s in
+      let lawful = sheet_lawful s accepted in
+      rw (← wide_told, shares_wide set lawful, allocations_wide set lawful (shares_of set))

@@ -8,11 +8,10 @@ use mathlib.Core.Option.{none, some}
 use native.Mathlib.Omega.{arith}
 use lib.Dec.{lit≤}
 use lib.ListN.{length, get_or}
-use Rattle.sheet.specs.declared.answer.Answer.TheVariants.{Refused}
 use Rattle.sheet.specs.declared.task.Figures.{Figures}
 use Rattle.sheet.specs.declared.task.Task.{Task}
 use Rattle.sheet.specs.declared.task.TaskSet.{TaskSet}
-use Rattle.sheet.specs.Answers.{first_over}
+use Rattle.sheet.specs.Refusal.{first_over}
 use Rattle.sheet.specs.Format.{task_in, missing_task}
 use Rattle.shares.specs.declared.share.Share.{Share}
 use Rattle.shares.specs.Cases.{figures, task_a, task_b, low_task}
@@ -32,6 +31,8 @@ use Rattle.keeping.specs.KeptSet.{HeldSet}
 use Rattle.allocation.specs.Held.{options_up_to, critical_shares, critical_totals, uncapped_share, uncapped_total, share_held, total_held}
 use Rattle.allocation.specs.means.Selection.{cell_at, least_from, sum_at, best_share, total_with, least_total, totals_of, offers_of, offers_up_to, last_totals, totals_for}
 use Rattle.allocation.specs.Allocation.{chosen_for, share_answer, choice_answer, shares_with, shares_of, allocation_of}
+use Rattle.std.specs.Prelude.{Err}
+use Rattle.sheet.specs.declared.refusal.Refusal.TheVariants.{NoShare, NoFit}
 
 -- A typical and a critical share.
 abbrev pub pair : ℕ → ℕ → Share
@@ -77,15 +78,15 @@ pub record Worked : Type 0 where
   -- The low task leaves 3 of 5 processors, so that one of two steep tasks takes 1 and the other 2: the first takes 1.
   pub smaller_first : chosen_for (on 5 (high steep ∷ high steep ∷ low (low_task 30) ∷ [])) ≡ some (pair 1 3 ∷ pair 2 2 ∷ pair 2 0 ∷ [])
   -- Refusal 7: on 1 processor the low task's share is too large; what comes after it is not asked.
-  pub nothing_to_take : choice_answer (on 1 (low (low_task 30) ∷ high task_a ∷ [])) ≡ Refused 7 0
+  pub nothing_to_take : choice_answer (on 1 (low (low_task 30) ∷ high task_a ∷ [])) ≡ Err (NoShare 0)
   -- Refusal 8: on 3 processors A twice needs 4 in critical mode.
-  pub nothing_fits : choice_answer (on 3 (high task_a ∷ high task_a ∷ [])) ≡ Refused 8 255
+  pub nothing_fits : choice_answer (on 3 (high task_a ∷ high task_a ∷ [])) ≡ Err NoFit
   pub nothing : chosen_for (on 3 (high task_a ∷ high task_a ∷ [])) ≡ none
   -- S11.11: A and B on 5 and on 3 processors.
-  pub on_five : choice_answer (on 5 ab) ≡ Refused 8 255
-  pub on_three : choice_answer (on 3 ab) ≡ Refused 7 1
+  pub on_five : choice_answer (on 5 ab) ≡ Err NoFit
+  pub on_three : choice_answer (on 3 ab) ≡ Err (NoShare 1)
   -- S11.12: A, B and E on 7 processors.
-  pub with_low : choice_answer (on 7 abe) ≡ Refused 8 255
+  pub with_low : choice_answer (on 7 abe) ≡ Err NoFit
 
 pub record WorkedKept : Type 0 where
   -- S5.6: A and two low tasks of 2 on 6 processors: A's pair stays as it is chosen, and both are kept.

@@ -1,31 +1,22 @@
 -- What is chosen for a task set, refusals 7 and 8, and what is fixed for each task of a sheet.
-use Rattle.std.specs.Prelude.{ℕ, true, false, List, [], length, get_or, take, replicate}
+use Rattle.std.specs.Prelude.{ℕ, true, false, List, [], length, get_or, take, Result, Ok}
 use Rattle.std.proofs.Math.Option.{Option, none, some}
-use Rattle.sheet.specs.declared.answer.Answer.{Answer}
-use Rattle.sheet.specs.declared.answer.Answer.TheVariants.{Accepted, Refused}
 use Rattle.sheet.specs.declared.task.Task.{Task}
 use Rattle.sheet.specs.declared.task.TaskSet.{TaskSet}
-use Rattle.sheet.specs.Answers.{no_task, refused_if, ◌or_else◌, first_over}
+use Rattle.sheet.specs.declared.refusal.Refusal.{Refusal}
+use Rattle.sheet.specs.declared.refusal.Refusal.TheVariants.{NoShare, NoFit}
+use Rattle.sheet.specs.Refusal.{Answer, refused_if, ◌or_else◌, first_over}
 use Rattle.basics.specs.Lists.{cells, is_empty, is_none}
-use Rattle.sheet.specs.Format.{task_in}
-use Rattle.reader.specs.Reading.{read_of}
+use Rattle.sheet.specs.Format.{task_in, task_set_of}
+use Rattle.reader.specs.Reading.{read_answer}
 use Rattle.shares.specs.declared.share.Share.{Share}
 use Rattle.shares.specs.Deadline.{virtual_deadline_of, remainder_of}
 use Rattle.shares.specs.Totals.{no_processors, share_at}
 use Rattle.allocation.specs.declared.allocate.Allocation.{Allocation}
 use Rattle.allocation.specs.declared.allocate.Allocated.{Allocated}
-use Rattle.allocation.specs.declared.choice.Chosen.{Chosen}
 use Rattle.allocation.specs.Choice.{options_of, chosen}
 use Rattle.keeping.specs.Kept.{kept_tasks, with_kept}
 use Rattle.allocation.specs.Blocks.{offset_in}
-
--- S9.7: a task may take nothing.
-abbrev pub no_share : ℕ
-no_share = 7
-
--- S9.8: no choice fits.
-abbrev pub no_fit : ℕ
-no_fit = 8
 
 -- The tasks of a task set.
 abbrev pub tasks_of : TaskSet → List Task
@@ -37,13 +28,13 @@ chosen_for set = chosen set.processors (tasks_of set)
 
 -- S9.7: refusal 7, of task i.
 unfoldable pub share_answer : TaskSet → ℕ → Answer
-share_answer set i = refused_if (is_empty (options_of set.processors (task_in set i))) no_share i
+share_answer set i = refused_if (is_empty (options_of set.processors (task_in set i))) (NoShare i)
 
 -- S3.3: refusal 7 over the tasks in order, and then refusal 8.
 unfoldable pub choice_answer : TaskSet → Answer
 choice_answer set =
     first_over (share_answer set) 0 set.count
-    or_else refused_if (is_none (chosen_for set)) no_fit no_task
+    or_else refused_if (is_none (chosen_for set)) NoFit
 
 -- The shares of a choice; none have no shares.
 abbrev pub shares_chosen : Option (List Share) → List Share
@@ -62,12 +53,13 @@ shares_with set choice = with_kept (kept_tasks set.processors (tasks_of set) cho
 unfoldable pub shares_of : TaskSet → List Share
 shares_of set = shares_with set (shares_chosen (chosen_for set))
 
--- The answer on a task set with the shares that its tasks get; zeros where nothing is chosen.
-unfoldable pub choice_of : TaskSet → Chosen
-choice_of set = record { answer = choice_answer set; shares = sixteen (shares_of set) }
+-- S5.3, S5.6 and S3.3: what a task set is answered: refusal 7 or 8, or the shares that its tasks get, as a line of
+-- sixteen.
+unfoldable pub choice_of : TaskSet → Result (List Share) Refusal
+choice_of set = choice_answer set or_else Ok (sixteen (shares_of set))
 
--- What is fixed for task i of a set whose tasks have these shares: its share, where its block begins in each mode (S5.4), V (S4.5) and
--- the remainder (S4.6).
+-- What is fixed for task i of a set whose tasks have these shares: its share, where its block begins in each mode
+-- (S5.4), V (S4.5) and the remainder (S4.6).
 unfoldable pub allocation_of : TaskSet → List Share → ℕ → Allocation
 allocation_of set shares i =
     record {
@@ -92,16 +84,14 @@ allocation_at allocations i = get_or allocations i no_allocation
 
 -- S3.3: the answer on a sheet: the reader's refusal, if there is one, and else that of the choice, 7 or 8.
 unfoldable pub allocation_answer : List ℕ → Answer
-allocation_answer sheet = (read_of sheet).answer or_else choice_answer (read_of sheet).set
+allocation_answer sheet = read_answer sheet or_else choice_answer (task_set_of sheet)
 
--- An answer with what goes with it: the number of tasks and what is fixed for them if accepted, zeros if refused.
-abbrev pub allocated_with : Answer → ℕ → List Allocation → Allocated
-allocated_with Accepted count allocations = record { answer = Accepted; count = count; allocations = allocations }
-allocated_with (Refused number task) count allocations =
-    record { answer = Refused number task; count = 0; allocations = replicate 16 no_allocation }
+-- S5.3, S5.6, S5.4, S4.5, S4.6: what is fixed for the tasks that a sheet says, with the shares that they get.
+unfoldable pub allocations_for : List ℕ → List Allocation
+allocations_for sheet = allocations_of (task_set_of sheet) (shares_of (task_set_of sheet))
 
--- S5.3, S5.6, S5.4, S4.5, S4.6: what is fixed for the tasks of a sheet, with the shares that they get.
-unfoldable pub allocated_of : List ℕ → Allocated
+-- S3.3: what a sheet is answered: the first refusal of 1 to 8, or the number of its tasks and what is fixed for them.
+unfoldable pub allocated_of : List ℕ → Result Allocated Refusal
 allocated_of sheet =
-    allocated_with (allocation_answer sheet) (read_of sheet).set.count
-    (allocations_of (read_of sheet).set (shares_of (read_of sheet).set))
+    allocation_answer sheet
+    or_else Ok (record { count = (task_set_of sheet).count; allocations = allocations_for sheet })

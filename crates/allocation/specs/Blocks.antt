@@ -11,8 +11,8 @@ offset_in mode shares i = share_total mode (take i shares)
 unfoldable pub length_in : Bool → List Share → ℕ → ℕ
 length_in mode shares i = share_in mode (get_or shares i no_processors)
 
--- S5.4 in plain words, in each mode: the first block begins at processor 0, each other one where the one before it ends; so no
--- two have a processor in common, and all end within M.
+-- S5.4 in plain words, in each mode: the first block begins at processor 0, each other one where the one before it
+-- ends; so no two have a processor in common, and all end within M.
 pub record BlocksInOrder (M : ℕ) (shares : List Share) : Type 0 where
   pub first : (mode : Bool) → offset_in mode shares 0 ≡ 0
   pub behind : (mode : Bool) (i : ℕ) → i < length shares →

@@ -1,5 +1,5 @@
--- S5.7: the shares and totals that the planner holds in bytes, beside the true ones. In these a high task may take any pair up to N that
--- passes, however large N is.
+-- S5.7: the shares and totals that the planner holds in bytes, beside the true ones. In these a high task may take any
+-- pair up to N that passes, however large N is.
 use Rattle.std.specs.Prelude.{ℕ, ◌+◌, ◌-◌, ◌≤◌, ◌<◌, ◌≡◌, cond, List, [], map, eqb, get_or, drop}
 use Rattle.std.proofs.Math.Option.{Option}
 use Rattle.basics.specs.Lists.{keep}
@@ -10,7 +10,6 @@ use Rattle.sheet.specs.Format.{task_in}
 use Rattle.sheet.specs.Level.{is_low}
 use Rattle.shares.specs.declared.share.Share.{Share}
 use Rattle.shares.specs.Totals.{typical_total, critical_total}
-use Rattle.allocation.specs.declared.selection.Totals.{Totals}
 use Rattle.allocation.specs.Choice.{low_options, high_options, choices}
 use Rattle.allocation.specs.Allocation.{tasks_of}
 
@@ -39,11 +38,11 @@ unfoldable pub share_held : List (List ℕ) → ℕ → ℕ → ℕ
 share_held offers i a = get_or (get_or offers i []) (a - 1) 0
 
 -- What the totals of the last tasks, for each number k of them, say of the last k at the typical total t.
-unfoldable pub total_held : List Totals → ℕ → ℕ → ℕ
-total_held totals k t = get_or (get_or totals k (record { cells = [] })).cells t 0
+unfoldable pub total_held : List (List ℕ) → ℕ → ℕ → ℕ
+total_held totals k t = get_or (get_or totals k []) t 0
 
 -- S5.7: each number of the offers and each total of the tasks from i on is the smaller of the true one and M + 1.
-pub record HeldInBytes (set : TaskSet) (offers : List (List ℕ)) (totals : List Totals) : Type 0 where
+pub record HeldInBytes (set : TaskSet) (offers : List (List ℕ)) (totals : List (List ℕ)) : Type 0 where
   pub share : (N i a : ℕ) → set.processors ≤ N → i < set.count → 1 ≤ a → a ≤ 64 →
       share_held offers i a ≡ capped_at (set.processors + 1) (uncapped_share set.processors N (task_in set i) a)
   pub total : (N i t : ℕ) → set.processors ≤ N → i ≤ set.count → t ≤ 64 →

@@ -36,8 +36,8 @@ pub record KeptPair (M : ℕ) (f : Figures) (s : Share) : Type 0 where
   pub typical : s.typical ≡ low_share f
   pub critical : 0 < s.critical → s.critical ≡ s.typical
 
--- S4, S5.2 and S5.6: there is a share for each task, in each mode they total at most M, a high task's pair passes and a low task
--- has its share; each task has a processor in typical mode, and V is at most D.
+-- S4, S5.2 and S5.6: there is a share for each task, in each mode they total at most M, a high task's pair passes and a
+-- low task has its share; each task has a processor in typical mode, and V is at most D.
 pub record LawfulShares (set : TaskSet) (shares : List Share) : Type 0 where
   pub each : length shares ≡ set.count
   pub fits : (mode : Bool) → share_total mode shares ≤ set.processors

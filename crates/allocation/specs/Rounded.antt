@@ -5,8 +5,8 @@ use Rattle.sheet.specs.Level.{is_low}
 use Rattle.shares.specs.Deadline.{Exact}
 use Rattle.allocation.specs.declared.allocate.Allocation.{Allocation}
 
--- A high task's V is LN and a quotient: with its typical share and its remainder the quotient gives CN − LN again. A low task has
--- the V 0 and the remainder 0.
+-- A high task's V is LN and a quotient: with its typical share and its remainder the quotient gives CN − LN again. A
+-- low task has the V 0 and the remainder 0.
 pub record Rounded (t : Task) (x : Allocation) : Type 0 where
   pub from_span : is_low t.level ≡ false → t.figures.nominal.span ≤ x.virtual_deadline
   pub exact : is_low t.level ≡ false →

@@ -1,4 +1,5 @@
--- S5.6 and S7.4 of the shares that the tasks of a set get: what stays as it was chosen, and which tasks the shares mark as kept.
+-- S5.6 and S7.4 of the shares that the tasks of a set get: what stays as it was chosen, and which tasks the shares mark
+-- as kept.
 use Rattle.std.specs.Prelude.{ℕ, ◌<◌, ◌≡◌, List}
 use Rattle.sheet.specs.declared.task.TaskSet.{TaskSet}
 use Rattle.sheet.specs.Format.{task_in}

@@ -46,8 +46,8 @@ pub record FittingWay (M : ℕ) (tasks : List Task) (shares : List Share) : Type
   pub typical : typical_total shares ≤ M
   pub critical : critical_total shares ≤ M
 
--- S5.3: the best of all ways that fit, or none. What is chosen fits; it comes no later than any way that fits, and any other
--- comes later than it; and none is chosen just where no way fits.
+-- S5.3: the best of all ways that fit, or none. What is chosen fits; it comes no later than any way that fits, and any
+-- other comes later than it; and none is chosen just where no way fits.
 pub record BestWay (M : ℕ) (tasks : List Task) (choice : Option (List Share)) : Type 0 where
   pub fits : (best : List Share) → choice ≡ some best → FittingWay M tasks best
   pub first : (way : List Share) → FittingWay M tasks way →

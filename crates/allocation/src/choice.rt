@@ -1,57 +1,31 @@
-// The choice of shares for a task set.
-ghost use Rattle.std.specs.Prelude.{◌≡◌};
-ghost use Rattle.sheet.specs.Answers.{number_of, task_of, Says};
+//! The choice of shares for a task set.
+ghost use Rattle.std.specs.Prelude.{◌≡◌, MatchResult, Ok, Err};
+ghost use Rattle.sheet.specs.Refusal.{number_of, task_of, Says};
 ghost use Rattle.allocation.specs.Lawful.{LawfulSet};
 ghost use Rattle.allocation.specs.Allocation.{choice_of};
+ghost use Rattle.allocation.specs.Verdict.{Verdict};
 
-use crate::offers::{offers_none, put_offers};
+use crate::offers::{first_without_share, offers_of};
 use crate::selection::select;
 use keeping::with_kept;
 use shares::share::Share;
-use sheet::answer::Answer;
+use sheet::refusal::Refusal;
 use sheet::task::TaskSet;
 
-const NO_SHARE: u8 = 7;
-
-// The answer on a task set, and the shares of its tasks; zeros where nothing is chosen and after the last task.
-#[derive(Clone, Copy)]
-pub struct Chosen {
-    pub answer: Answer,
-    pub shares: [Share; 16],
-}
-
-// S5.3 and S5.6: refusal 7 over the tasks in order, then refusal 8, and the shares that the tasks get.
-pub fn choose(set: TaskSet) -> Chosen
-    requires { LawfulSet set }
-    ensures whole { result ≡ choice_of set }
-    ensures says { Says result.answer (number_of (choice_of set).answer) (task_of (choice_of set).answer) }
+/// S5.3 and S5.6: refusal 7 over the tasks in order, then refusal 8, and the shares that the tasks get; zeros after the
+/// last task.
+/// Sixteen shares, since there is no heap: the set says how many of them count.
+pub fn choose(set: &TaskSet) -> Result<[Share; 16], Refusal>
+    requires { LawfulSet set.now }
+    ensures whole { result ≡ choice_of set.now }
+    // S9.7 and S9.8 in plain words: what the answer says of the tasks and of the ways that fit.
+    ensures verdict { MatchResult result (λ _. Verdict set.now (Ok tt)) (λ r. Verdict set.now (Err r)) }
+    ensures says { Says result (number_of (choice_of set.now)) (task_of (choice_of set.now)) }
 {
-    let n = set.count;
-    let m = set.processors;
-    let mut offers = [[0u8; 64]; 16];
-    put_offers(set, &mut offers);
-    let mut i: u8 = 0;
-    while i < n {
-        let cells = offers[i as usize];
-        if offers_none(cells, m) {
-            return Chosen {
-                answer: Answer::Refused(NO_SHARE, i),
-                shares: [Share {
-                    typical: 0,
-                    critical: 0,
-                }; 16],
-            };
-        }
-        i += 1;
+    let offers = offers_of(set);
+    if let Some(i) = first_without_share(&offers) {
+        return Err(Refusal::NoShare(i));
     }
-    let chosen = select(&offers, n, m);
-    let answer = chosen.answer;
-    if let Answer::Refused(_, _) = answer {
-        return chosen;
-    }
-    let shares = chosen.shares;
-    Chosen {
-        answer: Answer::Accepted,
-        shares: with_kept(shares, n, m),
-    }
+    let shares = select(&offers)?;
+    Ok(with_kept(shares, set.count, set.processors))
 }

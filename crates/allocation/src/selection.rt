@@ -1,112 +1,102 @@
-// S5.3 and S5.7: the selection. Totals over the tasks, from the last task on, and then a walk forward over the best shares. Shares, totals
-// and their sums are bytes: two numbers of at most m + 1 come to at most 130.
-ghost use Rattle.std.specs.Prelude.{◌≡◌, [], ◌+◌, ◌≤◌, min, length};
+//! S5.3 and S5.7: the selection. Totals over the tasks, from the last task on, and then a walk forward over the best
+//! shares. Shares, totals and their sums are bytes: two numbers of at most m + 1 come to at most 130. In a row of
+//! totals m + 1 stands for none and for any total above m (S5.7), so that a minimum needs no test. Where a byte makes
+//! an index or a count, `usize::from` stands if the proof closes with it alone; else `as usize`: what `usize::from`
+//! gives is a number of its own, which four proofs here would have to rewrite, and it reads no plainer.
+ghost use Rattle.std.specs.Prelude.{◌≡◌, [], ◌+◌, ◌≤◌, ◌<◌, length, get_or, replicate};
 ghost use Rattle.shares.specs.Offer.{tabulate};
-ghost use Rattle.allocation.specs.means.Selection.{cell_at, least_from, best_share, total_with, totals_of, offers_up_to, last_totals, selection_of, total_at, padded, lowered, Small, OfferWithin, OffersWithin};
+ghost use Rattle.allocation.specs.means.Selection.{cell_at, least_from, best_share, total_with, totals_of, offers_up_to, last_totals, selection_of, total_at, padded, lowered, Small, missing_offer};
 
-use crate::choice::Chosen;
+use crate::offers::Offers;
 use shares::share::Share;
-use sheet::answer::{Answer, NO_TASK};
+use sheet::refusal::Refusal;
 
-const NO_FIT: u8 = 8;
+/// S5.7: the least critical total at each typical total 0 to 64.
+/// A plain row: a struct that holds it with `Small` would be opened at each index, so that `Small` is a clause.
+type Totals = [u8; 65];
 
-// The least critical total at each typical total 0 to 64. m + 1 stands for none, and for any total above m.
-#[derive(Clone, Copy)]
-pub struct Totals {
-    pub cells: [u8; 65],
-}
-
-fn smaller(x: u8, y: u8) -> u8
-    ensures { result ≡ min x y }
+/// The totals from cell 63 on, and m + 1 in the cells before them, so that a share larger than the typical total leaves
+/// none.
+#[tactic(auto, using(crate::proofs::Lowering::padded_is))]
+fn padded(offers: &Offers, totals: &Totals) -> [u8; 128]
+    ensures { result ≡ padded offers.now.processors totals.now }
 {
-    if x < y { x } else { y }
-}
-
-// The totals from cell 63 on, and m + 1 in the cells before them, so that a share larger than the typical total leaves none.
-fn padded(totals: &[u8; 65], m: u8) -> [u8; 128]
-    requires { m ≤ 64 }
-    ensures { result ≡ padded m totals.now }
-{
+    let m = offers.processors;
     let mut cells = [m + 1; 128];
-    let mut t: usize = 0;
-    while t < 65 {
-        cells[63 + t] = totals[t];
-        t += 1;
-    }
+    cells[63..].copy_from_slice(totals);
     cells
 }
 
-// Lowers the totals at typical totals 1 to 64 to what they come to where a task takes `a` typical processors, with this critical share, and
-// the tasks after it, which have these padded totals, the rest. The 64 sums are four vectors of 16 bytes.
-fn lower(totals: &mut [u8; 65], a: u8, critical: u8, rest: &[u8; 128])
-    requires { (1 ≤ a) × (a ≤ 64) × (critical ≤ 65) × Small rest.now × (length totals.old ≡ 65) }
+/// Lowers the totals at typical totals 1 to 64 to what they come to where a task takes `a` typical processors, with
+/// this critical share, and the tasks after it, which have these padded totals, the rest. The 64 sums are four vectors
+/// of 16 bytes.
+fn lower(totals: &mut Totals, a: u8, critical: u8, rest: &[u8; 128])
+    requires some { 1 ≤ a }
+    requires few { a ≤ 64 }
+    requires critical_small { critical ≤ 65 }
+    requires rest_small { Small rest.now }
+    requires all_there { length totals.old ≡ 65 }
     ensures { totals.new ≡ lowered a critical (total_at rest.now) totals.old }
 {
-    let share = a as usize;
-    let mut t: usize = 1;
-    while t < 65 {
-        totals[t] = smaller(totals[t], critical + rest[63 + t - share]);
-        t += 1;
+    let share = usize::from(a);
+    // By index: of the values behind `iter_mut` and an adapter nothing is known.
+    for t in 1..65 {
+        totals[t] = totals[t].min(critical + rest[63 + t - share]);
     }
 }
 
-// The totals of a task and of the tasks after it, which have the totals rest.
-fn totals_with(offer: [u8; 64], rest: [u8; 65], m: u8) -> [u8; 65]
-    requires { (m ≤ 64) × OfferWithin m offer × Small rest }
-    ensures { result ≡ tabulate (total_with m (cell_at offer) (total_at rest)) 0 65 }
+/// The totals of task i, of its offer by value, and of the tasks after it, which have the totals rest.
+fn totals_with(offers: &Offers, i: usize, rest: &Totals) -> Totals
+    requires known { i < offers.now.count }
+    requires small { Small rest.now }
+    ensures { result ≡ tabulate (total_with offers.now.processors
+        (cell_at (get_or offers.now.cells i missing_offer)) (total_at rest.now)) 0 65 }
 {
-    let after = padded(&rest, m);
+    let m = offers.processors;
+    let offer = offers.cells[i];
+    let after = padded(offers, rest);
     let mut least = [m + 1; 65];
-    let mut a: u8 = 1;
-    while a <= m {
+    for a in 1..=m {
         lower(&mut least, a, offer[a as usize - 1], &after);
-        a += 1;
     }
     least
 }
 
-// The totals of no task.
-fn no_totals(m: u8) -> [u8; 65]
-    requires { m ≤ 64 }
-    ensures { result ≡ totals_of m [] }
+/// The totals of no task.
+#[tactic(auto, using(crate::proofs::Lines::totals_none))]
+fn no_totals(offers: &Offers) -> Totals
+    ensures { result ≡ totals_of offers.now.processors [] }
 {
-    let mut totals = [m + 1; 65];
+    let mut totals = [offers.processors + 1; 65];
     totals[0] = 0;
     totals
 }
 
-// The totals of the last k of n tasks, for each k.
-fn last_totals(offers: &[[u8; 64]; 16], n: u8, m: u8) -> [Totals; 17]
-    requires { (n ≤ 16) × (m ≤ 64) × (n ≤ length offers.now) × OffersWithin m n offers.now }
-    ensures { result ≡ last_totals m (offers_up_to n offers.now) n }
+/// S5.7: the totals of the last k of n tasks, for each k, in the place of those of no task. They are lent, since a
+/// function that gives 17 rows back clears and copies them.
+fn last_totals(offers: &Offers, all: &mut [Totals; 17])
+    requires { all.old ≡ replicate 17 (totals_of offers.now.processors []) }
+    ensures { all.new ≡ last_totals offers.now.processors
+        (offers_up_to offers.now.count offers.now.cells) offers.now.count }
 {
-    let count = n as usize;
-    let mut all = [Totals {
-        cells: no_totals(m),
-    }; 17];
-    let mut k: usize = 0;
-    while k < count {
-        let offer = offers[count - 1 - k];
-        let rest = all[k];
-        let rest_cells = rest.cells;
-        all[k + 1] = Totals {
-            cells: totals_with(offer, rest_cells, m),
-        };
-        k += 1;
+    let count = offers.count as usize;
+    for k in 0..count {
+        all[k + 1] = totals_with(offers, count - 1 - k, &all[k]);
     }
-    all
 }
 
-// The first share of a task from 1 to t at which its critical share and the rest's total come to the least.
-fn best_share(offer: &[u8; 64], rest: &[u8; 65], t: u8) -> u8
-    requires { (1 ≤ t) × (t ≤ 64) × Small offer.now × Small rest.now }
+/// S5.3: the first share of a task from 1 to t at which its critical share and the rest's total come to the least.
+#[tactic(auto, using(crate::proofs::Lines::sum_fits))]
+fn best_share(offer: &[u8; 64], rest: &Totals, t: u8) -> u8
+    requires some { 1 ≤ t }
+    requires few { t ≤ 64 }
+    requires offer_small { Small offer.now }
+    requires rest_small { Small rest.now }
     ensures { result ≡ best_share (cell_at offer.now) (total_at rest.now) t }
 {
     let mut best: u8 = 1;
     let mut least = offer[0] + rest[t as usize - 1];
-    let mut a: u8 = 1;
-    while a < t {
-        a += 1;
+    for a in 2..=t {
         let next = offer[a as usize - 1] + rest[(t - a) as usize];
         if next < least {
             best = a;
@@ -116,15 +106,13 @@ fn best_share(offer: &[u8; 64], rest: &[u8; 65], t: u8) -> u8
     best
 }
 
-// The first typical total within m at which the critical total is least.
-fn first_least(totals: [u8; 65], m: u8) -> u8
-    requires { m ≤ 64 }
-    ensures { result ≡ least_from (total_at totals) 0 m }
+/// S5.3: the first typical total within m at which the critical total is least. By hand, as `best_share`: what
+/// `min_by_key` says plainly is that no total is less, and that it is the first only by the steps of its loop.
+fn first_least(offers: &Offers, totals: &Totals) -> u8
+    ensures { result ≡ least_from (total_at totals.now) 0 offers.now.processors }
 {
     let mut best: u8 = 0;
-    let mut t: u8 = 0;
-    while t < m {
-        t += 1;
+    for t in 1..=offers.processors {
         if totals[t as usize] < totals[best as usize] {
             best = t;
         }
@@ -132,41 +120,25 @@ fn first_least(totals: [u8; 65], m: u8) -> u8
     best
 }
 
-// Refusal 8 and the shares of n tasks with these offers.
-pub fn select(offers: &[[u8; 64]; 16], n: u8, m: u8) -> Chosen
-    requires { (n ≤ 16) × (m ≤ 64) × (n ≤ length offers.now) × OffersWithin m n offers.now }
-    ensures { result ≡ selection_of m (offers_up_to n offers.now) }
+/// Refusal 8 and the shares of the tasks with these offers.
+pub fn select(offers: &Offers) -> Result<[Share; 16], Refusal>
+    ensures { result ≡ selection_of offers.now.processors (offers_up_to offers.now.count offers.now.cells) }
 {
-    let count = n as usize;
-    let all = last_totals(offers, n, m);
-    let whole = all[count];
-    let totals = whole.cells;
-    let mut left = first_least(totals, m);
-    let mut shares = [Share {
-        typical: 0,
-        critical: 0,
-    }; 16];
-    if m < totals[left as usize] {
-        return Chosen {
-            answer: Answer::Refused(NO_FIT, NO_TASK),
-            shares,
-        };
+    let count = offers.count as usize;
+    let mut all = [no_totals(offers); 17];
+    last_totals(offers, &mut all);
+    let mut left = first_least(offers, &all[count]);
+    if offers.processors < all[count][left as usize] {
+        return Err(Refusal::NoFit);
     }
-    let mut i: usize = 0;
-    while i < count {
-        let offer = offers[i];
-        let rest = all[count - 1 - i];
-        let rest_cells = rest.cells;
-        let a = best_share(&offer, &rest_cells, left);
+    let mut shares = [Share::default(); 16];
+    for i in 0..count {
+        let a = best_share(&offers.cells[i], &all[count - 1 - i], left);
         shares[i] = Share {
             typical: a,
-            critical: offer[a as usize - 1],
+            critical: offers.cells[i][a as usize - 1],
         };
         left -= a;
-        i += 1;
     }
-    Chosen {
-        answer: Answer::Accepted,
-        shares,
-    }
+    Ok(shares)
 }

@@ -14,6 +14,7 @@ use Rattle.shares.specs.declared.share.Share.{Share}
 use Rattle.shares.specs.Totals.{share_at, critical_total}
 use Rattle.keeping.specs.Kept.{subsets, processors_for, typical_share_at, kept_share}
 use Rattle.keeping.specs.Running.{without, totals_keeping}
+use Rattle.keeping.specs.Promise.{RunningLeast}
 use Rattle.keeping.specs.means.Keeping.{Next, none, found, KeptAfter, none_kept, one_more, Keepable}
 use Rattle.keeping.proofs.Parts.{Part, part_subset, subset_part, keep_part}
 use Rattle.keeping.proofs.Greedy.{fewest, too_many}
@@ -41,7 +42,8 @@ module _ (n : ℕ) (shares : List Share) (k : ℕ) where
 
 module _ (M n : ℕ) (shares : List Share) (able : Keepable M n shares) where
   module _ {k : ℕ} {line : List Share} (kept : KeptSoFar M n shares k line) (there : n ≤ length line) where
-    -- Where the next task is found, it and those kept have the least shares; where it is not, any set of one task more takes too many.
+    -- Where the next task is found, it and those kept have the least shares; where it is not, any set of one task more
+    -- takes too many.
     next_of_all : {i total : ℕ} → Next M n line i total → total ≡ capped_at (M + 1) (least (totals_keeping n shares (k + 1)))
     next_of_all (none past) =
         capped_is (M + 1) (totals_keeping n shares (k + 1)) (M + 1) (omega arith)
@@ -100,3 +102,8 @@ module _ (M n : ℕ) (shares : List Share) (able : Keepable M n shares) where
   running-least there earlier next =
       let kept = after there earlier in
       next_of_all kept (omega (arith, line-length M n shares able kept)) next
+
+-- The same of any shares that can be kept.
+pub running_least : RunningLeast
+unfolding RunningLeast
+running_least M n k i total shares line able there earlier next = omega (arith, running-least M n shares able there earlier next)

@@ -1,6 +1,6 @@
--- Keeping the least shares first is right. The tasks are split by a share and a number: those up to it are in, those beyond it are
--- out. Against any other set each task that is in alone takes no more than that share, and each that is out alone no less, so that
--- the split comes no later in the order of the sets than any set that can be held.
+-- Keeping the least shares first is right. The tasks are split by a share and a number: those up to it are in, those
+-- beyond it are out. Against any other set each task that is in alone takes no more than that share, and each that is
+-- out alone no less, so that the split comes no later in the order of the sets than any set that can be held.
 use Prim.Native.Nat.{ℕ, zero, suc, ◌+◌, ◌-◌, ◌≤◌, ◌<◌}
 use mathlib.Core.Path.{◌≡◌, refl, sym, ap, subst}
 use mathlib.Core.Logic.{◌⊎◌, inl, inr}
@@ -115,8 +115,8 @@ module _ (share : ℕ → ℕ) (test : ℕ → Bool) where
             (record { inside = λ i m e. omega (arith, split_between.inside i m e); outside = λ i m e. none i m e })
         go (no h) = by split.width (omega arith) split_between
 
-  -- With as many tasks and as many processors the list of the split comes first: at the first difference the task is in, since one
-  -- that is out would take as much as the split's last, and all behind it that are in less.
+  -- With as many tasks and as many processors the list of the split comes first: at the first difference the task is
+  -- in, since one that is out would take as much as the split's last, and all behind it that are in less.
   in_order : {numbers set : List ℕ} → Part numbers set → Rising numbers → Split numbers →
       length set ≡ length (keep test numbers) → processors_for share set ≡ processors_for share (keep test numbers) →
       no_later (keep test numbers) set ≡ true

@@ -1,5 +1,5 @@
--- S5.6 for a reader: the kept set in plain words, and what becomes of the shares; and so what holds of the shares that the tasks of
--- a set get.
+-- S5.6 for a reader: the kept set in plain words, and what becomes of the shares; and so what holds of the shares that
+-- the tasks of a set get.
 use Prim.Native.Nat.{ℕ, zero, suc, ◌+◌, ◌-◌, ◌≤◌, ◌<◌}
 use mathlib.Core.Path.{◌≡◌, refl, sym, ap, ◌∙◌, subst}
 use mathlib.Core.Logic.{◌⊎◌, inl, inr}

@@ -4,6 +4,7 @@ pub mod Parts
 pub mod Greedy
 pub mod Laws
 pub mod Running
+pub mod Front
 pub mod Scan
 pub mod Steps
 pub mod Counted

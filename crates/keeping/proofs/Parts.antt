@@ -1,5 +1,5 @@
--- Sets of numbers as parts of a list: each number of the list is in or not. Every set that is enumerated is a part and every part is
--- enumerated; a rising list of members of a rising list is a part; what a test keeps is one.
+-- Sets of numbers as parts of a list: each number of the list is in or not. Every set that is enumerated is a part and
+-- every part is enumerated; a rising list of members of a rising list is a part; what a test keeps is one.
 use Prim.Native.Nat.{ℕ, zero, suc, ◌+◌, ◌≤◌, ◌<◌}
 use mathlib.Core.Path.{◌≡◌, refl, sym, ◌∙◌, subst}
 use mathlib.Core.Logic.{◌⊎◌, inl, inr}

@@ -1,5 +1,5 @@
--- S5.7: the running totals. A task that is kept adds its typical share to the critical total; and the total with the next task to keep is
--- the least of the totals with one task more, or M + 1 where that is above M.
+-- S5.7: the running totals. A task that is kept adds its typical share to the critical total; and the total with the
+-- next task to keep is the least of the totals with one task more, or M + 1 where that is above M.
 use Prim.Native.Nat.{ℕ, zero, suc, ◌+◌, ◌≤◌, ◌<◌}
 use mathlib.Core.Path.{◌≡◌}
 use mathlib.Core.Logic.{inl, inr}

@@ -1,40 +1,37 @@
--- The search for the next task to keep, one task after the other: the first of all seen so far with which the critical total is within
--- M, or none.
+-- The search for the next task to keep, one task after the other: the first of all seen so far with which the critical
+-- total is within M, or none.
 use Prim.Native.Nat.{ℕ, ◌+◌, ◌≤◌, ◌<◌}
-use mathlib.Core.Path.{◌≡◌, refl, sym, ap, ◌∙◌}
+use mathlib.Core.Path.{◌≡◌, refl, subst}
 use mathlib.Core.Logic.{inl, inr}
-use mathlib.Core.Bool.{Bool, true, false, ◌&&◌}
 use mathlib.Core.List.{List}
 use native.Mathlib.Decide.{dec_lt}
 use native.Mathlib.Omega.{arith}
-use lib.Dec.{eqb, ltb}
 use lib.ListN.{take}
-use borrow.Author.Tests.{eqb-true, eq-eqb, ltb-true, ltb-false}
+use Rattle.std.specs.Prelude.{Option, Some, None, MatchOption, IfSome}
 use Rattle.basics.proofs.Below.{below_cases}
-use Rattle.basics.proofs.Logic.{left_true, right_true}
 use Rattle.shares.specs.declared.share.Share.{Share}
 use Rattle.shares.specs.Totals.{critical_total}
 use Rattle.keeping.specs.Kept.{typical_share_at}
 use Rattle.keeping.specs.Running.{critical_share_at}
+use Rattle.keeping.specs.declared.NextKept.{NextKept}
 use Rattle.keeping.specs.means.Keeping.{NotAfter, Next, none, found}
 
--- What a test of two parts says: that a is 0, and that x is below y.
-pub passed_zero : (a x y : ℕ) → eqb a 0 && ltb x y ≡ true → a ≡ 0
-passed_zero a x y e = eqb-true a 0 (left_true (eqb a 0) (ltb x y) e)
+-- The task that was found, or n; and the total with it, or the one that stands for none.
+abbrev pub task_or : ℕ → Option NextKept → ℕ
+task_or n None = n
+task_or n (Some next) = next.task
 
-pub passed_below : (a x y : ℕ) → eqb a 0 && ltb x y ≡ true → x < y
-passed_below a x y e = ltb-true x y (right_true (eqb a 0) (ltb x y) e)
-
-pub failed : {a : ℕ} → a ≡ 0 → (x y : ℕ) → eqb a 0 && ltb x y ≡ false → y ≤ x
-failed {a} same x y e = ltb-false x y (sym (ap (λ (t : Bool). t && ltb x y) (eq-eqb a 0 same)) ∙ e)
+abbrev pub total_or : ℕ → Option NextKept → ℕ
+total_or none_yet None = none_yet
+total_or none_yet (Some next) = next.total
 
 module _ (M n : ℕ) (shares : List Share) where
   -- The critical total with task j kept too.
   abbrev with : ℕ → ℕ
   with j = critical_total (take n shares) + typical_share_at shares j
 
-  -- What is known once the tasks below i are seen: either the task is n, and none with which the total is within M was seen, or it is the
-  -- first of those that were. A total below `below` is within M and comes before it.
+  -- What is known once the tasks below i are seen: either the task is n, and none with which the total is within M was
+  -- seen, or it is the first of those that were. A total below `below` is within M and comes before it.
   pub data Seen (i task below : ℕ) : Type 0 where
     nothing_seen : task ≡ n → below ≡ M + 1 → ((j : ℕ) → j < i → critical_share_at shares j ≡ 0 → M < with j) → Seen i task below
     a_task : task < i → critical_share_at shares task ≡ 0 → below ≡ with task → below ≤ M →
@@ -55,7 +52,7 @@ module _ (M n : ℕ) (shares : List Share) where
       go (inl less) = omega arith
       go (inr (equal, _)) = omega arith
 
-  to_cap : (i task below : ℕ) → Seen i task below → below ≤ M + 1
+  pub to_cap : (i task below : ℕ) → Seen i task below → below ≤ M + 1
   to_cap i task below (nothing_seen none_yet whole more) = omega arith
   to_cap i task below (a_task inside zero-share same fits first) = omega arith
 
@@ -90,3 +87,15 @@ module _ (M n : ℕ) (shares : List Share) where
   pub seen_all : (task below : ℕ) → Seen n task below → Next M n shares task below
   seen_all task below (nothing_seen none_yet whole more) = rw (none_yet, whole) (none more)
   seen_all task below (a_task inside low same fits first) = rw same (found inside low (omega arith) first)
+
+  -- The same of what the search holds.
+  pub record SeenSoFar (i : ℕ) (next : Option NextKept) (below : ℕ) : Type 0 where
+    pub total : below ≡ total_or (M + 1) next
+    pub within : IfSome next (λ k. k.total ≤ M)
+    pub seen : Seen i (task_or n next) below
+
+  -- What is found of all tasks.
+  pub found_next : (next : Option NextKept) (below : ℕ) → SeenSoFar n next below →
+      MatchOption next (Next M n shares n (M + 1)) (λ k. Next M n shares k.task k.total)
+  found_next None below seen = subst (Next M n shares n) seen.total (seen_all n below seen.seen)
+  found_next (Some k) below seen = subst (Next M n shares k.task) seen.total (seen_all k.task below seen.seen)

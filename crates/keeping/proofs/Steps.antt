@@ -1,5 +1,5 @@
--- The least shares are kept first, one task after the other: what is kept after each step is a split of the tasks without a critical
--- share, and where no more can be kept it is the first of the sets that can be held.
+-- The least shares are kept first, one task after the other: what is kept after each step is a split of the tasks
+-- without a critical share, and where no more can be kept it is the first of the sets that can be held.
 use Prim.Native.Nat.{ℕ, ◌+◌, ◌-◌, ◌≤◌, ◌<◌}
 use mathlib.Core.Path.{◌≡◌, refl, sym, ap, ◌∙◌}
 use mathlib.Core.Logic.{◌⊎◌, inl, inr}
@@ -107,8 +107,8 @@ line_set line x s inside i = go (ℕ_discrete i x)
     go (yes e) = inl (e, ap (λ (j : ℕ). get_or (set line x s) j no_processors) e ∙ get_or-set_same line x s no_processors inside)
     go (no other) = inr (other, get_or-set_other line x i s no_processors other)
 
--- What is kept so far of the shares of n tasks on M processors: a line with the shares of the k tasks that a test takes, whose critical
--- total is within M.
+-- What is kept so far of the shares of n tasks on M processors: a line with the shares of the k tasks that a test
+-- takes, whose critical total is within M.
 pub record KeptSoFar (M n : ℕ) (shares : List Share) (k : ℕ) (line : List Share) : Type 0 where
   pub test : ℕ → Bool
   pub many : length (keep test (without n shares)) ≡ k

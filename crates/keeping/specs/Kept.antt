@@ -1,4 +1,5 @@
--- S5.6 by enumeration: the low tasks that are kept in the critical mode, on the processors that the high tasks leave over.
+-- S5.6 by enumeration: the low tasks that are kept in the critical mode, on the processors that the high tasks leave
+-- over.
 use Rattle.std.specs.Prelude.{ℕ, ◌+◌, ◌-◌, cond, List, [], ◌∷◌, ◌++◌, map, leb, length, get_or}
 use Rattle.std.proofs.Math.Option.{Option, none, some}
 use Rattle.sheet.specs.declared.task.Task.{Task}
@@ -27,8 +28,8 @@ processors_for share (i ∷ set) = share i + processors_for share set
 unfoldable pub holdable : (ℕ → ℕ) → ℕ → List ℕ → List (List ℕ)
 holdable share left numbers = keep (λ set. leb (processors_for share set) left) (subsets numbers)
 
--- S5.6: the numbers that the order of the sets goes by, the weightiest first: how many tasks the set leaves out, so that the most
--- tasks come first; its processors; and its list of task numbers.
+-- S5.6: the numbers that the order of the sets goes by, the weightiest first: how many tasks the set leaves out, so
+-- that the most tasks come first; its processors; and its list of task numbers.
 abbrev pub kept_rank : (ℕ → ℕ) → List ℕ → List ℕ → List ℕ
 kept_rank share numbers set = (length numbers - length set) ∷ processors_for share set ∷ set
 
@@ -45,8 +46,8 @@ first_held share left numbers = set_found (least_by (kept_rank share numbers) (h
 unfoldable pub typical_share_at : List Share → ℕ → ℕ
 typical_share_at shares i = (share_at shares i).typical
 
--- S5.6: the processors that a choice leaves over in the critical mode. Its critical total counts high tasks alone: in a choice a
--- low task's critical share is 0.
+-- S5.6: the processors that a choice leaves over in the critical mode. Its critical total counts high tasks alone: in a
+-- choice a low task's critical share is 0.
 unfoldable pub left_over : ℕ → List Share → ℕ
 left_over M choice = M - critical_total choice
 

@@ -20,8 +20,8 @@ pub record HeldSet (M : ℕ) (tasks : List Task) (choice : List Share) (set : Li
   pub lows : LowSet tasks set
   pub fits : critical_total choice + processors_for (typical_share_at choice) set ≤ M
 
--- S5.6: the kept set can be held. No set that can be held has more tasks; none with as many has fewer processors; and of those with
--- as many of both its list comes first.
+-- S5.6: the kept set can be held. No set that can be held has more tasks; none with as many has fewer processors; and
+-- of those with as many of both its list comes first.
 pub record BestKept (M : ℕ) (tasks : List Task) (choice : List Share) (kept : List ℕ) : Type 0 where
   pub held : HeldSet M tasks choice kept
   pub most : (set : List ℕ) → HeldSet M tasks choice set → length set ≤ length kept
@@ -30,8 +30,8 @@ pub record BestKept (M : ℕ) (tasks : List Task) (choice : List Share) (kept : 
   pub first : (set : List ℕ) → HeldSet M tasks choice set → length set ≡ length kept →
       processors_for (typical_share_at choice) set ≡ processors_for (typical_share_at choice) kept → no_later kept set ≡ true
 
--- S5.6: what becomes of the shares of a choice. There are as many; a kept task's critical share is its typical one; all else stays;
--- and the critical total is the choice's and the kept tasks' together.
+-- S5.6: what becomes of the shares of a choice. There are as many; a kept task's critical share is its typical one; all
+-- else stays; and the critical total is the choice's and the kept tasks' together.
 pub record KeptShares (choice : List Share) (kept : List ℕ) (shares : List Share) : Type 0 where
   pub each : length shares ≡ length choice
   pub stays : (i : ℕ) → Memᴰ i kept → share_at shares i ≡ kept_share (share_at choice i)

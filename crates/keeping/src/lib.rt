@@ -1,7 +1,9 @@
-// S5.6, S5.7: the low tasks that are kept in the critical mode. In the shares of a choice they are those without a critical share.
+//! S5.6, S5.7: the low tasks that are kept in the critical mode. In the shares of a choice they are those without a
+//! critical share.
 #![tactic(auto)]
 
-ghost use Rattle.std.specs.Prelude.{◌≡◌, ◌+◌, ◌≤◌, take};
+ghost use Rattle.std.specs.Prelude.{◌≡◌, ◌+◌, ◌≤◌, length, MatchOption, IfSome};
+ghost use Rattle.std.specs.Option.{option_map_or};
 ghost use Rattle.basics.specs.Order.{least, capped_at};
 ghost use Rattle.shares.specs.Totals.{critical_total};
 ghost use Rattle.keeping.specs.Running.{totals_with_one};
@@ -9,71 +11,67 @@ ghost use Rattle.keeping.specs.means.Keeping.{kept_line, Next, Keepable};
 
 use shares::share::Share;
 
-// A task to keep, and the critical total with it. m + 1 stands for any total above m.
+pub mod promise;
+
+/// A task to keep, and the critical total once it is kept.
 #[derive(Clone, Copy)]
 struct NextKept {
     task: usize,
     total: u8,
 }
 
-// The critical total of the shares of n tasks.
-fn critical_total(shares: [Share; 16], n: usize) -> u8
-    requires { (n ≤ 16) × (critical_total (take n shares) ≤ 64) }
-    ensures { result ≡ critical_total (take n shares) }
+/// The critical total of these shares.
+fn critical_total(shares: &[Share]) -> u8
+    requires { critical_total shares.now ≤ 64 }
+    ensures { result ≡ critical_total shares.now }
 {
-    let mut total: u8 = 0;
-    let mut i: usize = 0;
-    while i < n {
-        let share = shares[i];
-        total += share.critical;
-        i += 1;
-    }
-    total
+    shares.iter().map(|share| share.critical).sum()
 }
 
-// Of the tasks without a critical share the first with the least typical share, and the critical total with it; n and m + 1 where there
-// is none, or where that total is above m.
-fn next_kept(shares: [Share; 16], n: usize, total: u8, m: u8) -> NextKept
-    requires keepable { Keepable m n shares }
-    requires is_total { total ≡ critical_total (take n shares) }
-    ensures next { Next m n shares result.task result.total }
-    ensures held { result.total ≡ capped_at (m + 1) (least (totals_with_one n shares)) }
+/// Of the tasks without a critical share the first with the least typical share, and the critical total with it, where
+/// that is within m.
+/// By hand: what `min_by_key` says plainly is not that it gives the first, and here some tasks do not count.
+fn next_kept(shares: &[Share], total: u8, m: u8) -> Option<NextKept>
+    requires keepable { Keepable m (length shares.now) shares.now }
+    requires is_total { total ≡ critical_total shares.now }
+    ensures next { MatchOption result
+        (Next m (length shares.now) shares.now (length shares.now) (m + 1))
+        (λ k. Next m (length shares.now) shares.now k.task k.total) }
+    ensures within { IfSome result (λ k. k.total ≤ m) }
+    // S5.7: in a byte m + 1 stands for any total above m.
+    ensures held { option_map_or (λ k. k.total) result (m + 1)
+        ≡ capped_at (m + 1) (least (totals_with_one (length shares.now) shares.now)) }
 {
-    let mut task = n;
+    let mut next = None;
     let mut smallest = m + 1;
-    let mut i: usize = 0;
-    while i < n {
-        let share = shares[i];
+    for (task, share) in shares.iter().enumerate() {
         let with = total + share.typical;
-        if (share.critical == 0) & (with < smallest) {
-            task = i;
+        if share.critical == 0 && with < smallest {
+            next = Some(NextKept { task, total: with });
             smallest = with;
         }
-        i += 1;
     }
-    NextKept {
-        task,
-        total: smallest,
-    }
+    next
 }
 
-// S5.6: the shares of n tasks, with the kept ones' critical shares: the least shares first, as long as the critical total is within m.
+/// S5.6: the shares of n tasks, with the kept ones' critical shares: the least shares first, as long as the critical
+/// total is within m.
+/// Sixteen shares and n, since there is no heap.
 pub fn with_kept(shares: [Share; 16], n: u8, m: u8) -> [Share; 16]
     requires { Keepable m n shares }
     ensures { result ≡ kept_line m n shares }
 {
-    let count = n as usize;
+    let count = usize::from(n);
     let mut all = shares;
-    let mut next = next_kept(shares, count, critical_total(shares, count), m);
-    while next.total <= m {
+    let mut total = critical_total(&all[..count]);
+    while let Some(next) = next_kept(&all[..count], total, m) {
         let task = next.task;
-        let share = all[task];
-        let typical = share.typical;
+        let typical = all[task].typical;
         all[task] = Share {
             typical,
             critical: typical,
         };
-        next = next_kept(all, count, next.total, m);
+        total = next.total;
     }
     all
 }

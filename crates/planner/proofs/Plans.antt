@@ -1,4 +1,5 @@
--- The plan of a sheet: its parts grow task by task and then stand one behind the other, and the answer goes refusal by refusal.
+-- The plan of a sheet: its parts grow task by task and then stand one behind the other, and the answer goes refusal by
+-- refusal.
 use Prim.Native.Nat.{ℕ, ◌+◌, ◌*◌, ◌≤◌, ◌<◌}
 use mathlib.Core.Path.{◌≡◌, refl, sym, ap, ◌∙◌}
 use mathlib.Core.Bool.{true, false}
@@ -7,14 +8,16 @@ use native.Mathlib.Omega.{arith}
 use lib.ListN.{length, set, drop, length-append}
 use lib.Seq.{sets, sets-eq}
 use borrow.Author.Tests.{lt-ltb, le-ltb}
-use Rattle.sheet.specs.declared.answer.Answer.TheVariants.{Accepted, Refused}
-use Rattle.sheet.specs.Answers.{no_task}
+use Rattle.std.specs.Prelude.{Ok, Err}
+use Rattle.sheet.specs.declared.refusal.Refusal.{Refusal}
+use Rattle.sheet.specs.declared.refusal.Refusal.TheVariants.{ShortBuffer}
+use Rattle.sheet.specs.Format.{task_set_of}
 use Rattle.allocation.specs.declared.allocate.Allocation.{Allocation}
-use Rattle.allocation.specs.Allocation.{allocation_at, allocation_answer, allocated_of}
+use Rattle.allocation.specs.Allocation.{allocation_at, allocation_answer, allocations_for}
 use Rattle.basics.specs.Numbers.{u32_bytes}
 use Rattle.basics.specs.Lists.{range}
 use Rattle.basics.proofs.Bytes.{sets-append, sets_apart}
-use Rattle.planner.specs.Plan.{short_buffer, block_of, block_bytes, virtual_bytes, remainder_bytes, plan_bytes, plan_answer, planned}
+use Rattle.planner.specs.Plan.{block_of, block_bytes, virtual_bytes, remainder_bytes, plan_bytes, plan_answer, planned}
 use Rattle.planner.specs.means.Writing.{with_task}
 use Rattle.planner.proofs.Parts.{blocks-length, blocks_more, virtuals_length, virtuals_more, remainders_length, remainders_more}
 
@@ -115,25 +118,25 @@ module _ (n : ℕ) (allocations : List Allocation) (old : List ℕ) where
 
 -- The answer of a plan, refusal by refusal.
 module _ (s : List ℕ) (room : ℕ) where
-  pub plan_refused : {number task : ℕ} → allocation_answer s ≡ Refused number task → plan_answer s room ≡ Refused number task
+  pub plan_refused : {r : Refusal} → allocation_answer s ≡ Err r → plan_answer s room ≡ Err r
   unfolding plan_answer
   plan_refused e = rw e
 
-  pub plan_room : allocation_answer s ≡ Accepted → room < 9 * (allocated_of s).count → plan_answer s room ≡ Refused short_buffer no_task
+  pub plan_room : allocation_answer s ≡ Ok tt → room < 9 * (task_set_of s).count → plan_answer s room ≡ Err ShortBuffer
   unfolding plan_answer
   plan_room e short = rw (e, lt-ltb room _ short)
 
-  pub plan_accepted : allocation_answer s ≡ Accepted → 9 * (allocated_of s).count ≤ room → plan_answer s room ≡ Accepted
+  pub plan_accepted : allocation_answer s ≡ Ok tt → 9 * (task_set_of s).count ≤ room → plan_answer s room ≡ Ok tt
   unfolding plan_answer
   plan_accepted e enough = rw (e, le-ltb room _ enough)
 
 -- The buffer after a refusal, and after success.
 module _ (s buffer : List ℕ) where
-  pub planned_refused : {number task : ℕ} → plan_answer s (length buffer) ≡ Refused number task → planned s buffer ≡ buffer
+  pub planned_refused : {r : Refusal} → plan_answer s (length buffer) ≡ Err r → planned s buffer ≡ buffer
   unfolding planned
   planned_refused e = rw e
 
-  pub planned_accepted : plan_answer s (length buffer) ≡ Accepted → 9 * (allocated_of s).count ≤ length buffer →
-      planned s buffer ≡ sets buffer 0 (plan_bytes (allocated_of s).count (allocated_of s).allocations)
+  pub planned_accepted : plan_answer s (length buffer) ≡ Ok tt → 9 * (task_set_of s).count ≤ length buffer →
+      planned s buffer ≡ sets buffer 0 (plan_bytes (task_set_of s).count (allocations_for s))
   unfolding planned
-  planned_accepted e fit = rw (e, plan_set (allocated_of s).count (allocated_of s).allocations buffer fit)
+  planned_accepted e fit = rw (e, plan_set (task_set_of s).count (allocations_for s) buffer fit)

@@ -1,17 +1,14 @@
 -- S5.5 and S9.9: the plan of a sheet, its bytes, and refusal 9 after those of the reader and of the choice.
 use Rattle.std.specs.Prelude.{ℕ, ◌*◌, Bool, true, false, cond, List, [], ◌∷◌, ◌++◌, ltb, length}
-use Rattle.sheet.specs.declared.answer.Answer.{Answer}
-use Rattle.sheet.specs.Answers.{no_task, refused_if, ◌or_else◌, written_if}
+use Rattle.sheet.specs.declared.refusal.Refusal.TheVariants.{ShortBuffer}
+use Rattle.sheet.specs.Refusal.{Answer, refused_if, ◌or_else◌, written_if}
+use Rattle.sheet.specs.Format.{task_set_of}
 use Rattle.shares.specs.Totals.{share_in}
 use Rattle.basics.specs.Numbers.{u32_bytes}
 use Rattle.basics.specs.Lists.{range, each}
 use Rattle.allocation.specs.declared.allocate.Offset.{Offset}
 use Rattle.allocation.specs.declared.allocate.Allocation.{Allocation}
-use Rattle.allocation.specs.Allocation.{allocation_at, allocation_answer, allocated_of}
-
--- S9.9: the plan does not fit the buffer.
-abbrev pub short_buffer : ℕ
-short_buffer = 9
+use Rattle.allocation.specs.Allocation.{allocation_at, allocation_answer, allocations_for}
 
 -- S5.4: where a task's block begins in a mode, the critical one or the typical one.
 abbrev pub begin_in : Bool → Offset → ℕ
@@ -33,7 +30,8 @@ virtual_bytes n allocations = each (range 0 n) (λ i. u32_bytes (allocation_at a
 unfoldable pub remainder_bytes : ℕ → List Allocation → List ℕ
 remainder_bytes n allocations = each (range 0 n) (λ i. (allocation_at allocations i).remainder ∷ [])
 
--- S5.5: the typical blocks, the critical blocks, the virtual deadlines and the remainders of n tasks, one behind the other: 9n bytes.
+-- S5.5: the typical blocks, the critical blocks, the virtual deadlines and the remainders of n tasks, one behind the
+-- other: 9n bytes.
 unfoldable pub plan_bytes : ℕ → List Allocation → List ℕ
 plan_bytes n allocations =
     block_bytes false n allocations
@@ -45,9 +43,9 @@ plan_bytes n allocations =
 unfoldable pub plan_answer : List ℕ → ℕ → Answer
 plan_answer s room =
     allocation_answer s
-    or_else refused_if (ltb room (9 * (allocated_of s).count)) short_buffer no_task
+    or_else refused_if (ltb room (9 * (task_set_of s).count)) ShortBuffer
 
 -- S5.5: the buffer after the call.
 unfoldable pub planned : List ℕ → List ℕ → List ℕ
 planned s buffer =
-    written_if (plan_answer s (length buffer)) (plan_bytes (allocated_of s).count (allocated_of s).allocations) buffer
+    written_if (plan_answer s (length buffer)) (plan_bytes (task_set_of s).count (allocations_for s)) buffer

@@ -1,7 +1,7 @@
 -- S2.14: a sheet and its wide form get the same answer of Plan, and the same bytes in any buffer.
 use Rattle.std.specs.Prelude.{ℕ, List, ◌≡◌}
-use Rattle.sheet.specs.declared.answer.Answer.TheVariants.{Accepted}
-use Rattle.reader.specs.Reading.{read_of}
+use Rattle.std.specs.Prelude.{Ok}
+use Rattle.reader.specs.Reading.{read_answer}
 use Rattle.allocation.specs.Wide.{wide_form}
 use Rattle.planner.specs.Plan.{plan_answer, planned}
 
@@ -12,4 +12,4 @@ pub record SamePlan (s : List ℕ) : Type 0 where
 
 -- This holds of every sheet that the reader accepts.
 unfoldable pub WidePlanned : Type 0
-WidePlanned = (s : List ℕ) → (read_of s).answer ≡ Accepted → SamePlan s
+WidePlanned = (s : List ℕ) → read_answer s ≡ Ok tt → SamePlan s

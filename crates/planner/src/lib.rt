@@ -1,4 +1,5 @@
-// The planner: the plan of a sheet.
+//! The planner: the plan of a sheet.
 #![tactic(auto)]
 
 pub mod plan;
+pub mod promise;

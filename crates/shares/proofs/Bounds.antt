@@ -1,5 +1,5 @@
--- S4.2: what a pair has to supply is at most CO·a·b: the minimum is at most w, so that CN − LN and w are taken b times at most, and LO
--- with these two is CO.
+-- S4.2: what a pair has to supply is at most CO·a·b: the minimum is at most w, so that CN − LN and w are taken b times
+-- at most, and LO with these two is CO.
 use Prim.Native.Nat.{ℕ, ◌+◌, ◌-◌, ◌*◌, ◌≤◌, min}
 use mathlib.Core.Bool.{true}
 use mathlib.Core.Path.{◌≡◌, ap}
@@ -40,8 +40,11 @@ figures-sum f order =
 pub demand_bound : DemandBound
 unfolding DemandBound demand
 demand_bound f a b order one le =
-    sum_bound (f.nominal.work - f.nominal.span) (excess f) (min (f.nominal.span * a) (excess f)) f.overload.span f.overload.work
-    a b (b - a) (figures-sum f order) (min-le_right (f.nominal.span * a) (excess f)) (omega arith) one
+    omega (
+      arith,
+      sum_bound (f.nominal.work - f.nominal.span) (excess f) (min (f.nominal.span * a) (excess f)) f.overload.span f.overload.work
+          a b (b - a) (figures-sum f order) (min-le_right (f.nominal.span * a) (excess f)) (omega arith) one,
+    )
 
 -- A figure within a limit, times two shares.
 product_within : (x limit a b : ℕ) → x ≤ limit → a ≤ 64 → b ≤ 64 → x * a * b ≤ limit * 64 * 64

@@ -1,4 +1,5 @@
--- The division behind V: nothing is lost in it, so that V, the typical share and the remainder give the nominal work again.
+-- The division behind V: nothing is lost in it, so that V, the typical share and the remainder give the nominal work
+-- again.
 use Prim.Native.Nat.{ℕ, ◌-◌, ◌≤◌, ◌<◌}
 use mathlib.Core.Bool.{Bool, true, false, cond}
 use mathlib.Core.Path.{◌≡◌}

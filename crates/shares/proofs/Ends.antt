@@ -1,5 +1,5 @@
--- What the pair test and the low share promise of an alive job, from the laws on its ticks. A job that lives on to D is against
--- the test: where min(LN·a, w) is LN·a, by (i) times a, and where it is w, by (ii) times b.
+-- What the pair test and the low share promise of an alive job, from the laws on its ticks. A job that lives on to D is
+-- against the test: where min(LN·a, w) is LN·a, by (i) times a, and where it is w, by (ii) times b.
 use Prim.Native.Nat.{ℕ, zero, suc, ◌+◌, ◌-◌, ◌*◌, ◌/◌, ◌≤◌, ◌<◌}
 use mathlib.Core.Path.{◌≡◌, ap}
 use native.Mathlib.Nat.{mul-le-mul_left, mul-le-mul, le_of_mul-le-mul_left, mul-div-le, lt-mul-div-succ, lt_of_mul-lt-mul_left, le_trans, min-eq_left, min-eq_right}
@@ -34,7 +34,8 @@ quotient n s a t one h =
     let strict : a * (t + 1) < a * (s + n / a + 1) = omega (arith, lt-mul-div-succ n one) in
     omega (arith, lt_of_mul-lt-mul_left a strict)
 
--- A job of a high task that keeps its overload budget, with at most V full ticks at the typical share, is alive only below D.
+-- A job of a high task that keeps its overload budget, with at most V full ticks at the typical share, is alive only
+-- below D.
 pub overload_ends : (f : Figures) (a b f₁ f₂ p : ℕ) → 1 ≤ a → a ≤ b → f.nominal.span ≤ f.overload.span →
     T (passes f a b) → f₁ ≤ virtual_deadline f a → p + 1 ≤ f.overload.span →
     a * f₁ + b * f₂ + p + 1 ≤ f.overload.work → f₁ + f₂ + p + 1 ≤ f.deadline

@@ -10,7 +10,7 @@ use lib.Seq.{get_or-set_same, get_or-set_other}
 use borrow.Author.Tests.{ltb-true, leb-true, eqb-true, eqb-false, eq-eqb, ne_eqb}
 use Rattle.sheet.specs.declared.task.Figures.{Figures}
 use Rattle.sheet.specs.declared.task.Task.{Task}
-use Rattle.shares.specs.declared.search.Found.TheVariants.{At, Nothing}
+use Rattle.std.specs.Prelude.{Some, None}
 use Rattle.basics.proofs.Logic.{left_true, right_true}
 use Rattle.sheet.specs.Level.{is_low}
 use Rattle.shares.specs.Low.{low_share, has_low_share, low_answer}
@@ -63,20 +63,20 @@ module _ (M : ℕ) (f : Figures) where
       go false e has own past = absurd (omega arith)
 
   -- What the answer to the search for the share says.
-  pub answer_share : (s : ℕ) → low_answer M f ≡ At s → (has_low_share M f ≡ true) × (low_share f ≡ s)
+  pub answer_share : (s : ℕ) → low_answer M f ≡ Some s → (has_low_share M f ≡ true) × (low_share f ≡ s)
   unfolding low_answer
   answer_share s = go (has_low_share M f) refl
     where
-      go : (h : Bool) → has_low_share M f ≡ h → cond h (At (low_share f)) Nothing ≡ At s →
+      go : (h : Bool) → has_low_share M f ≡ h → cond h (Some (low_share f)) None ≡ Some s →
           (has_low_share M f ≡ true) × (low_share f ≡ s)
       go true has e = (has, cc)
       go false has e = absurd (let z : ◌≡◌ {A = ℕ} 0 1 = cc in omega arith)
 
-  pub answer_no_share : low_answer M f ≡ Nothing → has_low_share M f ≡ false
+  pub answer_no_share : low_answer M f ≡ None → has_low_share M f ≡ false
   unfolding low_answer
   answer_no_share = go (has_low_share M f) refl
     where
-      go : (h : Bool) → has_low_share M f ≡ h → cond h (At (low_share f)) Nothing ≡ Nothing → has_low_share M f ≡ false
+      go : (h : Bool) → has_low_share M f ≡ h → cond h (Some (low_share f)) None ≡ None → has_low_share M f ≡ false
       go true has e = absurd (let z : ◌≡◌ {A = ℕ} 0 1 = cc in omega arith)
       go false has e = has
 

@@ -5,6 +5,7 @@ pub mod Division
 pub mod Ticks
 pub mod Ends
 pub mod Least
+pub mod Rounding
 pub mod Words
 pub mod Walk
 pub mod Offers

@@ -1,4 +1,5 @@
--- An offer by its cells: a tabulated list is known by its length and its elements, and cells that are all filled are one.
+-- An offer by its cells: a tabulated list is known by its length and its elements, and cells that are all filled are
+-- one.
 use Prim.Native.Nat.{ℕ, zero, suc, ◌+◌, ◌-◌, ◌≤◌, ◌<◌}
 use mathlib.Core.Path.{◌≡◌, refl, sym, ap, ap₂, ◌∙◌}
 use mathlib.Core.Bool.{cond}

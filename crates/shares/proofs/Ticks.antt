@@ -1,6 +1,6 @@
--- How many ticks a job can stay alive, for any budget of work C and span L. Of its D or more ticks, f₁ are full at share a, f₂
--- full at share b and p partial; while it is alive, p + 1 ≤ L and a·f₁ + b·f₂ + p + 1 ≤ C. Each law is linear once the
--- products are at hand.
+-- How many ticks a job can stay alive, for any budget of work C and span L. Of its D or more ticks, f₁ are full at
+-- share a, f₂ full at share b and p partial; while it is alive, p + 1 ≤ L and a·f₁ + b·f₂ + p + 1 ≤ C. Each law is
+-- linear once the products are at hand.
 use Prim.Native.Nat.{ℕ, ◌+◌, ◌-◌, ◌*◌, ◌≤◌}
 use mathlib.Core.Path.{◌≡◌, ap}
 use native.Mathlib.Nat.{mul-le-mul_left, mul-le-mul_right}

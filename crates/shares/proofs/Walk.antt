@@ -7,10 +7,10 @@ use native.Mathlib.Omega.{arith}
 use lib.Dec.{leb}
 use borrow.Author.Tests.{leb-false, le-leb, lt-leb}
 use Rattle.sheet.specs.declared.task.Figures.{Figures}
-use Rattle.shares.specs.declared.search.Found.TheVariants.{At, Nothing}
+use Rattle.std.specs.Prelude.{Some, None, unwrap_or}
 use Rattle.shares.specs.Test.{excess, demand, passes}
 use Rattle.shares.specs.means.Terms.{terms_of, meets}
-use Rattle.shares.specs.Search.{first, least_critical, found_of, number_found}
+use Rattle.shares.specs.Search.{first, least_critical, found_of}
 
 module _ (test : ℕ → Bool) (M b : ℕ) where
   -- The search from the same number.
@@ -48,19 +48,19 @@ pub least_by_terms : (M : ℕ) (f : Figures) (a : ℕ) →
 unfolding least_critical
 least_by_terms M f a = ap (λ (test : ℕ → Bool). first test (M + 1) a (M + 1 - a)) (fun_ext (λ b. sym (meets-passes f a b)))
 
-pub answer_none : (M : ℕ) → found_of M (M + 1) ≡ Nothing
+pub answer_none : (M : ℕ) → found_of M (M + 1) ≡ None
 unfolding found_of
 answer_none M = rw (lt-leb (M + 1) M (omega arith))
 
-pub answer_at : (M b : ℕ) → b ≤ M → found_of M b ≡ At b
+pub answer_at : (M b : ℕ) → b ≤ M → found_of M b ≡ Some b
 unfolding found_of
 answer_at M b within = rw (le-leb b M within)
 
 -- A number up to M + 1 is said by its answer.
-pub number_answer : (M x : ℕ) → x ≤ M + 1 → number_found M (found_of M x) ≡ x
-unfolding number_found found_of
+pub number_answer : (M x : ℕ) → x ≤ M + 1 → unwrap_or (found_of M x) (M + 1) ≡ x
+unfolding found_of
 number_answer M x most = go (leb x M) refl
   where
-    go : (t : Bool) → leb x M ≡ t → number_found M (cond t (At x) Nothing) ≡ x
+    go : (t : Bool) → leb x M ≡ t → unwrap_or (cond t (Some x) None) (M + 1) ≡ x
     go true e = refl
     go false e = omega (arith, leb-false x M e)

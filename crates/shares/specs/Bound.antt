@@ -9,7 +9,8 @@ unfoldable pub DemandBound : Type 0
 DemandBound =
     (f : Figures) (a b : ℕ) → in_order f ≡ true → 1 ≤ a → a ≤ b → demand f a b ≤ f.overload.work * a * b
 
--- Both sides, where D and CO are at most a limit and the shares at most 64. At 1,000,000 this is 4,096,000,000, which lies below 2 ^ 32.
+-- Both sides, where D and CO are at most a limit and the shares at most 64. At 1,000,000 this is 4,096,000,000, which
+-- lies below 2 ^ 32.
 pub record SidesWithin (limit : ℕ) (f : Figures) (a b : ℕ) : Type 0 where
   pub asked : demand f a b ≤ limit * 64 * 64
   pub supplied : f.deadline * a * b ≤ limit * 64 * 64

@@ -1,8 +1,7 @@
 -- S11.1 to S11.10: the worked cases of single tasks, with their numbers.
-use Rattle.std.specs.Prelude.{ℕ, ◌*◌, ◌≤◌, ◌<◌, ◌≡◌, ◌≢◌, true, false}
+use Rattle.std.specs.Prelude.{ℕ, ◌*◌, ◌≤◌, ◌<◌, ◌≡◌, ◌≢◌, true, false, Some, None}
 use Rattle.sheet.specs.declared.task.Figures.{Figures}
 use Rattle.shares.specs.Test.{demand, passes, virtual_deadline}
-use Rattle.shares.specs.declared.search.Found.TheVariants.{At, Nothing}
 use Rattle.shares.specs.Low.{has_low_share, low_answer}
 
 -- Figures in the order of S11: D, CN, LN, CO, LO.
@@ -42,8 +41,8 @@ pub record Fails (f : Figures) (a b left right : ℕ) : Type 0 where
 
 -- A low task gets just s processors: where M is s or more it has the share s, and where M is less it has none.
 pub record Gets (f : Figures) (s : ℕ) : Type 0 where
-  pub some : (M : ℕ) → s ≤ M → (has_low_share M f ≡ true) × (low_answer M f ≡ At s)
-  pub none : (M : ℕ) → M < s → (has_low_share M f ≡ false) × (low_answer M f ≡ Nothing)
+  pub some : (M : ℕ) → s ≤ M → (has_low_share M f ≡ true) × (low_answer M f ≡ Some s)
+  pub none : (M : ℕ) → M < s → (has_low_share M f ≡ false) × (low_answer M f ≡ None)
 
 -- S11.1 to S11.10, proved together.
 pub record Cases : Type 0 where

@@ -1,4 +1,5 @@
--- S4.5 and S4.6: the virtual deadline and the remainder of a task of either level, and that nothing is lost in the division.
+-- S4.5 and S4.6: the virtual deadline and the remainder of a task of either level, and that nothing is lost in the
+-- division.
 use Rattle.std.specs.Prelude.{ℕ, ◌+◌, ◌-◌, ◌*◌, ◌<◌, cond, ◌≡◌}
 use Rattle.sheet.specs.declared.task.Figures.{Figures}
 use Rattle.sheet.specs.declared.task.Task.{Task}

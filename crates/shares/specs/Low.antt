@@ -1,16 +1,15 @@
 -- S4.1: the one share that a low task may have, and S7.4: when it is kept.
-use Rattle.std.specs.Prelude.{ℕ, ◌+◌, ◌-◌, ◌/◌, Bool, cond, ◌&&◌, leb, ltb}
+use Rattle.std.specs.Prelude.{ℕ, ◌+◌, ◌-◌, ◌/◌, Bool, cond, ◌&&◌, leb, ltb, Option, Some, None}
 use Rattle.sheet.specs.declared.task.Figures.{Figures}
 use Rattle.sheet.specs.Level.{is_low}
 use Rattle.shares.specs.declared.share.Share.{Share}
-use Rattle.shares.specs.declared.search.Found.{Found}
-use Rattle.shares.specs.declared.search.Found.TheVariants.{At, Nothing}
 
 -- n / d rounded up.
 unfoldable pub ceil_div : ℕ → ℕ → ℕ
 ceil_div n d = (n + (d - 1)) / d
 
--- S4.1: the work beside the span, over the time that the deadline leaves beside it, rounded up (the paper's equation 3).
+-- S4.1: the work beside the span, over the time that the deadline leaves beside it, rounded up (the paper's equation
+-- 3).
 unfoldable pub low_share : Figures → ℕ
 low_share f = ceil_div (f.nominal.work - f.nominal.span) (f.deadline - f.nominal.span)
 
@@ -23,5 +22,5 @@ unfoldable pub is_kept : ℕ → Share → Bool
 is_kept level s = is_low level && ltb 0 s.critical
 
 -- The answer to the search for a low task's share.
-unfoldable pub low_answer : ℕ → Figures → Found
-low_answer M f = cond (has_low_share M f) (At (low_share f)) Nothing
+unfoldable pub low_answer : ℕ → Figures → Option ℕ
+low_answer M f = cond (has_low_share M f) (Some (low_share f)) None

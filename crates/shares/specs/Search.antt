@@ -1,8 +1,6 @@
 -- S4.3: the search for a high task's least critical share.
-use Rattle.std.specs.Prelude.{ℕ, zero, suc, ◌+◌, ◌-◌, Bool, cond, leb}
+use Rattle.std.specs.Prelude.{ℕ, zero, suc, ◌+◌, ◌-◌, Bool, cond, leb, Option, Some, None}
 use Rattle.sheet.specs.declared.task.Figures.{Figures}
-use Rattle.shares.specs.declared.search.Found.{Found}
-use Rattle.shares.specs.declared.search.Found.TheVariants.{At, Nothing}
 use Rattle.shares.specs.Test.{passes}
 
 -- The first of the n numbers from k on that passes a test, or `none`.
@@ -15,10 +13,5 @@ unfoldable pub least_critical : ℕ → Figures → ℕ → ℕ
 least_critical M f a = first (passes f a) (M + 1) a (M + 1 - a)
 
 -- The answer that says a number: a share within M, or none.
-unfoldable pub found_of : ℕ → ℕ → Found
-found_of M b = cond (leb b M) (At b) Nothing
-
--- The number that an answer says: the share found, or M + 1 for none.
-unfoldable pub number_found : ℕ → Found → ℕ
-number_found M (At b) = b
-number_found M Nothing = M + 1
+unfoldable pub found_of : ℕ → ℕ → Option ℕ
+found_of M b = cond (leb b M) (Some b) None

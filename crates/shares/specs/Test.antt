@@ -1,4 +1,5 @@
--- S4.2, S4.5 and S4.6: the test on a high task's pair (a, b), the virtual deadline at its typical share and the division behind it.
+-- S4.2, S4.5 and S4.6: the test on a high task's pair (a, b), the virtual deadline at its typical share and the
+-- division behind it.
 use Rattle.std.specs.Prelude.{ℕ, ◌+◌, ◌-◌, ◌*◌, ◌/◌, ◌%◌, min, Bool, leb}
 use Rattle.sheet.specs.declared.task.Figures.{Figures}
 use Rattle.shares.specs.declared.deadline.Division.{Division}

@@ -1,10 +1,10 @@
-// Shares: how many processors a task needs in typical and in critical mode.
+//! Shares: how many processors a task needs in typical and in critical mode.
 #![tactic(auto)]
 
 pub mod deadline;
 mod low;
-mod number;
 pub mod offer;
+pub mod promise;
 mod search;
 pub mod share;
 mod test;

@@ -1,52 +1,48 @@
-// S4.2: the pair test of a high task. Figures of 32 bits and shares of 8 bits keep every product and sum below 2^50.
-ghost use Rattle.std.specs.Prelude.{◌≡◌, ◌≤◌};
+//! S4.2: what the pair test of a high task takes from its figures. Figures of 32 bits and shares of 8 bits keep every
+//! product and sum below 2^50.
+ghost use Rattle.std.specs.Prelude.{◌≡◌};
 ghost use Rattle.shares.specs.Test.{excess};
-ghost use Rattle.shares.specs.means.Terms.{terms_of, meets, Small};
 
-use crate::number::{less, smaller, times};
 use sheet::task::Figures;
 
-// What the test takes from the figures at one typical share a. A critical share b passes where
-// supply·b is at least slope·b + fixed + extra·(b − a).
-#[derive(Clone, Copy)]
+/// S4.2: the parts of the test that the typical share a alone decides. A critical share b passes where
+/// supply·b is at least slope·b + fixed + extra·(b − a).
+#[derive(Clone, Copy, Debug, PartialEq, Eq)]
 pub struct Terms {
-    supply: u64,
-    slope: u64,
-    fixed: u64,
-    extra: u64,
+    pub supply: u64,
+    pub slope: u64,
+    pub fixed: u64,
+    pub extra: u64,
 }
 
-// w of S4.2: the overload work beyond the nominal, less what the longer span takes of it.
+/// S4.2: w, the overload work beyond the nominal, less what the longer span takes of it.
+#[tactic(auto, unfolding(crate::specs::Test::excess))]
 fn excess(f: Figures) -> u32
     ensures { result ≡ excess f }
 {
-    less(
-        less(f.overload.work, f.nominal.work),
-        less(f.overload.span, f.nominal.span),
-    )
+    let work = f.overload.work.saturating_sub(f.nominal.work);
+    let span = f.overload.span.saturating_sub(f.nominal.span);
+    work.saturating_sub(span)
 }
 
-// The terms at typical share a.
-pub fn terms_of(f: Figures, a: u8) -> Terms
-    ensures equal { result ≡ terms_of f a }
-    ensures small { Small result }
-{
-    let w = excess(f);
-    Terms {
-        supply: times(f.deadline, a),
-        slope: less(f.nominal.work, f.nominal.span) as u64 + times(f.overload.span, a),
-        fixed: times(w, a),
-        extra: smaller(times(f.nominal.span, a), w as u64),
+impl Terms {
+    ghost use Rattle.shares.specs.means.Terms.{terms_of, Small};
+
+    /// The terms of these figures at typical share a.
+    #[tactic(auto, unfolding(crate::specs::means::Terms::terms_of))]
+    pub fn new(f: Figures, a: u8) -> Self
+        ensures equal { result ≡ terms_of f a }
+        ensures small { Small result }
+    {
+        let w = u64::from(excess(f));
+        let a = u64::from(a);
+        let span = u64::from(f.nominal.span);
+        Terms {
+            supply: u64::from(f.deadline) * a,
+            slope: u64::from(f.nominal.work.saturating_sub(f.nominal.span))
+                + u64::from(f.overload.span) * a,
+            fixed: w * a,
+            extra: (span * a).min(w),
+        }
     }
-}
-
-// Whether critical share b passes.
-pub fn meets(t: Terms, a: u8, b: u8) -> bool
-    requires small { Small t }
-    requires ordered { a ≤ b }
-    ensures { result ≡ meets t a b }
-{
-    let share = b as u64;
-    let more = (b - a) as u64;
-    t.slope * share + t.fixed + t.extra * more <= t.supply * share
 }

@@ -1,16 +1,15 @@
--- S5.3 by totals, as the selection works. An offer says the least critical share of a task at each typical share, and M + 1 stands
--- for none and for any total above M.
-use Rattle.std.specs.Prelude.{ℕ, zero, suc, ◌+◌, ◌-◌, ◌≤◌, ◌<◌, min, ◌≡◌, Bool, cond, List, [], ◌∷◌, map, leb, ltb, eqb, get_or, drop, take, replicate}
+-- S5.3 by totals, as the selection works. An offer says the least critical share of a task at each typical share, and M
+-- + 1 stands for none and for any total above M.
+use Rattle.std.specs.Prelude.{ℕ, zero, suc, ◌+◌, ◌-◌, ◌≤◌, ◌<◌, min, ◌≡◌, Bool, cond, List, [], ◌∷◌, map, leb, ltb, eqb, get_or, drop, take, replicate, Result, Ok}
 use Rattle.std.proofs.Math.Option.{Option, none, some}
 use Rattle.shares.specs.declared.share.Share.{Share}
 use Rattle.shares.specs.Offer.{tabulate, offer_of}
-use Rattle.allocation.specs.declared.choice.Chosen.{Chosen}
-use Rattle.allocation.specs.declared.selection.Totals.{Totals}
 use Rattle.basics.specs.Lists.{all, is_none, cells}
-use Rattle.allocation.specs.Allocation.{no_share, no_fit, sixteen, shares_chosen}
-use Rattle.sheet.specs.declared.answer.Answer.{Answer}
+use Rattle.allocation.specs.Allocation.{sixteen, shares_chosen}
 use Rattle.sheet.specs.declared.task.TaskSet.{TaskSet}
-use Rattle.sheet.specs.Answers.{no_task, refused_if}
+use Rattle.sheet.specs.declared.refusal.Refusal.{Refusal}
+use Rattle.sheet.specs.declared.refusal.Refusal.TheVariants.{NoShare, NoFit}
+use Rattle.sheet.specs.Refusal.{Answer, refused_if, ◌or_else◌}
 use Rattle.sheet.specs.Format.{task_in}
 
 -- What the 64 numbers of an offer say at typical share a.
@@ -38,8 +37,8 @@ sum_at offer rest t a = offer a + rest (t - a)
 unfoldable pub best_share : (ℕ → ℕ) → (ℕ → ℕ) → ℕ → ℕ
 best_share offer rest t = least_from (sum_at offer rest t) 1 (t - 1)
 
--- The least critical total of a task and the tasks after it with typical total t; none at t = 0, since the task takes a processor.
--- M + 1 stands for none, and for any total above M.
+-- The least critical total of a task and the tasks after it with typical total t; none at t = 0, since the task takes a
+-- processor. M + 1 stands for none, and for any total above M.
 unfoldable pub total_with : ℕ → (ℕ → ℕ) → (ℕ → ℕ) → ℕ → ℕ
 total_with M offer rest t = cond (eqb t 0) (M + 1) (min (sum_at offer rest t (best_share offer rest t)) (M + 1))
 
@@ -56,8 +55,8 @@ totals_of M offers = tabulate (least_total M offers) 0 65
 unfoldable pub padded : ℕ → List ℕ → List ℕ
 padded M totals = tabulate (λ j. cond (ltb j 63) (M + 1) (total_at totals (j - 63))) 0 128
 
--- Totals lowered to what they come to where a task takes a, with this critical share, and the tasks after it, with these padded totals,
--- the rest.
+-- Totals lowered to what they come to where a task takes a, with this critical share, and the tasks after it, with
+-- these padded totals, the rest.
 unfoldable pub lowered : ℕ → ℕ → (ℕ → ℕ) → List ℕ → List ℕ
 lowered a critical rest totals =
     tabulate (λ t. cond (eqb t 0) (total_at totals t) (min (total_at totals t) (critical + rest (63 + t - a)))) 0 65
@@ -113,29 +112,27 @@ offers_none M offer = all (λ b. ltb M b) offer
 
 -- S9.7: refusal 7 of task i, by its offer.
 unfoldable pub offer_answer : ℕ → List (List ℕ) → ℕ → Answer
-offer_answer M offers i = refused_if (offers_none M (get_or offers i missing_offer)) no_share i
+offer_answer M offers i = refused_if (offers_none M (get_or offers i missing_offer)) (NoShare i)
 
 -- The first n offers, as functions of the typical share.
 unfoldable pub offers_up_to : ℕ → List (List ℕ) → List (ℕ → ℕ)
 offers_up_to n offers = map cell_at (take n offers)
 
 -- The totals of the last k tasks, for each k up to the number n of offers.
-unfoldable pub last_totals : ℕ → List (ℕ → ℕ) → ℕ → List Totals
+unfoldable pub last_totals : ℕ → List (ℕ → ℕ) → ℕ → List (List ℕ)
 last_totals M offers n =
-    cells 17 (λ k. record { cells = totals_of M (drop (n - k) offers) }) (record { cells = totals_of M [] }) (n + 1)
+    cells 17 (λ k. totals_of M (drop (n - k) offers)) (totals_of M []) (n + 1)
 
 -- The totals of the last tasks of a set.
-unfoldable pub totals_for : TaskSet → List Totals
+unfoldable pub totals_for : TaskSet → List (List ℕ)
 totals_for set = last_totals set.processors (offers_up_to set.count (offers_of set)) set.count
 
 -- What stands for totals where a list has none.
-abbrev pub missing_totals : Totals
-missing_totals = record { cells = [] }
+abbrev pub missing_totals : List ℕ
+missing_totals = []
 
 -- S9.8: refusal 8 and the shares, by the offers.
-unfoldable pub selection_of : ℕ → List (ℕ → ℕ) → Chosen
+unfoldable pub selection_of : ℕ → List (ℕ → ℕ) → Result (List Share) Refusal
 selection_of M offers =
-    record {
-      answer = refused_if (is_none (selected M offers)) no_fit no_task;
-      shares = sixteen (shares_chosen (selected M offers));
-    }
+    refused_if (is_none (selected M offers)) NoFit
+    or_else Ok (sixteen (shares_chosen (selected M offers)))

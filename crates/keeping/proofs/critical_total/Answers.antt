@@ -1,37 +1,32 @@
--- `keeping::critical_total`: the goals that the check leaves.
-use Prim.Native.Nat.{ℕ, ◌+◌, ◌≤◌, ◌<◌}
-use mathlib.Core.Path.{◌≡◌}
-use mathlib.Core.Bool.{true}
-use mathlib.Core.List.{List}
+-- `keeping::critical_total` meets its contract: what the chain gives are the critical shares.
+use Prim.Native.Nat.{ℕ, ◌+◌}
+use mathlib.Core.List.{List, [], ◌∷◌}
+use mathlib.Core.Path.{◌≡◌, ◌∙◌}
 use native.Mathlib.Omega.{arith}
-use lib.ListN.{length, take}
+use borrow.Author.Rules.{rules}
+use Rattle.std.specs.Prelude.{sum_by, fold}
+use Rattle.std.proofs.lemmas.Iterator.{YieldsList-from_slice, YieldsList-from_map}
+use Rattle.std.proofs.lemmas.Iterator.Consumers.{sum_by_from_yields_List, fits_by_from_yields_list}
 use Rattle.shares.specs.declared.share.Share.{Share}
-use Rattle.shares.specs.Totals.{share_at, critical_total}
-use Rattle.shares.proofs.Totals.{total_next, total_more}
+use Rattle.shares.specs.Totals.{critical_total}
 use Rattle.keeping.proofs.critical_total.Goals as goal
 
-pub loop-i-init : goal.loop-i-init
-loop-i-init c = (omega arith, omega arith)
+summed_from : (total : ℕ) (shares : List Share) → fold (λ (n : ℕ) (s : Share). n + s.critical) total shares ≡ total + critical_total shares
+summed_from total [] = omega arith
+summed_from total (s ∷ shares) = omega (arith, summed_from (total + s.critical) shares)
 
--- The critical shares of the first tasks, with one more of them.
-passed : (n : ℕ) (shares : List Share) (i : ℕ) → i < n → i < length shares →
-    (critical_total (take (i + 1) shares) ≡ critical_total (take i shares) + (share_at shares i).critical)
-    × (critical_total (take (i + 1) shares) ≤ critical_total (take n shares))
-passed n shares i inside there = (total_next true shares i there, total_more true shares (i + 1) n (omega arith))
+summed : (shares : List Share) → sum_by (λ (s : Share). s.critical) shares ≡ critical_total shares
+summed shares = omega (arith, summed_from 0 shares)
 
-pub overflow_add-total : goal.overflow_add-total
-unfolding share_at
-overflow_add-total c =
-    let next = passed c.args.n c.args.shares c.loop-i.i (omega arith) (omega arith) in
-    omega arith
-
-pub loop-i-preserved : goal.loop-i-preserved
-unfolding share_at
-loop-i-preserved c =
-    let next = passed c.args.n c.args.shares c.loop-i.i (omega arith) (omega arith) in
-    (omega arith, omega arith)
+pub sum-requires-clause-fits : goal.sum-requires-clause-fits
+sum-requires-clause-fits c =
+    let small = summed c.args.shares.now in
+    fits_by_from_yields_list _ _ c.map.result _
+    (YieldsList-from_map _ (λ (s : Share). s.critical) (YieldsList-from_slice c.args.shares.now cc) c.map.ensures.closure (λ x r q k. search rules))
+    (omega (arith, small))
 
 pub returns : goal.returns
 returns c =
-    let all : c.loop-i.i ≡ c.args.n = omega arith in
-    rw all at c.loop-i.invariant.1
+    sum_by_from_yields_List _ _ c.map.result _ c.sum.ensures.ran
+    (YieldsList-from_map _ (λ (s : Share). s.critical) (YieldsList-from_slice c.args.shares.now cc) c.map.ensures.closure (λ x r q k. search rules))
+    ∙ summed c.args.shares.now

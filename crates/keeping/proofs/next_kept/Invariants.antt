@@ -1,10 +1,7 @@
--- `keeping::next_kept` meets its contract. The loop's invariant: what was found among the tasks passed. The measure is the tasks left.
-use Prim.Native.Nat.{◌-◌, ◌≤◌}
-use Rattle.keeping.proofs.Scan.{Seen}
+-- `keeping::next_kept` meets its contract. The loop's invariant: what was found among the tasks passed.
+use lib.ListN.{length}
+use Rattle.keeping.proofs.Scan.{SeenSoFar}
 use Rattle.keeping.proofs.next_kept.Given as goal
 
-abbrev pub invariant-loop-i : goal.invariant-loop-i
-invariant-loop-i l = (l.i ≤ l.n) × Seen l.m l.n l.shares l.i l.task l.smallest
-
-abbrev pub decreases-loop-i : goal.decreases-loop-i
-decreases-loop-i l = l.n - l.i
+abbrev pub invariant-loop-task : goal.invariant-loop-task
+invariant-loop-task l = SeenSoFar l.m (length l.shares) l.shares l.task l.next l.smallest

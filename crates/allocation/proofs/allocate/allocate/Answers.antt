@@ -1,77 +1,66 @@
--- `allocate::allocate` meets its contract: the reading's refusal is passed on, else the choice's, else what is fixed by the shares.
-use mathlib.Core.Path.{◌≡◌, sym, ap, ◌∙◌, subst⁻¹}
-use Rattle.sheet.specs.declared.answer.Answer.TheVariants.{Accepted}
+-- `allocation::allocate::allocate`: a refusal of the reader or of the choice is the answer, and what is fixed for the
+-- set is that of the sheet.
+use Rattle.std.proofs.Common.{◌≡◌, Ok, sym, ap, ◌∙◌}
+use Rattle.std.proofs.lemmas.Result.{err_from_is_err_and}
+use Rattle.sheet.proofs.Said.{said}
 use Rattle.sheet.specs.declared.task.TaskSet.{TaskSet}
-use Rattle.sheet.proofs.Said.{with_said}
-use Rattle.reader.specs.declared.Reading.{Reading}
-use Rattle.reader.specs.Reading.{read_of}
-use Rattle.allocation.specs.declared.allocate.Allocated.{Allocated}
-use Rattle.allocation.specs.declared.choice.Chosen.{Chosen}
-use Rattle.allocation.specs.Lawful.{LawfulSet}
-use Rattle.allocation.specs.Allocation.{choice_answer, sixteen, shares_of, choice_of, allocations_of, allocation_answer}
-use Rattle.allocation.proofs.Accepted.{accepted_lawful}
-use Rattle.allocation.proofs.KeptLine.{accepted_shares}
+use Rattle.sheet.specs.Format.{task_set_of}
+use Rattle.reader.specs.Reading.{read_answer}
+use Rattle.reader.proofs.Readings.{read_ok, read_err}
+use Rattle.allocation.specs.Allocation.{choice_answer, choice_of, sixteen, shares_of, allocated_of}
+use Rattle.allocation.proofs.Accepted.{sheet_lawful}
+use Rattle.allocation.proofs.KeptLine.{accepted_shares, choice_ok, choice_err}
 use Rattle.allocation.proofs.Allocations.{shares_fit, answer_read, answer_choice, allocated_refused, line_fixed, allocated_accepted}
-use Rattle.allocation.proofs.allocate.allocate.Goals.{After-choose-chosen, In_default}
+use Rattle.allocation.proofs.allocate.allocate.Goals.{After-from_residual, In_ok-set, After-choose, After-from_residual-in_err-shares, In_ok-shares, After-allocations_of}
 use Rattle.allocation.proofs.allocate.allocate.Goals as goal
 
-pub returns-in-Refused : goal.returns-in-Refused
-returns-in-Refused c =
-    let both = with_said (λ (r : Allocated). r.answer)
-    (allocated_refused c.args.sheet.now _ _ c.in-Refused.is
-    (answer_read c.args.sheet.now (sym (ap (λ (r : Reading). r.answer) c.read-reading.ensures.whole) ∙ c.in-Refused.is) ∙ sym c.in-Refused.is)
-    c.no_allocations.ensures) in
-    record { whole = both.0; says = both.1 }
+unread : (c : After-from_residual) → c.from_residual.result ≡ allocated_of c.args.sheet.now
+unread c =
+    let p = err_from_is_err_and c.from_residual.result c.from_residual.ensures.1 in
+    rw (p.1, p.2) (allocated_refused _ (answer_read _ (read_err c.args.sheet.now (sym c.read.ensures.whole ∙ c.in_err-set.was))))
 
--- Past the reader's answer the sheet is accepted, and its task set keeps every rule.
-reading_accepted : (c : In_default) → (read_of c.args.sheet.now).answer ≡ Accepted
-reading_accepted c = sym (ap (λ (r : Reading). r.answer) c.read-reading.ensures.whole) ∙ c.in_default.is
+pub returns-in_err-set : goal.returns-in_err-set
+returns-in_err-set c = let e = unread c in record { whole = e; says = said e }
 
-reading_set : (c : In_default) → c.read-reading.result.set ≡ (read_of c.args.sheet.now).set
-reading_set c = ap (λ (r : Reading). r.set) c.read-reading.ensures.whole
+-- Past the reader the sheet is accepted, and the set is what it says.
+told : (c : In_ok-set) → (read_answer c.args.sheet.now ≡ Ok tt) × (c.in_ok-set.set ≡ task_set_of c.args.sheet.now)
+told c = read_ok c.args.sheet.now (sym c.read.ensures.whole ∙ c.in_ok-set.was)
 
-reading_lawful : (c : In_default) → LawfulSet c.read-reading.result.set
-reading_lawful c =
-    subst⁻¹ (λ (t : TaskSet). LawfulSet t) (reading_set c)
-    (accepted_lawful c.args.sheet.now (reading_accepted c))
+pub choose-requires : goal.choose-requires
+choose-requires c =
+    let both = told (goal.at.choose-requires c).In_ok-set in rw both.1 (sheet_lawful c.args.sheet.now both.0)
 
-pub choose-chosen-requires : goal.choose-chosen-requires
-choose-chosen-requires c = reading_lawful (goal.at.choose-chosen-requires c).In_default
+-- What the choice answers.
+chosen : (c : After-choose) → choice_of (task_set_of c.args.sheet.now) ≡ c.choose.result
+chosen c = let both = told (goal.at.After-choose c).In_ok-set in rw (c.choose.ensures.whole, both.1)
 
--- What the choice answers, and the shares that it gives.
-choice_answer_lem : (c : After-choose-chosen) → c.choose-chosen.result.answer ≡ choice_answer c.read-reading.result.set
-unfolding choice_of
-choice_answer_lem c = ap (λ (r : Chosen). r.answer) c.choose-chosen.ensures.whole
+unchosen : (c : After-from_residual-in_err-shares) → c.from_residual-in_err-shares.result ≡ allocated_of c.args.sheet.now
+unchosen c =
+    let both = told (goal.at.After-from_residual-in_err-shares c).In_ok-set in
+    let p = err_from_is_err_and c.from_residual-in_err-shares.result c.from_residual-in_err-shares.ensures.1 in
+    let refused = choice_err (task_set_of c.args.sheet.now) (chosen (goal.at.After-from_residual-in_err-shares c).After-choose ∙ c.in_err-shares.was) in
+    rw (p.1, p.2) (allocated_refused _ (answer_choice _ both.0 ∙ refused))
 
-choice_shares : (c : After-choose-chosen) → c.choose-chosen.result.shares ≡ sixteen (shares_of c.read-reading.result.set)
-unfolding choice_of
-choice_shares c = ap (λ (r : Chosen). r.shares) c.choose-chosen.ensures.whole
+pub returns-in_err-shares : goal.returns-in_err-shares
+returns-in_err-shares c = let e = unchosen c in record { whole = e; says = said e }
 
-answer_is : (c : After-choose-chosen) → allocation_answer c.args.sheet.now ≡ c.choose-chosen.result.answer
-answer_is c =
-    answer_choice _ (reading_accepted (goal.at.After-choose-chosen c).In_default)
-    ∙ ap choice_answer (sym (reading_set (goal.at.After-choose-chosen c).In_default))
-    ∙ sym (choice_answer_lem c)
-
-pub returns-in-Refused-choice_answer : goal.returns-in-Refused-choice_answer
-returns-in-Refused-choice_answer c =
-    let both = with_said (λ (r : Allocated). r.answer)
-    (allocated_refused _ _ _ c.in-Refused-choice_answer.is (answer_is (goal.at.returns-in-Refused-choice_answer c).After-choose-chosen) c.no_allocations-in-Refused-choice_answer.ensures) in
-    record { whole = both.0; says = both.1 }
+-- Past the choice, it is accepted, and the shares are those of the set.
+kept : (c : In_ok-shares) → (choice_answer (task_set_of c.args.sheet.now) ≡ Ok tt) × (c.in_ok-shares.shares ≡ sixteen (shares_of (task_set_of c.args.sheet.now)))
+kept c = choice_ok (task_set_of c.args.sheet.now) (chosen (goal.at.In_ok-shares c).After-choose ∙ c.in_ok-shares.was)
 
 pub allocations_of-requires : goal.allocations_of-requires
 allocations_of-requires c =
-    let accepted = sym (choice_answer_lem (goal.at.allocations_of-requires c).After-choose-chosen) ∙ c.in_default-choice_answer.is in
-    let lawful = reading_lawful (goal.at.allocations_of-requires c).In_default in
-    rw (choice_shares (goal.at.allocations_of-requires c).After-choose-chosen) (shares_fit c.read-reading.result.set lawful _ (accepted_shares c.read-reading.result.set lawful accepted))
+    let set = told (goal.at.allocations_of-requires c).In_ok-set in
+    let shares = kept (goal.at.allocations_of-requires c).In_ok-shares in
+    let lawful = sheet_lawful c.args.sheet.now set.0 in
+    rw (set.1, shares.1) (shares_fit (task_set_of c.args.sheet.now) lawful _ (accepted_shares _ lawful shares.0))
+
+planned : (c : After-allocations_of) → Ok (record { count = c.in_ok-set.set.count; allocations = c.allocations_of.result }) ≡ allocated_of c.args.sheet.now
+planned c =
+    let set = told (goal.at.After-allocations_of c).In_ok-set in
+    let shares = kept (goal.at.After-allocations_of c).In_ok-shares in
+    let accepted = answer_choice _ set.0 ∙ shares.0 in
+    allocated_accepted _ accepted _ _ (ap (λ (t : TaskSet). t.count) set.1) (rw (c.allocations_of.ensures, set.1, shares.1) (line_fixed _ accepted))
 
 pub returns : goal.returns
-returns c =
-    let accepted = answer_is (goal.at.returns c).After-choose-chosen ∙ c.in_default-choice_answer.is in
-    let both = with_said (λ (r : Allocated). r.answer)
-    (allocated_accepted _ accepted _ _ (ap (λ (t : TaskSet). t.count) (reading_set (goal.at.returns c).In_default))
-    (c.allocations_of.ensures
-    ∙ ap (allocations_of c.read-reading.result.set) (choice_shares (goal.at.returns c).After-choose-chosen)
-    ∙ ap (λ (t : TaskSet). allocations_of t (sixteen (shares_of t))) (reading_set (goal.at.returns c).In_default)
-    ∙ line_fixed _ accepted)) in
-    record { whole = both.0; says = both.1 }
+returns c = let e = planned c in record { whole = e; says = said e }

@@ -1,6 +1,5 @@
--- `allocate::allocations_of` meets its contract. The loop's invariant: what is fixed for the tasks passed stands in its cells, and
--- the next blocks begin where theirs end. The measure is the tasks left.
-use Prim.Native.Nat.{◌-◌, ◌≤◌}
+-- `allocation::allocate::allocations_of` meets its contract. The loop's invariant: what is fixed for the tasks passed
+-- stands in its cells, and the next blocks begin where theirs end.
 use mathlib.Core.Bool.{true, false}
 use mathlib.Core.Path.{◌≡◌}
 use Rattle.basics.specs.Lists.{cells}
@@ -10,10 +9,6 @@ use Rattle.allocation.proofs.allocate.allocations_of.Given as goal
 
 abbrev pub invariant-loop-i : goal.invariant-loop-i
 invariant-loop-i l =
-    (l.i ≤ l.n)
-    × (l.typical ≡ offset_in false l.shares l.i)
+    (l.typical ≡ offset_in false l.shares l.i)
     × (l.critical ≡ offset_in true l.shares l.i)
     × (l.allocations ≡ cells 16 (allocation_of l.set l.shares) no_allocation l.i)
-
-abbrev pub decreases-loop-i : goal.decreases-loop-i
-decreases-loop-i l = l.n - l.i

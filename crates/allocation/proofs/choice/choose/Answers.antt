@@ -1,68 +1,42 @@
--- `allocation::choice::choose`: the goals that the check leaves.
-use mathlib.Core.Path.{◌≡◌, sym, ap, ◌∙◌}
-use mathlib.Core.Bool.{Bool}
-use native.Mathlib.Omega.{arith}
-use Rattle.sheet.specs.Answers.{refused_if}
-use Rattle.sheet.proofs.Faults.{over_next, over_stop, over_end, over_all}
-use Rattle.sheet.proofs.Said.{with_said}
-use Rattle.allocation.specs.declared.choice.Chosen.{Chosen}
-use Rattle.allocation.specs.Allocation.{no_share}
-use Rattle.allocation.specs.means.Selection.{offer_answer}
-use Rattle.allocation.proofs.Sets.{chosen_line, offers_there, offers_within, choice_refused, choice_selected}
-use Rattle.allocation.proofs.KeptLine.{choice_passed, choice_able, choice_kept}
-use Rattle.allocation.proofs.choice.choose.Goals.{After-select-chosen}
+-- `allocation::choice::choose`: a refusal of a step is the choice's, and what is selected and kept is what the set
+-- gets.
+use Rattle.std.proofs.Common.{◌≡◌, Ok, sym, ◌∙◌}
+use Rattle.std.proofs.lemmas.Result.{err_from_is_err_and}
+use Rattle.sheet.proofs.Said.{said}
+use Rattle.allocation.specs.Allocation.{choice_of}
+use Rattle.allocation.proofs.Sets.{chosen_line, choice_refused, choice_selected}
+use Rattle.allocation.proofs.KeptLine.{choice_passed, choice_able, choice_kept, choice_says}
+use Rattle.allocation.proofs.choice.choose.Goals.{After-select, After-from_residual, After-with_kept}
 use Rattle.allocation.proofs.choice.choose.Goals as goal
 
-pub loop-i-init : goal.loop-i-init
-loop-i-init c =
-    (omega arith, over_all (offer_answer c.args.set.processors c.put_offers.new.offers) c.args.set.count)
-
-pub returns-then-offers_none : goal.returns-then-offers_none
-unfolding offer_answer
-returns-then-offers_none c =
-    let refused = ap (λ (t : Bool). refused_if t no_share c.loop-i.i) (sym c.offers_none.ensures ∙ c.if-offers_none.true) in
-    let both = with_said (λ (r : Chosen). r.answer)
-    (choice_refused c.args.set c.requires _ c.put_offers.ensures no_share c.loop-i.i
-    (sym c.loop-i.invariant.1 ∙ over_stop (offer_answer c.args.set.processors c.put_offers.new.offers) c.loop-i.i c.args.set.count (omega arith) refused)) in
-    record { whole = both.0; says = both.1 }
-
-pub loop-i-preserved : goal.loop-i-preserved
-unfolding offer_answer
-loop-i-preserved c =
-    let accepted = ap (λ (t : Bool). refused_if t no_share c.loop-i.i) (sym c.offers_none.ensures ∙ c.if-offers_none.false) in (
-      omega arith,
-      over_next (offer_answer c.args.set.processors c.put_offers.new.offers) c.loop-i.i c.args.set.count (omega arith) accepted
-          ∙ c.loop-i.invariant.1,
-    )
-
-pub select-chosen-requires : goal.select-chosen-requires
-select-chosen-requires c = (
-  c.requires.few_tasks,
-  c.requires.few_processors,
-  rw c.put_offers.ensures (offers_there c.args.set c.requires),
-  rw c.put_offers.ensures (offers_within c.args.set c.requires),
-)
+pub returns-in-Some : goal.returns-in-Some
+returns-in-Some c =
+    let e = choice_refused c.args.set.now c.requires _ c.offers_of-offers.ensures.cells
+    (rw (c.offers_of-offers.ensures.processors, c.offers_of-offers.ensures.count) at c.in-Some.ensures) in
+    record { whole = cc; verdict = choice_says c.args.set.now e; says = said e }
 
 -- What was selected is the choice.
-selected_is : (c : After-select-chosen) →
-    c.select-chosen.result ≡ chosen_line c.args.set
+selected_is : (c : After-select) → chosen_line c.args.set.now ≡ c.select.result
 selected_is c =
-    choice_selected c.args.set c.requires _ c.put_offers.ensures c.select-chosen.result
-    (sym c.loop-i.invariant.1 ∙ over_end (offer_answer c.args.set.processors c.put_offers.new.offers) c.loop-i.i c.args.set.count (omega arith))
-    c.select-chosen.ensures
+    sym (choice_selected c.args.set.now c.requires _ c.offers_of-offers.ensures.cells c.select.result
+    (rw (c.offers_of-offers.ensures.processors, c.offers_of-offers.ensures.count) at c.in_default.ensures)
+    (rw (c.offers_of-offers.ensures.processors, c.offers_of-offers.ensures.count) at c.select.ensures))
 
-pub returns-in-Refused : goal.returns-in-Refused
-returns-in-Refused c =
-    let both = with_said (λ (r : Chosen). r.answer)
-    (choice_passed c.args.set c.requires c.select-chosen.result (selected_is (goal.at.returns-in-Refused c).After-select-chosen) c.in-Refused.is) in
-    record { whole = both.0; says = both.1 }
+no_choice : (c : After-from_residual) → c.from_residual.result ≡ choice_of c.args.set.now
+no_choice c =
+    let p = err_from_is_err_and c.from_residual.result c.from_residual.ensures.1 in
+    rw (p.1, p.2) (choice_passed c.args.set.now c.requires (selected_is (goal.at.After-from_residual c).After-select ∙ c.in_err-shares.was))
+
+pub returns-in_err-shares : goal.returns-in_err-shares
+returns-in_err-shares c = let e = no_choice c in record { whole = e; verdict = choice_says c.args.set.now e; says = said e }
 
 pub with_kept-requires : goal.with_kept-requires
 with_kept-requires c =
-    choice_able c.args.set c.requires c.select-chosen.result (selected_is (goal.at.with_kept-requires c).After-select-chosen) c.in_default.is
+    choice_able c.args.set.now c.requires _ (selected_is (goal.at.with_kept-requires c).After-select ∙ c.in_ok-shares.was)
+
+chosen : (c : After-with_kept) → Ok c.with_kept.result ≡ choice_of c.args.set.now
+chosen c =
+    choice_kept c.args.set.now c.requires _ (selected_is (goal.at.After-with_kept c).After-select ∙ c.in_ok-shares.was) _ c.with_kept.ensures
 
 pub returns : goal.returns
-returns c =
-    let both = with_said (λ (r : Chosen). r.answer)
-    (choice_kept c.args.set c.requires c.select-chosen.result (selected_is (goal.at.returns c).After-select-chosen) c.in_default.is _ c.with_kept.ensures) in
-    record { whole = both.0; says = both.1 }
+returns c = let e = chosen c in record { whole = e; verdict = choice_says c.args.set.now e; says = said e }

@@ -1,27 +1,25 @@
--- `allocation::offers::offers_none`: the goals that the check leaves.
-use lib.ListN.{length, get_or}
-use Prim.Native.Nat.{◌≤◌, ◌<◌}
-use mathlib.Core.Path.{◌≡◌, refl, sym, ◌∙◌}
-use native.Mathlib.Omega.{arith}
-use Rattle.allocation.proofs.Cells.{offers_on, offers_stop, offers_end}
+-- `allocation::offers::offers_none` meets its contract: the chain's test is the definition's.
+use Prim.Native.Nat.{ℕ}
+use mathlib.Core.Bool.{Bool, ◌&&◌}
+use mathlib.Core.List.{List, [], ◌∷◌}
+use mathlib.Core.Path.{◌≡◌, refl, ap, ◌∙◌}
+use borrow.Author.Rules.{rules}
+use borrow.Author.Tests.{tests}
+use lib.Dec.{ltb}
+use Rattle.std.specs.List.{list_all}
+use Rattle.std.proofs.lemmas.Iterator.{YieldsList-from_slice}
+use Rattle.std.proofs.lemmas.Iterator.Search.{all_from_yields_List}
+use Rattle.basics.specs.Lists.{all}
+use Rattle.allocation.specs.means.Selection.{offers_none}
 use Rattle.allocation.proofs.offers.offers_none.Goals as goal
 
-pub loop-i-init : goal.loop-i-init
-loop-i-init c = (omega arith, refl)
-
-pub returns-then-cells-i : goal.returns-then-cells-i
-returns-then-cells-i c =
-    let long : length c.args.cells ≡ 64 = omega arith in
-    let within : get_or c.args.cells c.loop-i.i 0 ≤ c.args.m = omega arith in
-    sym (sym c.loop-i.invariant.1 ∙ offers_stop c.args.m c.args.cells c.loop-i.i (omega arith) within)
-
-pub loop-i-preserved : goal.loop-i-preserved
-loop-i-preserved c =
-    let long : length c.args.cells ≡ 64 = omega arith in
-    let past : c.args.m < get_or c.args.cells c.loop-i.i 0 = omega arith in
-    (omega arith, offers_on c.args.m c.args.cells c.loop-i.i (omega arith) past ∙ c.loop-i.invariant.1)
+same_all : (test : ℕ → Bool) (xs : List ℕ) → list_all test xs ≡ all test xs
+same_all test [] = refl
+same_all test (x ∷ xs) = ap (λ (t : Bool). test x && t) (same_all test xs)
 
 pub returns : goal.returns
+unfolding offers_none
 returns c =
-    let long : length c.args.cells ≡ 64 = omega arith in
-    sym (sym c.loop-i.invariant.1 ∙ offers_end c.args.m c.args.cells c.loop-i.i (omega arith))
+    all_from_yields_List (λ b. ltb c.args.m b) _ _ c.all.result c.all.ensures.ran (YieldsList-from_slice c.args.cells.now cc)
+    (λ x b q k. search (rules, tests))
+    ∙ same_all (λ b. ltb c.args.m b) c.args.cells.now

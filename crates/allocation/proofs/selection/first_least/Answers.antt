@@ -1,27 +1,41 @@
 -- `allocation::selection::first_least`: the goals that the check leaves.
-use Prim.Native.Nat.{◌-◌}
-use mathlib.Core.Path.{◌≡◌}
+use Prim.Native.Nat.{ℕ, ◌+◌, ◌-◌, ◌≤◌, ◌<◌}
+use mathlib.Core.Path.{◌≡◌, sym, ap, ◌∙◌}
+use mathlib.Core.Logic.{◌⊎◌, inl, inr}
 use native.Mathlib.Omega.{arith}
-use Rattle.allocation.specs.means.Selection.{total_at}
+use Rattle.allocation.specs.means.Selection.{least_from, total_at}
 use Rattle.allocation.proofs.Firsts.{least_start, least_taken, least_kept}
+use Rattle.allocation.proofs.selection.first_least.Goals.{then-totals-t, else-totals-t}
 use Rattle.allocation.proofs.selection.first_least.Goals as goal
 
-pub loop-t-init : goal.loop-t-init
-loop-t-init c = (omega arith, omega arith, least_start (total_at c.args.totals) 0)
+-- One total more.
+next : (f : ℕ → ℕ) (t best best' : ℕ) → 1 ≤ t → best < t → best ≡ least_from f 0 (t - 1) →
+    ((f t < f best) × (best' ≡ t)) ⊎ ((f best ≤ f t) × (best' ≡ best)) → (best' < t + 1) × (best' ≡ least_from f 0 t)
+next f t best best' one below so_far (inl (less, same)) =
+    let e : t - 1 + 1 ≡ t = omega arith in
+    let z : t - 1 - 0 ≡ t - 1 = omega arith in
+    let all : t - 1 + 1 - 0 ≡ t = omega arith in
+    rw same (omega arith, sym e ∙ least_taken f 0 (t - 1) best (omega arith) (rw z so_far) (rw e less) ∙ ap (least_from f 0) all)
+next f t best best' one below so_far (inr (more, same)) =
+    let e : t - 1 + 1 ≡ t = omega arith in
+    let z : t - 1 - 0 ≡ t - 1 = omega arith in
+    let all : t - 1 + 1 - 0 ≡ t = omega arith in
+    rw same (omega arith, least_kept f 0 (t - 1) best (omega arith) (rw z so_far) (rw e more) ∙ ap (least_from f 0) all)
 
-pub loop-t-preserved-then-totals-t : goal.loop-t-preserved-then-totals-t
-unfolding total_at
-loop-t-preserved-then-totals-t c =
-    let f = total_at c.args.totals in
-    (omega arith, omega arith, least_taken f 0 c.loop-t.t c.loop-t.best (omega arith) c.loop-t.invariant.2 (omega arith))
+pub loop-t-init : goal.loop-t-init
+loop-t-init c = (omega arith, omega arith, omega arith, least_start (total_at c.args.totals.now) 0)
 
 pub loop-t-preserved : goal.loop-t-preserved
 unfolding total_at
 loop-t-preserved c =
-    let f = total_at c.args.totals in
-    (omega arith, omega arith, least_kept f 0 c.loop-t.t c.loop-t.best (omega arith) c.loop-t.invariant.2 (omega arith))
+    let both = next (total_at c.args.totals.now) c.loop-t.t c.loop-t.best c.if-totals-t.best (omega arith) (omega arith) c.loop-t.invariant.3
+    (elim c.if-totals-t.branch [ then-totals-t w ↦ inl (omega arith, w.best-is) | else-totals-t w ↦ inr (omega arith, w.best-is) ]) in
+    (omega arith, omega arith, both.0, both.1 ∙ ap (least_from (total_at c.args.totals.now) 0) (omega arith))
 
-pub returns : goal.returns
-returns c =
-    let all : c.loop-t.t - 0 ≡ c.args.m = omega arith in
-    rw all at c.loop-t.invariant.2
+pub returns-after-totals-t : goal.returns-after-totals-t
+unfolding total_at
+returns-after-totals-t c =
+    let both = next (total_at c.args.totals.now) c.loop-t.t c.loop-t.best c.if-totals-t.best (omega arith) (omega arith) c.loop-t.invariant.3
+    (elim c.if-totals-t.branch [ then-totals-t w ↦ inl (omega arith, w.best-is) | else-totals-t w ↦ inr (omega arith, w.best-is) ]) in
+    let last : c.loop-t.t ≡ c.args.offers.now.processors = omega arith in
+    rw last at both.1

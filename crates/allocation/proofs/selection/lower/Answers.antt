@@ -9,11 +9,11 @@ use Rattle.allocation.proofs.selection.lower.Goals as goal
 
 pub loop-t-init : goal.loop-t-init
 loop-t-init c =
-    (omega arith, omega arith, c.requires.4, lowered_none c.args.a c.args.critical (total_at c.args.rest.now) c.args.totals.now c.requires.4)
+    (omega arith, omega arith, c.requires.all_there, lowered_none c.args.a c.args.critical (total_at c.args.rest.now) c.args.totals.now c.requires.all_there)
 
 pub overflow_add-critical : goal.overflow_add-critical
 overflow_add-critical c =
-    record { fits = sum_fits c.args.rest.now c.requires.3 c.args.critical _ c.requires.2 }
+    record { fits = sum_fits c.args.rest.now c.requires.rest_small c.args.critical _ c.requires.critical_small }
 
 pub loop-t-preserved : goal.loop-t-preserved
 unfolding total_at
@@ -21,9 +21,9 @@ loop-t-preserved c =
     let rest = total_at c.args.rest.now in (
       omega arith,
       omega arith,
-      length-set c.loop-t.totals c.loop-t.t c.smaller.result ∙ c.loop-t.invariant.2,
+      length-set c.loop-t.totals c.loop-t.t c.min.result ∙ c.loop-t.invariant.2,
       lowered_more c.args.a c.args.critical rest c.args.totals.now c.loop-t.t c.loop-t.totals (omega arith) (omega arith) c.loop-t.invariant.3
-          c.smaller.ensures (omega arith),
+          c.min.ensures (omega arith),
     )
 
 pub returns : goal.returns

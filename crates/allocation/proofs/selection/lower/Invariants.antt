@@ -1,5 +1,5 @@
--- `selection::lower` meets its contract. The loop's invariant: the totals from 1 on below t are lowered. The measure is what is left of 65.
-use Prim.Native.Nat.{◌-◌, ◌≤◌}
+-- `allocation::selection::lower` meets its contract. The loop's invariant: the totals from 1 on below t are lowered.
+use Prim.Native.Nat.{◌≤◌}
 use mathlib.Core.Path.{◌≡◌}
 use lib.ListN.{length}
 use Rattle.allocation.specs.means.Selection.{total_at}
@@ -9,6 +9,3 @@ use Rattle.allocation.proofs.selection.lower.Given as goal
 abbrev pub invariant-loop-t : goal.invariant-loop-t
 invariant-loop-t l =
     (1 ≤ l.t) × (l.t ≤ 65) × (length l.totals ≡ 65) × (l.totals ≡ partway l.a l.critical (total_at l.rest) l.initial.totals l.t)
-
-abbrev pub decreases-loop-t : goal.decreases-loop-t
-decreases-loop-t l = 65 - l.t

@@ -5,6 +5,7 @@ use Rattle.allocation.proofs.Walk.{selection_none, selection_some, first_is, tot
 use Prim.Native.Nat.{◌≤◌, ◌<◌}
 use mathlib.Core.Path.{◌≡◌, refl, sym, ap, ◌∙◌}
 use native.Mathlib.Omega.{arith}
+use borrow.Author.Rules.{rules}
 use lib.ListN.{get_or}
 use Rattle.allocation.specs.means.Selection.{offers_up_to, least_total, shares_at, best_total, missing_totals}
 use Rattle.allocation.proofs.selection.select.Invariants.{whole}
@@ -14,60 +15,64 @@ use Rattle.allocation.proofs.selection.select.Goals as goal
 -- The total that was found, and what the line of all tasks says there.
 found : (c : After-first_least-left) →
     c.first_least-left.result
-    ≡ best_total c.args.m
-    (offers_up_to c.args.n c.args.offers.now)
+    ≡ best_total c.args.offers.now.processors
+    (offers_up_to c.args.offers.now.count c.args.offers.now.cells)
 found c =
     c.first_least-left.ensures
-    ∙ first_is c.args.m c.args.n c.args.offers.now (omega arith) (omega arith) (omega arith) _ c.last_totals-all.ensures
+    ∙ first_is c.args.offers.now.processors c.args.offers.now.count c.args.offers.now.cells (omega arith) (omega arith) (omega arith) _ c.last_totals.ensures
 
-found_to : (c : After-first_least-left) → c.first_least-left.result ≤ c.args.m
+found_to : (c : After-first_least-left) → c.first_least-left.result ≤ c.args.offers.now.processors
 found_to c =
-    rw (found c) (best_total_within c.args.m (offers_up_to c.args.n c.args.offers.now))
+    rw (found c) (best_total_within c.args.offers.now.processors (offers_up_to c.args.offers.now.count c.args.offers.now.cells))
 
 found_total : (c : After-first_least-left) →
-    get_or (get_or c.last_totals-all.result c.args.n missing_totals).cells
+    get_or (get_or c.last_totals.new.all c.args.offers.now.count missing_totals)
     c.first_least-left.result 0
-    ≡ least_total c.args.m
-    (offers_up_to c.args.n c.args.offers.now) c.first_least-left.result
+    ≡ least_total c.args.offers.now.processors
+    (offers_up_to c.args.offers.now.count c.args.offers.now.cells) c.first_least-left.result
 found_total c =
-    total_is c.args.m c.args.n c.args.offers.now (omega arith) (omega arith) (omega arith) _ c.last_totals-all.ensures
+    total_is c.args.offers.now.processors c.args.offers.now.count c.args.offers.now.cells (omega arith) (omega arith) (omega arith) _ c.last_totals.ensures
     c.first_least-left.result (found_to c)
 
-pub bounds-totals-left : goal.bounds-totals-left
-bounds-totals-left c = omega (arith, found_to c)
+pub bounds-all-left : goal.bounds-all-left
+bounds-all-left c = omega (arith, found_to c)
 
-pub returns-then-m-totals : goal.returns-then-m-totals
-returns-then-m-totals c =
-    let offers = offers_up_to c.args.n c.args.offers.now in
-    let past : c.args.m < least_total c.args.m offers c.first_least-left.result = omega (arith, found_total (goal.at.returns-then-m-totals c).After-first_least-left) in
-    selection_none c.args.m offers (rw (← found (goal.at.returns-then-m-totals c).After-first_least-left) past)
+pub returns-then-offers-all : goal.returns-then-offers-all
+returns-then-offers-all c =
+    let offers = offers_up_to c.args.offers.now.count c.args.offers.now.cells in
+    let past : c.args.offers.now.processors < least_total c.args.offers.now.processors offers c.first_least-left.result = omega (arith, found_total (goal.at.returns-then-offers-all c).After-first_least-left) in
+    selection_none c.args.offers.now.processors offers (rw (← found (goal.at.returns-then-offers-all c).After-first_least-left) past)
 
 pub loop-i-init : goal.loop-i-init
 unfolding cells_from
 loop-i-init c =
-    let offers = offers_up_to c.args.n c.args.offers.now in (
+    let offers = offers_up_to c.args.offers.now.count c.args.offers.now.cells in (
       omega arith,
       found_to (goal.at.loop-i-init c).After-first_least-left,
       omega (arith, found_total (goal.at.loop-i-init c).After-first_least-left),
-      ap (shares_at c.args.m offers) (sym (found (goal.at.loop-i-init c).After-first_least-left)),
-      refl,
+      ap (shares_at c.args.offers.now.processors offers) (sym (found (goal.at.loop-i-init c).After-first_least-left)),
+      (let none : c.default-shares.result ≡ record { typical = 0; critical = 0 } = search rules in rw none refl),
     )
 
 pub best_share-a-requires : goal.best_share-a-requires
-best_share-a-requires c = (
-  walk_some c.args.m c.args.n c.args.offers.now (omega arith) (omega arith) (omega arith) c.loop-i.i c.loop-i.left (omega arith)
-      (omega arith) c.loop-i.invariant.2,
-  omega arith,
-  offer_small c.args.m _ (omega arith) (c.requires.3 c.loop-i.i (omega arith)),
-  rest_small c.args.m c.args.n c.args.offers.now (omega arith) (omega arith) (omega arith) c.loop-i.i (omega arith) _ c.last_totals-all.ensures,
-)
+best_share-a-requires c =
+    record {
+      some =
+          walk_some c.args.offers.now.processors c.args.offers.now.count c.args.offers.now.cells (omega arith) (omega arith) (omega arith)
+          c.loop-i.i c.loop-i.left (omega arith) (omega arith) c.loop-i.invariant.2;
+      few = omega arith;
+      offer_small = offer_small c.args.offers.now.processors _ (omega arith) (c.args.offers.now.within c.loop-i.i (omega arith));
+      rest_small =
+          rest_small c.args.offers.now.processors c.args.offers.now.count c.args.offers.now.cells (omega arith) (omega arith) (omega arith)
+          c.loop-i.i (omega arith) _ c.last_totals.ensures;
+    }
 
 -- The step that the walk takes there.
 step : (c : After-best_share-a) →
-    Step c.args.m c.args.n c.args.offers.now c.loop-i.i c.loop-i.left c.best_share-a.result (whole c.args.m c.args.n c.args.offers.now)
+    Step c.args.offers.now.processors c.args.offers.now.count c.args.offers.now.cells c.loop-i.i c.loop-i.left c.best_share-a.result (whole c.args.offers.now.processors c.args.offers.now.count c.args.offers.now.cells)
 step c =
-    walk_step c.args.m c.args.n c.args.offers.now (omega arith) (omega arith) (omega arith) c.loop-i.i c.loop-i.left (omega arith)
-    (omega arith) c.loop-i.invariant.2 _ c.last_totals-all.ensures _ c.best_share-a.ensures _ c.loop-i.invariant.3
+    walk_step c.args.offers.now.processors c.args.offers.now.count c.args.offers.now.cells (omega arith) (omega arith) (omega arith) c.loop-i.i c.loop-i.left (omega arith)
+    (omega arith) c.loop-i.invariant.2 _ c.last_totals.ensures _ c.best_share-a.ensures _ c.loop-i.invariant.3
 
 pub overflow_cast-shares : goal.overflow_cast-shares
 overflow_cast-shares c = omega (arith, (step (goal.at.overflow_cast-shares c).After-best_share-a).to)
@@ -75,8 +80,8 @@ overflow_cast-shares c = omega (arith, (step (goal.at.overflow_cast-shares c).Af
 pub overflow_sub-shares : goal.overflow_sub-shares
 overflow_sub-shares c = (step (goal.at.overflow_sub-shares c).After-best_share-a).from
 
-pub bounds-offer-a : goal.bounds-offer-a
-bounds-offer-a c = omega (arith, (step (goal.at.bounds-offer-a c).After-best_share-a).to)
+pub bounds-offers-a : goal.bounds-offers-a
+bounds-offers-a c = omega (arith, (step (goal.at.bounds-offers-a c).After-best_share-a).to)
 
 pub overflow_sub-left : goal.overflow_sub-left
 overflow_sub-left c = (step (goal.at.overflow_sub-left c).After-best_share-a).to
@@ -88,6 +93,6 @@ loop-i-preserved c =
 
 pub returns : goal.returns
 returns c =
-    selection_some c.args.m (offers_up_to c.args.n c.args.offers.now)
-    (rw (← found (goal.at.returns c).After-first_least-left, ← found_total (goal.at.returns c).After-first_least-left) c.if-m-totals.false) c.loop-i.shares
-    (c.loop-i.invariant.4 ∙ walk_done c.args.m c.args.n c.args.offers.now (omega arith) c.loop-i.i (omega arith))
+    selection_some c.args.offers.now.processors (offers_up_to c.args.offers.now.count c.args.offers.now.cells)
+    (rw (← found (goal.at.returns c).After-first_least-left, ← found_total (goal.at.returns c).After-first_least-left) c.if-offers-all.false) c.loop-i.shares
+    (c.loop-i.invariant.4 ∙ walk_done c.args.offers.now.processors c.args.offers.now.count c.args.offers.now.cells (omega arith) c.loop-i.i (omega arith))

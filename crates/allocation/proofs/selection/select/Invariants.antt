@@ -1,7 +1,7 @@
--- `selection::select` meets its contract. The loop's invariant: the shares of the tasks passed stand in their cells, and those
--- of the tasks left are the best of what is left. The measure is the tasks left.
+-- `allocation::selection::select` meets its contract. The loop's invariant: the shares of the tasks passed stand in
+-- their cells, and those of the tasks left are the best of what is left.
 use Rattle.basics.specs.Lists.{cells}
-use Prim.Native.Nat.{ℕ, ◌-◌, ◌≤◌}
+use Prim.Native.Nat.{ℕ, ◌≤◌}
 use mathlib.Core.Path.{◌≡◌}
 use mathlib.Core.List.{List}
 use lib.ListN.{get_or, drop}
@@ -16,11 +16,8 @@ whole m n offers = shares_at m (offers_up_to n offers) (best_total m (offers_up_
 
 abbrev pub invariant-loop-i : goal.invariant-loop-i
 invariant-loop-i l =
-    (l.i ≤ l.n)
-    × (l.left ≤ l.m)
-    × (least_total l.m (drop l.i (offers_up_to l.n l.offers)) l.left ≤ l.m)
-    × (drop l.i (whole l.m l.n l.offers) ≡ shares_at l.m (drop l.i (offers_up_to l.n l.offers)) l.left)
-    × (l.shares ≡ cells 16 (λ j. get_or (whole l.m l.n l.offers) j no_processors) no_processors l.i)
-
-abbrev pub decreases-loop-i : goal.decreases-loop-i
-decreases-loop-i l = l.n - l.i
+    (l.i ≤ l.offers.count)
+    × (l.left ≤ l.offers.processors)
+    × (least_total l.offers.processors (drop l.i (offers_up_to l.offers.count l.offers.cells)) l.left ≤ l.offers.processors)
+    × (drop l.i (whole l.offers.processors l.offers.count l.offers.cells) ≡ shares_at l.offers.processors (drop l.i (offers_up_to l.offers.count l.offers.cells)) l.left)
+    × (l.shares ≡ cells 16 (λ j. get_or (whole l.offers.processors l.offers.count l.offers.cells) j no_processors) no_processors l.i)

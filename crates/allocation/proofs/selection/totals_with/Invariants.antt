@@ -1,15 +1,15 @@
--- `selection::totals_with` meets its contract. The loop's invariant: the totals are lowered by the shares below a. The measure is what is
--- left of m + 1.
+-- `allocation::selection::totals_with` meets its contract. The loop's invariant: the totals are lowered by the shares
+-- below a.
 use Prim.Native.Nat.{◌+◌, ◌-◌, ◌≤◌}
 use mathlib.Core.Path.{◌≡◌}
+use lib.ListN.{get_or}
 use Rattle.shares.specs.Offer.{tabulate}
-use Rattle.allocation.specs.means.Selection.{cell_at, total_at}
+use Rattle.allocation.specs.means.Selection.{cell_at, total_at, missing_offer}
 use Rattle.allocation.proofs.Lowering.{up_to}
 use Rattle.allocation.proofs.selection.totals_with.Given as goal
 
 abbrev pub invariant-loop-a : goal.invariant-loop-a
 invariant-loop-a l =
-    (1 ≤ l.a) × (l.a ≤ l.m + 1) × (l.least ≡ tabulate (up_to l.m (cell_at l.offer) (λ t. total_at l.after (63 + t)) (l.a - 1)) 0 65)
-
-abbrev pub decreases-loop-a : goal.decreases-loop-a
-decreases-loop-a l = l.m + 1 - l.a
+    (1 ≤ l.a)
+    × (l.a ≤ l.offers.processors + 1)
+    × (l.least ≡ tabulate (up_to l.offers.processors (cell_at (get_or l.offers.cells l.i missing_offer)) (λ t. total_at l.after (63 + t)) (l.a - 1)) 0 65)

@@ -1,6 +1,5 @@
--- `plan::write_plan` meets its contract. The loop's invariant: the bytes of the tasks passed stand in each part. The measure is the
--- tasks left.
-use Prim.Native.Nat.{◌-◌, ◌≤◌}
+-- `planner::plan::write_plan` meets its contract. The loop's invariant: the bytes of the tasks passed stand in each
+-- part.
 use mathlib.Core.Path.{◌≡◌}
 use lib.ListN.{length}
 use Rattle.planner.proofs.Plans.{parts_up_to}
@@ -8,7 +7,4 @@ use Rattle.planner.proofs.plan.write_plan.Given as goal
 
 abbrev pub invariant-loop-i : goal.invariant-loop-i
 invariant-loop-i l =
-    (l.i ≤ l.n) × (length l.buffer ≡ length l.initial.buffer) × (l.buffer ≡ parts_up_to l.n l.allocations l.initial.buffer l.i)
-
-abbrev pub decreases-loop-i : goal.decreases-loop-i
-decreases-loop-i l = l.n - l.i
+    (length l.buffer ≡ length l.initial.buffer) × (l.buffer ≡ parts_up_to l.n l.allocations l.initial.buffer l.i)

@@ -1,4 +1,4 @@
--- `plan::write_task` meets its contract: the stores are those of the definition.
+-- `planner::plan::write_task` meets its contract: the stores are those of the definition.
 use mathlib.Core.Path.{refl, ◌∙◌}
 use native.Mathlib.Omega.{arith}
 use lib.ListN.{length-set}
@@ -10,7 +10,7 @@ shape_of-buffer c = simp length-set (c.put_u32.auto.out ∙ c.put_pair-2.auto.bu
 
 pub returns : goal.returns
 returns c =
-    task_set c.args.n c.args.i c.args.a c.args.buffer.now _ _ _ _
+    task_set c.args.n c.args.i c.args.a.now c.args.buffer.now _ _ _ _
     c.put_pair.ensures (omega arith)
     c.put_pair-2.ensures (omega arith)
     c.put_u32.ensures (omega arith) (omega arith)
