@@ -1,20 +1,15 @@
 -- The board's bytes, written one after the other: a cleared buffer, a task's pairs, and the tasks' blocks.
-use Prim.Native.Nat.{ℕ, zero, suc, ◌+◌, ◌-◌, ◌*◌, ◌≤◌, ◌<◌, ◌^◌}
+use Prim.Native.Nat.{ℕ, zero, suc, ◌+◌, ◌-◌, ◌*◌, ◌≤◌, ◌<◌}
 use mathlib.Core.Path.{◌≡◌, refl, sym, ap, ap₂, ◌∙◌}
 use mathlib.Core.Bool.{Bool, true, false}
-use mathlib.Core.List.{List, [], ◌∷◌, ◌++◌, append_assoc, append-nil}
+use mathlib.Core.List.{List, [], ◌∷◌, ◌++◌, Memᴰ, append_assoc, append-nil}
 use native.Mathlib.Nat.{add-zero}
 use native.Mathlib.Omega.{arith}
 use native.Mathlib.Numerals.{add-one}
-use borrow.Author.Tests.{eq-eqb, ne_eqb}
-use lib.Count.{count_trailing_zeros}
-use lib.ListN.{length, get_or, set, take, drop, replicate, length-append, length-replicate, length-set, replicate-append-replicate, drop_of_length-le}
-use lib.Seq.{sets, sets-eq, set_at, drop_at, take-append_seam, drop-append-add, drop-cons, append_snoc, take_all}
+use lib.ListN.{length, get_or, set, take, drop, replicate, length-append, length-replicate, length-set, replicate-append-replicate}
+use lib.Seq.{sets, sets-eq, drop_at, take-append_seam, drop-append-add, take_all}
 use Rattle.nodes.specs.Sets.{members}
-use Rattle.nodes.proofs.Members.{members_zero}
-use Rattle.nodes.proofs.Trailing.{members_trailing, trailing_lt, trailing_power}
-use Rattle.sheet.specs.declared.answer.Answer.{Answer}
-use Rattle.sheet.specs.declared.answer.Answer.TheVariants.{Accepted, Refused}
+use Rattle.nodes.proofs.Members.{members_mem}
 use Rattle.shares.specs.Totals.{share_in}
 use Rattle.model.specs.Row.{Row, running, running_set}
 use Rattle.model.specs.Step.{Model, no_row, row_at, granted}
@@ -23,70 +18,48 @@ use Rattle.dispatcher.specs.declared.state.State.{State}
 use Rattle.entries.specs.Entry.{fixed_of, row_of}
 use Rattle.dispatcher.specs.Holds.{model_of}
 use Rattle.dispatcher.specs.Sound.{is_sound}
-use Rattle.dispatcher.specs.Board.{unused, idle, pairs_of, block, blocks, board_bytes, board_answer, boarded_of, board_of}
+use Rattle.dispatcher.specs.Board.{unused, idle, pairs_of, block, blocks, board_bytes}
 use Rattle.entries.proofs.NodeSets.{running-members}
 use Rattle.entries.proofs.Soundness.{few_nodes}
 use Rattle.dispatcher.proofs.Soundness.{shares_in, state_facts}
 use Rattle.dispatcher.proofs.Entries.{entry_at, sound_at}
 use Rattle.dispatcher.proofs.Rows.{model_length, model_row}
 
--- A buffer cleared up to a place.
-module _ (b : List ℕ) where
-  -- So many bytes are 255, and the others are as they came.
-  abbrev pub cleared_to : ℕ → List ℕ
-  cleared_to at = replicate at unused ++ drop at b
-
-  pub cleared_more : (at : ℕ) → at < length b → set (cleared_to at) at unused ≡ cleared_to (at + 1)
-  cleared_more at h =
-      rw (add-one at, drop-cons b at 0 h)
-      (set_at (replicate at unused) (get_or b at 0) (drop (suc at) b) unused at (length-replicate at unused)
-      ∙ sym (append_snoc (replicate at unused) unused (drop (suc at) b))
-      ∙ ap (λ (xs : List ℕ). xs ++ drop (suc at) b) (replicate-append-replicate at 1 unused ∙ ap (λ (n : ℕ). replicate n unused) (add-one at)))
-
-  pub cleared_all : (at : ℕ) → length b ≤ at → at ≤ length b → cleared_to at ≡ replicate (length b) unused
-  cleared_all at h k =
-      let same : at ≡ length b = omega arith in
-      rw (drop_of_length-le b {i = at} h, same) (append-nil (replicate (length b) unused))
-
 -- A task's pairs, written from a place on: what is written, with what is left to write, is the whole.
-pub record Written (whole : List ℕ) (bytes task : ℕ) (buffer : List ℕ) (place rest : ℕ) : Type 0 where
-  pub word : rest < 2 ^ 32
+pub record Written (whole : List ℕ) (bytes task : ℕ) (buffer : List ℕ) (place : ℕ) (left : List ℕ) : Type 0 where
+  pub nodes : (v : ℕ) → Memᴰ v left → v < 32
   pub size : length buffer ≡ bytes
-  pub room : place + 2 * length (members 32 rest) ≤ bytes
-  pub left : sets buffer place (pairs_of task (members 32 rest)) ≡ whole
+  pub room : place + 2 * length left ≤ bytes
+  pub rest : sets buffer place (pairs_of task left) ≡ whole
 
-module _ (whole : List ℕ) (bytes task : ℕ) (buffer : List ℕ) (place rest : ℕ) (w : Written whole bytes task buffer place rest) where
-  abbrev lowest : ℕ
-  lowest = count_trailing_zeros 32 rest
+pub written_none : (task set : ℕ) (buffer : List ℕ) (place : ℕ) (left : List ℕ) → left ≡ members 32 set →
+    place + 2 * length (members 32 set) ≤ length buffer →
+    Written (sets buffer place (pairs_of task (members 32 set))) (length buffer) task buffer place left
+written_none task set buffer place left all room =
+    rw all (record { nodes = λ v m. (members_mem 32 set v m).1; size = refl; room = room; rest = refl })
 
-  some_left : (rest ≡ 0 → ⊥) → members 32 rest ≡ lowest ∷ members 32 (rest - 2 ^ lowest)
-  some_left some = members_trailing 32 rest (omega arith) w.word
+module _ (whole : List ℕ) (bytes task : ℕ) (buffer : List ℕ) (place : ℕ) (left : List ℕ) (w : Written whole bytes task buffer place left) where
+  module _ (v : ℕ) (more : List ℕ) (first : left ≡ v ∷ more) where
+    -- There is room for another pair, whose node is one of a word.
+    pub pair_room : place + 2 ≤ length buffer
+    pair_room = omega (arith, w.room, w.size, ap length first)
 
-  -- There is room for another pair.
-  pub pair_room : (rest ≡ 0 → ⊥) → place + 2 ≤ length buffer
-  pair_room some = omega (arith, w.room, w.size, ap length (some_left some))
+    pub pair_node : v < 32
+    pair_node = w.nodes v (rw first (Memᴰ.head refl))
 
-  pub lowest_node : (rest ≡ 0 → ⊥) → lowest < 32
-  lowest_node some = trailing_lt 32 rest (omega arith) w.word
+    pub written_pair : Written whole bytes task (set (set buffer place task) (place + 1) v) (place + 2) more
+    written_pair =
+        let next : place + 2 ≡ suc (suc place) = omega arith in
+        let rest : sets buffer place (pairs_of task (v ∷ more)) ≡ whole = rw first at w.rest in
+        record {
+          nodes = λ u m. w.nodes u (rw first (Memᴰ.tail m));
+          size = length-set (set buffer place task) (place + 1) v ∙ length-set buffer place task ∙ w.size;
+          room = omega (arith, w.room, ap length first);
+          rest = rw (next, add-one place) rest;
+        }
 
-  pub lowest_part : (rest ≡ 0 → ⊥) → 2 ^ lowest ≤ rest
-  lowest_part some = trailing_power 32 rest (omega arith) w.word
-
-  pub written_pair : (rest ≡ 0 → ⊥) → Written whole bytes task (set (set buffer place task) (place + 1) lowest) (place + 2) (rest - 2 ^ lowest)
-  written_pair some =
-      let next : place + 2 ≡ suc (suc place) = omega arith in
-      let left : sets buffer place (pairs_of task (lowest ∷ members 32 (rest - 2 ^ lowest))) ≡ whole = rw (some_left some) at w.left in
-      record {
-        word = omega (arith, w.word);
-        size = length-set (set buffer place task) (place + 1) lowest ∙ length-set buffer place task ∙ w.size;
-        room = omega (arith, w.room, ap length (some_left some));
-        left = rw (next, add-one place) left;
-      }
-
-  pub written_whole : rest ≡ 0 → buffer ≡ whole
-  written_whole none =
-      let done : sets buffer place (pairs_of task (members 32 0)) ≡ whole = rw none at w.left in
-      rw (members_zero 32) at done
+  pub written_whole : left ≡ [] → buffer ≡ whole
+  written_whole none = rw none at w.rest
 
 -- The lengths of pairs and of a block.
 pub pairs_length : (task : ℕ) (nodes : List ℕ) → length (pairs_of task nodes) ≡ 2 * length nodes
@@ -298,30 +271,3 @@ module _ (s : State) (long : s.count ≤ length s.entries) (sound : is_sound s �
       b.bytes
       ∙ board_whole s.processors s.critical (model_of s).rows (shares_fit s sound) i (omega (arith, model_length s long))
       ∙ ap (λ (xs : List ℕ). xs ++ idle (s.processors - shares_in s.critical (model_of s).rows)) (sym (blocks-granted (model_of s)))
-
--- Board by its answer.
-module _ (s : State) (bytes : ℕ) where
-  pub answer_unsound : is_sound s ≡ false → board_answer s bytes ≡ Refused 10 255
-  unfolding board_answer
-  answer_unsound e = rw e
-
-  pub answer_length : is_sound s ≡ true → (bytes ≡ 2 * s.processors → ⊥) → board_answer s bytes ≡ Refused 16 255
-  unfolding board_answer
-  answer_length e other = rw (e, ne_eqb bytes (2 * s.processors) other)
-
-  pub answer_accepted : is_sound s ≡ true → bytes ≡ 2 * s.processors → board_answer s bytes ≡ Accepted
-  unfolding board_answer
-  answer_accepted e same = rw (e, eq-eqb bytes (2 * s.processors) same)
-
-  pub boarded_by : {answer : Answer} → board_answer s bytes ≡ answer → record { state = s; answer = answer } ≡ boarded_of s bytes
-  unfolding boarded_of
-  boarded_by e = ap (λ (a : Answer). record { state = s; answer = a }) (sym e)
-
-module _ (s : State) (buffer : List ℕ) where
-  pub buffer_kept : {number task : ℕ} → board_answer s (length buffer) ≡ Refused number task → buffer ≡ board_of s buffer
-  unfolding board_of
-  buffer_kept e = rw e
-
-  pub buffer_written : board_answer s (length buffer) ≡ Accepted → board_bytes s.processors (model_of s) ≡ board_of s buffer
-  unfolding board_of
-  buffer_written e = rw e

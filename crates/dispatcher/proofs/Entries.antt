@@ -7,7 +7,7 @@ use native.Mathlib.Nat.{zero-add, add-zero}
 use native.Mathlib.Numerals.{add-one}
 use native.Mathlib.Omega.{arith}
 use lib.Dec.{leb}
-use lib.ListN.{length, get_or, drop, drop_of_length-le}
+use lib.ListN.{length, get_or, take, drop, drop_of_length-le}
 use lib.Seq.{length-take-le, drop-cons, get_or-take}
 use Rattle.entries.specs.declared.state.TaskState.{TaskState}
 use Rattle.dispatcher.specs.declared.state.State.{State}
@@ -51,6 +51,10 @@ module _ (s : State) (long : s.count ≤ length s.entries) where
 
   pub left_none : (i : ℕ) → s.count ≤ i → drop i (entries_of s) ≡ []
   left_none i h = drop_of_length-le (entries_of s) {i = i} (omega (arith, entries_length))
+
+-- The entry that a pass over the first entries comes to.
+pub turn_entry : (s : State) (n i : ℕ) → n ≡ s.count → i < s.count → get_or (take n s.entries) i no_entry ≡ entry_at s i
+turn_entry s n i count h = rw count (get_or-take s.count s.entries i no_entry h)
 
 -- So far every entry is sound, and these are the shares: what is passed, with what is left, is the whole.
 pub record Passed (s : State) (i typical critical : ℕ) : Type 0 where

@@ -1,20 +1,21 @@
--- What Release and Tick keep: a sound state stays sound and answers as the model does, the state after a call holds the model
--- after its step, a refused call hands back an equal state, and entries behind the tasks come back as they were. From the model's
--- laws, entry by entry.
+-- What Release and Tick keep: a sound state stays sound and answers as the model does, the state after a call holds the
+-- model after its step, a refused call hands back an equal state, and entries behind the tasks come back as they were.
+-- From the model's laws, entry by entry.
 use Prim.Native.Nat.{ℕ, zero, suc, ◌+◌, ◌≤◌, ◌<◌}
 use mathlib.Core.Path.{◌≡◌, refl, sym, ap, ap₂, subst, ◌∙◌}
 use mathlib.Core.Bool.{Bool, true, false, cond, not, ◌&&◌, true≢false, and-eq-true_iff}
 use mathlib.Core.List.{List, [], ◌∷◌, map}
-use mathlib.Core.Option.{Option, none, some}
+use Rattle.std.specs.Prelude.{Option, Some, None, Result, Ok, Err, ⊤}
 use native.Mathlib.Omega.{arith}
 use borrow.Author.Tests.{not-true}
 use lib.ListN.{length, get_or, take, drop, length-map, length-take, get_or-map}
 use Rattle.basics.specs.Lists.{any}
 use Rattle.basics.proofs.Logic.{within_bounds}
-use Rattle.sheet.specs.declared.answer.Answer.TheVariants.{Refused}
+use Rattle.sheet.specs.declared.refusal.Refusal.{Refusal}
+use Rattle.sheet.specs.declared.refusal.Refusal.TheVariants.{NotSound}
 use Rattle.shares.specs.Totals.{share_in}
 use Rattle.model.specs.Row.{Fixed, Job, Row, all_ended, has_high_job, fixed_part as row_fixed}
-use Rattle.model.specs.Step.{Model, Call, release, tick, Refusal, step, step_by, release_refusal, tick_refusal, released, ticked, turning, switched_to, returned_to, lowest_late, ticked_rows, no_row, row_at}
+use Rattle.model.specs.Step.{Model, Call, release, tick, step, step_by, release_refusal, tick_refusal, released, ticked, turning, switched_to, returned_to, lowest_late, ticked_rows, no_row, row_at}
 use Rattle.model.proofs.Lasting.{KeptSound, fixed_step, length-step, sound_step}
 use Rattle.entries.specs.declared.state.TaskState.{TaskState}
 use Rattle.dispatcher.specs.declared.state.State.{State}
@@ -23,8 +24,7 @@ use Rattle.entries.specs.Entry.{fixed_of, job_of, row_of, with_row}
 use Rattle.dispatcher.specs.Holds.{entries_of, model_of, with_rows, with_model}
 use Rattle.entries.specs.Sound.{entry_sound}
 use Rattle.dispatcher.specs.Sound.{entries_sound, is_sound}
-use Rattle.sheet.specs.Answers.{no_task}
-use Rattle.dispatcher.specs.Answers.{not_sound, release_answer, tick_answer}
+use Rattle.dispatcher.specs.Answers.{release_answer, tick_answer}
 use Rattle.dispatcher.specs.Calls.{released_by, release_of, ticked_by, tick_of}
 use Rattle.entries.proofs.Soundness.{SoundEntry, entry_facts, sound_entry}
 use Rattle.dispatcher.proofs.Soundness.{shares_in, SoundState, state_facts, sound_state}
@@ -168,39 +168,39 @@ unfolding tick_of
 tick_model s reports sound = rw sound (step_model s sound (tick reports))
 
 -- S3.4: a refused call hands back an equal state.
-pub release_back : (s : State) (i : ℕ) {number task : ℕ} → (release_of s i).answer ≡ Refused number task → (release_of s i).state ≡ s
+pub release_back : (s : State) (i : ℕ) {r : Refusal} → (release_of s i).answer ≡ Err r → (release_of s i).state ≡ s
 unfolding release_of step released
-release_back s i {number} {task} refused = go (is_sound s) (release_refusal (model_of s) i) refused
+release_back s i {r} refused = go (is_sound s) (release_refusal (model_of s) i) refused
   where
-    go : (t : Bool) (o : Option Refusal)
-        → (cond t (released_by s (step_by o (model_of s) (release i))) (record { state = s; answer = Refused not_sound no_task })).answer ≡ Refused number task
-        → (cond t (released_by s (step_by o (model_of s) (release i))) (record { state = s; answer = Refused not_sound no_task })).state ≡ s
-    go true none e = let never : ◌≡◌ {A = ℕ} 0 1 = cc in absurd (omega arith)
-    go true (some r) e = model_own s
+    go : (t : Bool) (o : Result ⊤ Refusal)
+        → (cond t (released_by s (step_by o (model_of s) (release i))) (record { state = s; answer = Err NotSound })).answer ≡ Err r
+        → (cond t (released_by s (step_by o (model_of s) (release i))) (record { state = s; answer = Err NotSound })).state ≡ s
+    go true (Ok x) e = let never : ◌≡◌ {A = ℕ} 0 1 = cc in absurd (omega arith)
+    go true (Err r) e = model_own s
     go false o e = refl
 
 -- An accepted tick is answered by no refusal.
-not_refused : (critical : Bool) (rows : List Row) {number task : ℕ} → tick_answer (turning critical rows).answer ≡ TickRefused number task → ⊥
-not_refused true rows {number} {task} e = go (any has_high_job rows) e
+not_refused : (critical : Bool) (rows : List Row) {r : Refusal} → tick_answer (turning critical rows).answer ≡ TickRefused r → ⊥
+not_refused true rows {r} e = go (any has_high_job rows) e
   where
-    go : (t : Bool) → tick_answer (returned_to rows t).answer ≡ TickRefused number task → ⊥
+    go : (t : Bool) → tick_answer (returned_to rows t).answer ≡ TickRefused r → ⊥
     go true e = let never : ◌≡◌ {A = ℕ} 0 1 = cc in omega arith
     go false e = let never : ◌≡◌ {A = ℕ} 0 1 = cc in omega arith
-not_refused false rows {number} {task} e = go (lowest_late 0 rows) e
+not_refused false rows {r} e = go (lowest_late 0 rows) e
   where
-    go : (o : Option ℕ) → tick_answer (switched_to rows o).answer ≡ TickRefused number task → ⊥
-    go none e = let never : ◌≡◌ {A = ℕ} 0 1 = cc in omega arith
-    go (some i) e = let never : ◌≡◌ {A = ℕ} 0 1 = cc in omega arith
+    go : (o : Option ℕ) → tick_answer (switched_to rows o).answer ≡ TickRefused r → ⊥
+    go None e = let never : ◌≡◌ {A = ℕ} 0 1 = cc in omega arith
+    go (Some i) e = let never : ◌≡◌ {A = ℕ} 0 1 = cc in omega arith
 
-pub tick_back : (s : State) (reports : List ℕ) {number task : ℕ} → (tick_of s reports).answer ≡ TickRefused number task → (tick_of s reports).state ≡ s
+pub tick_back : (s : State) (reports : List ℕ) {r : Refusal} → (tick_of s reports).answer ≡ TickRefused r → (tick_of s reports).state ≡ s
 unfolding tick_of step ticked
-tick_back s reports {number} {task} refused = go (is_sound s) (tick_refusal (model_of s) reports) refused
+tick_back s reports {r} refused = go (is_sound s) (tick_refusal (model_of s) reports) refused
   where
-    go : (t : Bool) (o : Option Refusal)
-        → (cond t (ticked_by s (step_by o (model_of s) (tick reports))) (record { state = s; answer = TickRefused not_sound no_task })).answer ≡ TickRefused number task
-        → (cond t (ticked_by s (step_by o (model_of s) (tick reports))) (record { state = s; answer = TickRefused not_sound no_task })).state ≡ s
-    go true none e = absurd (not_refused (model_of s).critical (ticked_rows (model_of s).rows reports) e)
-    go true (some r) e = model_own s
+    go : (t : Bool) (o : Result ⊤ Refusal)
+        → (cond t (ticked_by s (step_by o (model_of s) (tick reports))) (record { state = s; answer = TickRefused NotSound })).answer ≡ TickRefused r
+        → (cond t (ticked_by s (step_by o (model_of s) (tick reports))) (record { state = s; answer = TickRefused NotSound })).state ≡ s
+    go true (Ok x) e = absurd (not_refused (model_of s).critical (ticked_rows (model_of s).rows reports) e)
+    go true (Err r) e = model_own s
     go false o e = refl
 
 -- S7.3: entries behind the tasks come back as they were, whatever the state.
@@ -216,7 +216,7 @@ unfolding release_of
 release_rest s i = go (is_sound s)
   where
     go : (t : Bool)
-        → drop s.count (cond t (released_by s (step (model_of s) (release i))) (record { state = s; answer = Refused not_sound no_task })).state.entries
+        → drop s.count (cond t (released_by s (step (model_of s) (release i))) (record { state = s; answer = Err NotSound })).state.entries
         ≡ drop s.count s.entries
     go true = step_rest s (release i)
     go false = refl
@@ -226,7 +226,7 @@ unfolding tick_of
 tick_rest s reports = go (is_sound s)
   where
     go : (t : Bool)
-        → drop s.count (cond t (ticked_by s (step (model_of s) (tick reports))) (record { state = s; answer = TickRefused not_sound no_task })).state.entries
+        → drop s.count (cond t (ticked_by s (step (model_of s) (tick reports))) (record { state = s; answer = TickRefused NotSound })).state.entries
         ≡ drop s.count s.entries
     go true = step_rest s (tick reports)
     go false = refl

@@ -3,6 +3,7 @@ pub mod Soundness
 pub mod Entries
 pub mod Rows
 pub mod Releases
+pub mod Switches
 pub mod Ticks
 pub mod Boards
 pub mod Laws

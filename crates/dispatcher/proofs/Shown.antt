@@ -1,4 +1,5 @@
--- What the board shows (S8.8): each running node once, in its task's block, and 255, 255 elsewhere. Pair by pair, block by block.
+-- What the board shows (S8.8): each running node once, in its task's block, and 255, 255 elsewhere. Pair by pair, block
+-- by block.
 use Prim.Native.Nat.{ℕ, zero, suc, ◌+◌, ◌-◌, ◌*◌, ◌≤◌, ◌<◌}
 use mathlib.Core.Path.{◌≡◌, refl, sym, ap, ◌∙◌}
 use mathlib.Core.Bool.{Bool, true}

@@ -1,4 +1,5 @@
--- Worked facts by computation: soundness of small states, each refusal by its number, a tick's answers, and the bytes of a board.
+-- Worked facts by computation: soundness of small states, each refusal by its number, a tick's answers, and the bytes
+-- of a board.
 use Prim.Native.Nat.{ℕ}
 use mathlib.Core.Bool.{Bool, true, false}
 use mathlib.Core.List.{List, [], ◌∷◌}
@@ -6,13 +7,14 @@ use mathlib.Core.Path.{◌≡◌, refl}
 use lib.ListN.{replicate, drop}
 use Rattle.basics.specs.Lists.{range, all_below}
 use Rattle.nodes.specs.Sets.{has}
-use Rattle.sheet.specs.declared.answer.Answer.TheVariants.{Accepted, Refused}
-use Rattle.sheet.specs.Answers.{number_of, task_of}
+use Rattle.std.specs.Prelude.{Ok, Err}
+use Rattle.sheet.specs.declared.refusal.Refusal.TheVariants.{NotSound, UnknownTask, LowInCritical, TooEarly, WrongCount, NotRunning, WrongLength}
+use Rattle.sheet.specs.Refusal.{number_of, task_of}
 use Rattle.sheet.specs.Level.{level_lawful, is_high, is_low, figure_limit, is_wide}
 use Rattle.sheet.specs.Rules.{mask_lawful, masks_lawful}
 use Rattle.shares.specs.Low.{is_kept}
 use Rattle.model.specs.Row.{is_subset, all_ended, predecessors_of, is_ready, ready, running, running_set, released_row, joined, ticked_row, has_high_job, is_late, survives, switched_row}
-use Rattle.model.specs.Step.{unknown_task, low_in_critical, too_early, wrong_count, not_running, row_at, granted, release_refusal, tick_refusal, released, ticked, step}
+use Rattle.model.specs.Step.{row_at, granted, release_refusal, tick_refusal, released, ticked, step}
 use Rattle.entries.specs.declared.state.TaskState.{TaskState}
 use Rattle.entries.specs.Entry.{fixed_of, job_of, row_of, with_row}
 use Rattle.entries.specs.Sound.{entry_sound}
@@ -58,7 +60,8 @@ busy critical = state 5 2 critical (entry 1 2 2 3 0 true ∷ entry 0 1 2 0 1 tru
 abbrev late : State
 late = state 5 2 false (entry 1 1 1 1 1 true ∷ entry 1 1 1 1 1 true ∷ [])
 
--- M 5. Task 0 is high with shares (2, 3), task 1 low and kept with (2, 2), task 2 low with (1, 0); no job is alive, in the critical mode.
+-- M 5. Task 0 is high with shares (2, 3), task 1 low and kept with (2, 2), task 2 low with (1, 0); no job is alive, in
+-- the critical mode.
 abbrev keeping : State
 keeping = state 5 3 true (entry 1 2 2 3 9 false ∷ entry 0 1 2 2 9 false ∷ entry 0 1 1 0 9 false ∷ [])
 
@@ -92,36 +95,37 @@ pub record Worked : Type 0 where
   pub last_broken : is_sound (state 64 2 false (waits 1 1 ∷ entry 2 1 1 1 9 false ∷ [])) ≡ false
   pub behind_broken : is_sound (state 64 1 false (waits 1 1 ∷ entry 2 1 1 1 9 false ∷ [])) ≡ true
   -- S9.10: the state is not sound.
-  pub release_10 : (release_of (full 3) 0).answer ≡ Refused 10 255
-  pub tick_10 : (tick_of (full 3) (0 ∷ 0 ∷ [])).answer ≡ TickRefused 10 255
-  pub board_10 : board_answer (full 3) 6 ≡ Refused 10 255
+  pub release_10 : (release_of (full 3) 0).answer ≡ Err NotSound
+  pub tick_10 : (tick_of (full 3) (0 ∷ 0 ∷ [])).answer ≡ TickRefused NotSound
+  pub board_10 : board_answer (full 3) 6 ≡ Err NotSound
   -- S9.11: task 2 is none of two.
-  pub release_11 : (release_of (calm false) 2).answer ≡ Refused 11 255
+  pub release_11 : (release_of (calm false) 2).answer ≡ Err UnknownTask
   -- S9.12: task 1 is low and not kept, and the mode critical.
-  pub release_12 : (release_of (calm true) 1).answer ≡ Refused 12 1
-  pub release_low : (release_of (calm false) 1).answer ≡ Accepted
-  pub release_high : (release_of (calm true) 0).answer ≡ Accepted
+  pub release_12 : (release_of (calm true) 1).answer ≡ Err (LowInCritical 1)
+  pub release_low : (release_of (calm false) 1).answer ≡ Ok tt
+  pub release_high : (release_of (calm true) 0).answer ≡ Ok tt
   -- S7.4, S9.12: of two low tasks in the critical mode the kept one is released.
-  pub release_kept : (release_of keeping 1).answer ≡ Accepted
-  pub release_other : (release_of keeping 2).answer ≡ Refused 12 2
+  pub release_kept : (release_of keeping 1).answer ≡ Ok tt
+  pub release_other : (release_of keeping 2).answer ≡ Err (LowInCritical 2)
   -- S9.13: a job is alive at age D, or the age is below D.
-  pub release_alive : (release_of (state 5 1 false (entry 1 1 1 1 9 true ∷ [])) 0).answer ≡ Refused 13 0
-  pub release_young : (release_of (state 5 1 false (entry 1 1 1 1 8 false ∷ [])) 0).answer ≡ Refused 13 0
+  pub release_alive : (release_of (state 5 1 false (entry 1 1 1 1 9 true ∷ [])) 0).answer ≡ Err (TooEarly 0)
+  pub release_young : (release_of (state 5 1 false (entry 1 1 1 1 8 false ∷ [])) 0).answer ≡ Err (TooEarly 0)
   -- S9.14: one report, and three, for two tasks.
-  pub tick_fewer : (tick_of (busy false) (0 ∷ [])).answer ≡ TickRefused 14 255
-  pub tick_more : (tick_of (busy false) (0 ∷ 0 ∷ 0 ∷ [])).answer ≡ TickRefused 14 255
+  pub tick_fewer : (tick_of (busy false) (0 ∷ [])).answer ≡ TickRefused WrongCount
+  pub tick_more : (tick_of (busy false) (0 ∷ 0 ∷ 0 ∷ [])).answer ≡ TickRefused WrongCount
   -- S9.15: task 1 has no node 1; where both reports are wrong, task 0 is named.
-  pub tick_15 : (tick_of (busy false) (3 ∷ 2 ∷ [])).answer ≡ TickRefused 15 1
-  pub tick_first : (tick_of (busy false) (4 ∷ 2 ∷ [])).answer ≡ TickRefused 15 0
+  pub tick_15 : (tick_of (busy false) (3 ∷ 2 ∷ [])).answer ≡ TickRefused (NotRunning 1)
+  pub tick_first : (tick_of (busy false) (4 ∷ 2 ∷ [])).answer ≡ TickRefused (NotRunning 0)
   -- S9.16: the board of 5 processors has 10 bytes.
-  pub board_shorter : board_answer (busy false) 9 ≡ Refused 16 255
-  pub board_longer : board_answer (busy false) 11 ≡ Refused 16 255
-  pub board_fits : board_answer (busy false) 10 ≡ Accepted
+  pub board_shorter : board_answer (busy false) 9 ≡ Err WrongLength
+  pub board_longer : board_answer (busy false) 11 ≡ Err WrongLength
+  pub board_fits : board_answer (busy false) 10 ≡ Ok tt
   -- S3.4: a refused call hands the state and the buffer back.
   pub release_back : (release_of (calm true) 1).state ≡ calm true
   pub tick_back : (tick_of (busy false) (3 ∷ 2 ∷ [])).state ≡ busy false
   pub board_back : board_of (busy false) (7 ∷ 8 ∷ []) ≡ 7 ∷ 8 ∷ []
-  -- S3.1, S8.7: number and task of an accepted release, of a refused one, and of a tick that ran, switched or was refused.
+  -- S3.1, S8.7: number and task of an accepted release, of a refused one, and of a tick that ran, switched or was
+  -- refused.
   pub accepted_number : number_of (release_of (calm false) 0).answer ≡ 0
   pub accepted_task : task_of (release_of (calm false) 0).answer ≡ 255
   pub refused_number : number_of (release_of (calm true) 1).answer ≡ 12
@@ -135,7 +139,8 @@ pub record Worked : Type 0 where
   pub ended_both : (tick_of late (1 ∷ 1 ∷ [])).answer ≡ Ran
   -- S7.4, S8.6: the tick that brings task 0 to V leaves the kept task's job alive and drops the other low one.
   pub switch_keeps : tick_of (keeping_busy false 1 true) (0 ∷ 0 ∷ 0 ∷ []) ≡ record { state = keeping_busy true 2 false; answer = Switched 0 }
-  -- S8.9: the tick with which both nodes of task 0 end returns, and the kept job goes on; with one of them the job is alive, and the tick runs.
+  -- S8.9: the tick with which both nodes of task 0 end returns, and the kept job goes on; with one of them the job is
+  -- alive, and the tick runs.
   pub returned : (tick_of (keeping_busy true 2 false) (3 ∷ 0 ∷ 0 ∷ [])).answer ≡ Returned
   pub returned_number : tick_number (tick_of (keeping_busy true 2 false) (3 ∷ 0 ∷ 0 ∷ [])).answer ≡ 0
   pub returned_task : tick_task (tick_of (keeping_busy true 2 false) (3 ∷ 0 ∷ 0 ∷ [])).answer ≡ 255
@@ -154,7 +159,7 @@ pub record Worked : Type 0 where
   pub board_calm : board_of (calm false) (replicate 10 7) ≡ replicate 10 255
 
 worked : Worked
-unfolding has range level_lawful mask_lawful all_below masks_lawful is_high is_low is_kept is_subset all_ended predecessors_of is_ready ready running running_set released_row joined ticked_row has_high_job is_late survives switched_row unknown_task low_in_critical too_early wrong_count not_running row_at granted release_refusal tick_refusal released ticked step fixed_of job_of row_of with_row entry_sound entries_of model_of with_model is_sound release_of tick_of idle block board_bytes board_answer board_of figure_limit is_wide
+unfolding has range level_lawful mask_lawful all_below masks_lawful is_high is_low is_kept is_subset all_ended predecessors_of is_ready ready running running_set released_row joined ticked_row has_high_job is_late survives switched_row row_at granted release_refusal tick_refusal released ticked step fixed_of job_of row_of with_row entry_sound entries_of model_of with_model is_sound release_of tick_of idle block board_bytes board_answer board_of figure_limit is_wide
 worked =
     record {
       typical_most = refl;

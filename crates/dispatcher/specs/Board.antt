@@ -1,16 +1,14 @@
 -- S8.8: Board. Which node each processor runs, as M pairs of bytes.
-use Rattle.std.specs.Prelude.{ℕ, suc, ◌-◌, ◌*◌, not, List, [], ◌∷◌, ◌++◌, eqb, length, replicate}
-use Rattle.sheet.specs.declared.answer.Answer.{Answer}
-use Rattle.sheet.specs.declared.answer.Answer.TheVariants.{Accepted, Refused}
-use Rattle.sheet.specs.Answers.{no_task, refused_if, ◌or_else◌}
+use Rattle.std.specs.Prelude.{ℕ, suc, ◌-◌, ◌*◌, not, List, [], ◌∷◌, ◌++◌, eqb, length, replicate, Ok, Err}
+use Rattle.sheet.specs.declared.refusal.Refusal.TheVariants.{NotSound, WrongLength}
+use Rattle.sheet.specs.Refusal.{Answer, refused_if, ◌or_else◌}
 use Rattle.shares.specs.Totals.{share_total}
 use Rattle.model.specs.Row.{Row, running}
 use Rattle.model.specs.Step.{Model, granted}
 use Rattle.dispatcher.specs.declared.state.State.{State}
-use Rattle.dispatcher.specs.declared.board.Boarded.{Boarded}
+use Rattle.dispatcher.specs.Answers.{Boarded}
 use Rattle.dispatcher.specs.Holds.{model_of, row_shares}
 use Rattle.dispatcher.specs.Sound.{is_sound}
-use Rattle.dispatcher.specs.Answers.{not_sound, wrong_length}
 
 -- S8.8: a byte of a processor that runs nothing.
 abbrev pub unused : ℕ
@@ -25,7 +23,8 @@ abbrev pub pairs_of : ℕ → List ℕ → List ℕ
 pairs_of task [] = []
 pairs_of task (v ∷ nodes) = task ∷ v ∷ pairs_of task nodes
 
--- S8.8: a task's block, as long as what it is granted (S5.4): the running nodes, and behind them processors that run nothing.
+-- S8.8: a task's block, as long as what it is granted (S5.4): the running nodes, and behind them processors that run
+-- nothing.
 unfoldable pub block : ℕ → ℕ → Row → List ℕ
 block grant task r = pairs_of task (running grant r) ++ idle (grant - length (running grant r))
 
@@ -42,8 +41,8 @@ board_bytes processors m =
 -- S9.10, S9.16: Board's answer, where the buffer has so many bytes.
 unfoldable pub board_answer : State → ℕ → Answer
 board_answer s bytes =
-    refused_if (not (is_sound s)) not_sound no_task
-    or_else refused_if (not (eqb bytes (2 * s.processors))) wrong_length no_task
+    refused_if (not (is_sound s)) NotSound
+    or_else refused_if (not (eqb bytes (2 * s.processors))) WrongLength
 
 -- S8.8: what Board returns. The state is the one that was handed in.
 unfoldable pub boarded_of : State → ℕ → Boarded
@@ -51,8 +50,8 @@ boarded_of s bytes = record { state = s; answer = board_answer s bytes }
 
 -- S3.4: what an answer leaves in the buffer: the board if accepted, each byte as it was if refused.
 abbrev pub board_left : Answer → State → List ℕ → List ℕ
-board_left Accepted s buffer = board_bytes s.processors (model_of s)
-board_left (Refused number task) s buffer = buffer
+board_left (Ok x) s buffer = board_bytes s.processors (model_of s)
+board_left (Err r) s buffer = buffer
 
 -- S8.8: the buffer after the call.
 unfoldable pub board_of : State → List ℕ → List ℕ

@@ -1,95 +1,77 @@
-// S8.8: Board.
-ghost use Rattle.std.specs.Prelude.{◌≡◌, true, ◌+◌, ◌*◌, ◌≤◌, length, replicate};
+//! S8.8: Board.
+ghost use Rattle.std.specs.Prelude.{◌≡◌, true, ◌+◌, ◌*◌, ◌≤◌, length};
 ghost use Rattle.std.proofs.lemmas.List.Edits.{sets};
 ghost use Rattle.nodes.specs.Sets.{members};
-ghost use Rattle.sheet.specs.Answers.{number_of, task_of, Says};
+ghost use Rattle.sheet.specs.Refusal.{number_of, task_of, Says};
 ghost use Rattle.dispatcher.specs.Holds.{model_of};
 ghost use Rattle.dispatcher.specs.Sound.{is_sound};
-ghost use Rattle.dispatcher.specs.Board.{unused, idle, pairs_of, board_bytes, boarded_of, board_of};
+ghost use Rattle.dispatcher.specs.Board.{idle, pairs_of, board_bytes, board_answer, boarded_of, board_of};
 
-use crate::sound::{NOT_SOUND, is_sound};
-use crate::state::State;
-use entries::entry::{ready, running, share_in};
-use sheet::answer::{Answer, NO_TASK};
+use crate::state::{Answered, State};
+use nodes::NodeSet;
+use sheet::refusal::Refusal;
 
-const WRONG_LENGTH: u8 = 16;
-
+/// S8.8: what stands in both bytes of a processor that runs nothing.
 const UNUSED: u8 = 255;
 
-// Board's answer beside the state, which comes back as it is.
-#[derive(Clone, Copy)]
-pub struct Boarded {
-    pub state: State,
-    pub answer: Answer,
-}
+/// Board's answer beside the state, which comes back as it is.
+pub type Boarded = Answered<Result<(), Refusal>>;
 
-// S8.8: a board on which nothing runs.
-fn clear(buffer: &mut [u8])
-    ensures { buffer.new ≡ replicate (length buffer.old) unused }
-{
-    let mut at: usize = 0;
-    while at < buffer.len() {
-        buffer[at] = UNUSED;
-        at += 1;
-    }
-}
-
-// S8.8: a pair for each of a task's nodes, lowest first, from a place on.
-fn put_nodes(buffer: &mut [u8], at: usize, task: u8, nodes: u32)
+/// S8.8: a pair for each of a task's nodes, lowest first, from a place on.
+fn put_nodes(buffer: &mut [u8], at: usize, task: u8, nodes: NodeSet)
     requires { at + 2 * length (members 32 nodes) ≤ length buffer.old }
     ensures { buffer.new ≡ sets buffer.old at (pairs_of task (members 32 nodes)) }
 {
+    // The place goes on by a pair: `at + 2 * i` behind an `enumerate` would read no plainer.
     let mut place = at;
-    let mut rest = nodes;
-    while rest != 0 {
-        let v = u32::trailing_zeros(rest);
+    for v in nodes.iter() {
         buffer[place] = task;
+        // A member is below 32, and `u32` has no `From` to `u8`.
         buffer[place + 1] = v as u8;
-        rest -= 1 << v;
         place += 2;
     }
 }
 
-// S8.8: each task's running nodes, at the front of its block (S5.4), on a board that shows nothing.
-fn put_tasks(buffer: &mut [u8], state: State)
-    requires { (is_sound state ≡ true) × (buffer.old ≡ idle state.processors) }
-    ensures { buffer.new ≡ board_bytes state.processors (model_of state) }
+/// S8.8: each task's running nodes, at the front of its block (S5.4), on a board that shows nothing.
+fn put_tasks(buffer: &mut [u8], state: &State)
+    requires { (is_sound state.now ≡ true) × (buffer.old ≡ idle state.now.processors) }
+    ensures { buffer.new ≡ board_bytes state.now.processors (model_of state.now) }
 {
-    let n = state.count;
-    let mut at: usize = 0;
-    let mut i: u8 = 0;
-    while i < n {
-        let e = state.entries[i as usize];
-        let waiting = ready(e);
-        let grant = share_in(e.share, state.critical);
-        put_nodes(buffer, at, i, running(waiting, grant));
-        at += 2 * (grant as usize);
-        i += 1;
+    // A block begins where the one before it ends (S5.4), so that its place is a sum.
+    let mut at = 0;
+    for (i, e) in state.entries[..usize::from(state.count)].iter().enumerate() {
+        // i is below 16, and `usize` has no `From` to `u8`.
+        put_nodes(buffer, at, i as u8, e.running(state.critical));
+        at += 2 * usize::from(e.share.in_mode(state.critical));
     }
 }
 
-// S8.8: writes the 2M bytes that show which node each processor runs. S3.4: a refusal writes nothing.
+/// S8.8: writes the board, or is refused. S3.4: a refusal writes nothing.
+#[tactic(auto, unfolding(crate::specs::Board::board_answer, crate::specs::Board::board_of, crate::specs::Board::idle))]
+fn show(state: &State, buffer: &mut [u8]) -> Result<(), Refusal>
+    ensures answered { result ≡ board_answer state.now (length buffer.old) }
+    ensures written { buffer.new ≡ board_of state.now buffer.old }
+{
+    if !state.is_sound() {
+        return Err(Refusal::NotSound);
+    }
+    if buffer.len() != 2 * usize::from(state.processors) {
+        return Err(Refusal::WrongLength);
+    }
+    buffer.fill(UNUSED);
+    put_tasks(buffer, state);
+    Ok(())
+}
+
+/// S8.8: writes the 2M bytes that show which node each processor runs. S3.4: a refusal writes nothing.
+#[tactic(auto, unfolding(crate::specs::Board::boarded_of))]
 pub fn board(state: State, buffer: &mut [u8]) -> Boarded
     ensures answered { result ≡ boarded_of state (length buffer.old) }
-    ensures says { Says result.answer (number_of (boarded_of state (length buffer.old)).answer) (task_of (boarded_of state (length buffer.old)).answer) }
+    ensures says { Says result.answer
+        (number_of (boarded_of state (length buffer.old)).answer)
+        (task_of (boarded_of state (length buffer.old)).answer) }
     ensures written { buffer.new ≡ board_of state buffer.old }
 {
-    if !is_sound(state) {
-        return Boarded {
-            state,
-            answer: Answer::Refused(NOT_SOUND, NO_TASK),
-        };
-    }
-    if buffer.len() != 2 * (state.processors as usize) {
-        return Boarded {
-            state,
-            answer: Answer::Refused(WRONG_LENGTH, NO_TASK),
-        };
-    }
-    clear(buffer);
-    put_tasks(buffer, state);
-    Boarded {
-        state,
-        answer: Answer::Accepted,
-    }
+    let answer = show(&state, buffer);
+    Boarded { state, answer }
 }

@@ -1,8 +1,7 @@
-// The dispatcher: a state by value (S7), and the calls Release, Tick and Board on it (S8).
+//! The dispatcher: a state by value (S7), and the calls Release, Tick and Board on it (S8).
 #![tactic(auto)]
 
 pub mod board;
 pub mod release;
-mod sound;
 pub mod state;
 pub mod tick;

@@ -1,59 +1,52 @@
-// S8.4: Release.
-ghost use Rattle.std.specs.Prelude.{◌≡◌, true};
-ghost use Rattle.sheet.specs.Answers.{number_of, task_of, Says};
+//! S8.4: Release.
+ghost use Rattle.std.specs.Prelude.{◌≡◌, not};
+ghost use Rattle.sheet.specs.declared.refusal.Refusal.TheVariants.{NotSound};
+ghost use Rattle.sheet.specs.Refusal.{number_of, task_of, refused_if, ◌or_else◌, Says};
 ghost use Rattle.model.specs.Step.{release_refusal};
 ghost use Rattle.dispatcher.specs.Holds.{model_of};
 ghost use Rattle.dispatcher.specs.Sound.{is_sound};
-ghost use Rattle.dispatcher.specs.Answers.{refusal_answer};
 ghost use Rattle.dispatcher.specs.Calls.{release_of};
 
-use crate::sound::{NOT_SOUND, is_sound};
-use crate::state::State;
-use entries::entry::released;
-use entries::release::entry_answer;
-use sheet::answer::{Answer, NO_TASK};
+use crate::state::{Answered, State};
+use sheet::refusal::Refusal;
 
-const UNKNOWN_TASK: u8 = 11;
+/// Release's answer beside the state that it returns.
+pub type Released = Answered<Result<(), Refusal>>;
 
-// Release's answer beside the state that it returns.
-#[derive(Clone, Copy)]
-pub struct Released {
-    pub state: State,
-    pub answer: Answer,
-}
-
-// Refusals 11 to 13 (S9), the first that holds.
-fn release_answer(state: State, task: usize) -> Answer
-    requires { is_sound state ≡ true }
-    ensures { result ≡ refusal_answer (release_refusal (model_of state) task) }
+/// Refusals 10 to 13 (S9), the first that holds.
+fn release_answer(state: &State, task: usize) -> Result<(), Refusal>
+    ensures { result ≡ (
+        refused_if (not (is_sound state.now)) NotSound or_else release_refusal (model_of state.now) task) }
 {
-    if state.count as usize <= task {
-        return Answer::Refused(UNKNOWN_TASK, NO_TASK);
+    if !state.is_sound() {
+        return Err(Refusal::NotSound);
     }
-    let e = state.entries[task];
-    entry_answer(e, state.critical, task as u8)
+    if usize::from(state.count) <= task {
+        return Err(Refusal::UnknownTask);
+    }
+    // A task below n is a byte: `try_from` would ask for an answer to a refusal that can't be.
+    state.entries[task].release_answer(state.critical, task as u8)
 }
 
-// S8.4: begins a job of a task. S3.4: a refused call hands the state back.
+/// S8.4: begins a job of a task. S3.4: a refused call hands the state back.
 pub fn release(state: State, task: usize) -> Released
     ensures whole { result ≡ release_of state task }
-    ensures says { Says result.answer (number_of (release_of state task).answer) (task_of (release_of state task).answer) }
+    ensures says { Says result.answer
+        (number_of (release_of state task).answer)
+        (task_of (release_of state task).answer) }
 {
-    if !is_sound(state) {
-        return Released {
+    match release_answer(&state, task) {
+        Err(refusal) => Released {
             state,
-            answer: Answer::Refused(NOT_SOUND, NO_TASK),
-        };
-    }
-    let answer = release_answer(state, task);
-    if let Answer::Refused(_, _) = answer {
-        return Released { state, answer };
-    }
-    let mut next = state;
-    let e = next.entries[task];
-    next.entries[task] = released(e);
-    Released {
-        state: next,
-        answer: Answer::Accepted,
+            answer: Err(refusal),
+        },
+        Ok(()) => {
+            let mut next = state;
+            next.entries[task].release();
+            Released {
+                state: next,
+                answer: Ok(()),
+            }
+        }
     }
 }

@@ -1,78 +1,45 @@
-// S8.5 to S8.7, S8.9: Tick.
-ghost use Rattle.std.specs.Prelude.{◌≡◌, true, cond, map, ◌≤◌};
-ghost use Rattle.model.specs.Row.{switched_row};
-ghost use Rattle.model.specs.Step.{wrong_count};
+//! S8.5 to S8.7, S8.9: Tick.
+ghost use Rattle.std.specs.Prelude.{◌≡◌, ◌≤◌, cond, IfOk, IfErr};
+ghost use Rattle.basics.specs.Lists.{any};
+ghost use Rattle.model.specs.Row.{has_high_job};
+ghost use Rattle.model.specs.Step.{lowest_late, turning};
 ghost use Rattle.dispatcher.specs.Holds.{model_of, with_model};
 ghost use Rattle.dispatcher.specs.Sound.{is_sound};
-ghost use Rattle.dispatcher.specs.Answers.{not_sound, tick_number, tick_task, TickSays};
+ghost use Rattle.dispatcher.specs.Answers.{tick_answer, tick_number, tick_task, TickSays};
 ghost use Rattle.dispatcher.specs.Calls.{tick_of};
+ghost use Rattle.dispatcher.specs.means.Passed.{HasPassed};
 
-use crate::sound::{NOT_SOUND, is_sound, ranges_kept};
-use crate::state::State;
-use entries::entry::{has_high_job, is_late, ready, running, share_in, switched, ticked};
-use entries::pass::{no_pass, passed, shares_fit};
-use entries::sound::entry_sound;
-use sheet::answer::NO_TASK;
+use crate::state::{Answered, State};
+use entries::pass::Pass;
+use nodes::NodeSet;
+use sheet::refusal::Refusal;
 
-const WRONG_COUNT: u8 = 14;
-
-const NOT_RUNNING: u8 = 15;
-
-// S8.7: a tick ran, it switched for a task, it returned, or it was refused with a number and a task.
-#[derive(Clone, Copy)]
+/// S8.7: a tick ran, it switched for a task, it returned, or it was refused.
+/// No `Result`: the buyer asks for an enum in a struct beside the state.
+#[derive(Clone, Copy, Debug, PartialEq, Eq)]
 pub enum TickAnswer {
     Ran,
     Switched(u8),
     Returned,
-    Refused(u8, u8),
+    Refused(Refusal),
 }
 
-// A tick's answer beside the state that it returns.
-#[derive(Clone, Copy)]
-pub struct Ticked {
-    pub state: State,
-    pub answer: TickAnswer,
-}
+/// A tick's answer beside the state that it returns.
+pub type Ticked = Answered<TickAnswer>;
 
-// S8.6: the state turned critical, without the jobs of low tasks.
-fn switched_all(state: State) -> State
-    requires { state.count ≤ 16 }
-    ensures { result ≡ with_model state (record { critical = true; rows = map switched_row (model_of state).rows }) }
+/// S9.10, S9.14: the refusal where the reports are not one for each task. Soundness comes first.
+fn miscounted(state: &State) -> Refusal
+    ensures { result ≡ cond (is_sound state.now) Refusal.WrongCount Refusal.NotSound }
 {
-    let n = state.count as usize;
-    let mut next = state;
-    next.critical = true;
-    let mut i: usize = 0;
-    while i < n {
-        let e = next.entries[i];
-        next.entries[i] = switched(e);
-        i += 1;
-    }
-    next
-}
-
-// S9.10, S9.14: the number of the refusal where the reports are not one for each task. Soundness comes first.
-fn miscounted(state: State) -> u8
-    ensures { result ≡ cond (is_sound state) wrong_count not_sound }
-{
-    if is_sound(state) {
-        WRONG_COUNT
+    if state.is_sound() {
+        Refusal::WrongCount
     } else {
-        NOT_SOUND
+        Refusal::NotSound
     }
 }
 
-// S3.4: a refusal beside the state as it came.
-fn refused(state: State, number: u8, task: u8) -> Ticked
-    ensures { result ≡ (record { state = state; answer = TickAnswer.Refused number task }) }
-{
-    Ticked {
-        state,
-        answer: TickAnswer::Refused(number, task),
-    }
-}
-
-// S8.9: the answer of a tick in critical mode, after which a high job is alive or none is.
+/// S8.9: the answer of a tick in critical mode, after which a high job is alive or none is.
+/// No `From`: that a bool means these two answers holds here alone.
 fn critical_answer(high: bool) -> TickAnswer
     ensures { result ≡ cond high TickAnswer.Ran TickAnswer.Returned }
 {
@@ -83,59 +50,87 @@ fn critical_answer(high: bool) -> TickAnswer
     }
 }
 
-// S8.5 to S8.7, S8.9: the reported nodes end, the ages grow, and the mode may turn. S3.4: a refused call hands the state back.
-// The tasks are passed once: soundness, reports and each task's part of the tick.
+/// S8.5: each task's part of a tick, in one pass: soundness, its report, and what it becomes. Where the tick is refused
+/// the state is left half way: the caller has it as it was.
+/// The reports are a list of the caller's (S8.5), so they stand beside the entries.
+fn pass_over(state: &mut State, reports: &[u32]) -> Result<Pass, Refusal>
+    ensures refused { IfErr result
+        (λ r. tick_of state.old reports.now ≡ record { state = state.old; answer = TickAnswer.Refused r }) }
+    ensures passed { IfOk result (λ p. HasPassed state.old reports.now p state.new) }
+{
+    if reports.len() != usize::from(state.count) {
+        return Err(miscounted(state));
+    }
+    if !state.is_in_range() {
+        return Err(Refusal::NotSound);
+    }
+    let processors = state.processors;
+    let critical = state.critical;
+    let mut pass = Pass::default();
+    // Of entries by `iter_mut` beside their reports, by `zip`, no proof knows the values.
+    for i in 0..state.count {
+        let e = &mut state.entries[usize::from(i)];
+        if !e.is_sound() {
+            return Err(Refusal::NotSound);
+        }
+        let report = reports[usize::from(i)];
+        let wrong = !NodeSet::from_bits(report).is_subset(e.running(critical));
+        e.tick(report);
+        pass.add(i, e.share, wrong, e.is_late(), e.has_high_job());
+    }
+    if !pass.fits(processors) {
+        return Err(Refusal::NotSound);
+    }
+    if let Some(task) = pass.wrong {
+        return Err(Refusal::NotRunning(task));
+    }
+    Ok(pass)
+}
+
+/// S8.6, S8.9: what becomes of the mode after the tasks' parts of a tick, by the lowest late task and whether a high
+/// job is alive.
+fn turn(state: &mut State, late: Option<u8>, high: bool) -> TickAnswer
+    requires few { state.old.count ≤ 16 }
+    requires lowest { late ≡ lowest_late 0 (model_of state.old).rows }
+    requires alive { high ≡ any has_high_job (model_of state.old).rows }
+    ensures answered { result ≡ tick_answer (turning state.old.critical (model_of state.old).rows).answer }
+    ensures turned { state.new ≡ with_model state.old
+        (turning state.old.critical (model_of state.old).rows).model }
+{
+    if state.critical {
+        state.critical = high;
+        return critical_answer(high);
+    }
+    match late {
+        None => TickAnswer::Ran,
+        Some(task) => {
+            state.switch();
+            TickAnswer::Switched(task)
+        }
+    }
+}
+
+/// S8.5 to S8.7, S8.9: the reported nodes end, the ages grow, and the mode may turn. S3.4: a refused call hands the
+/// state back.
+/// The arms are as `release`'s: one frame for both calls would take closures and read no plainer.
 pub fn tick(state: State, reports: &[u32]) -> Ticked
     ensures whole { result ≡ tick_of state reports.now }
-    ensures says { TickSays result.answer (tick_number (tick_of state reports.now).answer) (tick_task (tick_of state reports.now).answer) }
+    ensures says { TickSays result.answer
+        (tick_number (tick_of state reports.now).answer)
+        (tick_task (tick_of state reports.now).answer) }
 {
-    let n = state.count;
-    if reports.len() != n as usize {
-        return refused(state, miscounted(state), NO_TASK);
-    }
-    if !ranges_kept(state.processors, n) {
-        return refused(state, NOT_SOUND, NO_TASK);
-    }
     let mut next = state;
-    let mut pass = no_pass();
-    let mut i: u8 = 0;
-    while i < n {
-        let e = next.entries[i as usize];
-        if !entry_sound(e) {
-            return refused(state, NOT_SOUND, NO_TASK);
+    match pass_over(&mut next, reports) {
+        Err(refusal) => Ticked {
+            state,
+            answer: TickAnswer::Refused(refusal),
+        },
+        Ok(pass) => {
+            let answer = turn(&mut next, pass.late, pass.high);
+            Ticked {
+                state: next,
+                answer,
+            }
         }
-        let report = reports[i as usize];
-        let after = ticked(e, report);
-        let waiting = ready(e);
-        let grant = share_in(e.share, state.critical);
-        let wrong = !nodes::is_within(report, running(waiting, grant));
-        let late = is_late(after);
-        let high = has_high_job(after);
-        pass = passed(pass, i, e.share, wrong, late, high);
-        next.entries[i as usize] = after;
-        i += 1;
-    }
-    if !shares_fit(pass, state.processors) {
-        return refused(state, NOT_SOUND, NO_TASK);
-    }
-    if pass.wrong != NO_TASK {
-        return refused(state, NOT_RUNNING, pass.wrong);
-    }
-    if state.critical {
-        next.critical = pass.high;
-        return Ticked {
-            state: next,
-            answer: critical_answer(pass.high),
-        };
-    }
-    if pass.late == NO_TASK {
-        return Ticked {
-            state: next,
-            answer: TickAnswer::Ran,
-        };
-    }
-    Ticked {
-        state: switched_all(next),
-        answer: TickAnswer::Switched(pass.late),
     }
 }

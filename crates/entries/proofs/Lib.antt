@@ -1,5 +1,4 @@
 -- Laws that belong to no one function.
 pub mod NodeSets
 pub mod Soundness
-pub mod Refusals
 pub mod Worked

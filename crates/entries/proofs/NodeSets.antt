@@ -1,4 +1,5 @@
--- Sets of nodes as the code keeps them: a subset, all nodes ended, the ready nodes gathered one by one, and the lowest of them.
+-- Sets of nodes as the code keeps them: a subset, all nodes ended, the ready nodes gathered one by one, and the lowest
+-- of them.
 use Prim.Native.Nat.{ℕ, suc, ◌+◌, ◌-◌, ◌≤◌, ◌<◌, ◌^◌, min}
 use mathlib.Core.Path.{◌≡◌, sym, ap, ◌∙◌}
 use mathlib.Core.Bool.{Bool, true, false, not, ◌&&◌, and_comm}
@@ -69,7 +70,8 @@ module _ (p : ℕ → Bool) (k : ℕ) where
 unfoldable pub is_unblocked : Row → ℕ → Bool
 is_unblocked r v = is_subset (predecessors_of r.fixed.predecessors v) r.job.ended
 
--- The ready nodes: none of a job that is not alive, and of an alive one those that wait for no node, less the ended ones.
+-- The ready nodes: none of a job that is not alive, and of an alive one those that wait for no node, less the ended
+-- ones.
 pub ready_none : (r : Row) → r.job.alive ≡ false → 0 ≡ set_of (ready r)
 unfolding ready is_ready
 ready_none r dead = ap set_of (sym (keep_none (is_ready r) (range 0 r.fixed.nodes) (λ v m. rw dead)))

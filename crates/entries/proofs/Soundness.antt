@@ -1,7 +1,7 @@
 -- What soundness says of an entry, as facts.
 use Prim.Native.Nat.{ℕ, suc, ◌-◌, ◌≤◌, ◌<◌, ◌^◌, min}
 use mathlib.Core.Path.{◌≡◌}
-use mathlib.Core.Bool.{Bool, true, false, not, ◌&&◌, and-eq-true_iff, and-true, and-false}
+use mathlib.Core.Bool.{Bool, true, not, ◌&&◌, and-eq-true_iff}
 use native.Mathlib.Nat.{min-eq_left}
 use native.Mathlib.Omega.{arith}
 use borrow.Author.Tests.{leb-true, ltb-true, le-leb, lt-ltb}
@@ -89,23 +89,11 @@ sound_entry e s =
       eighth = s.alive;
     })
 
--- The tests as the code makes them: k first, and the ended set against the set of all k nodes.
-pub nodes_broken : (e : TaskState) → within 1 32 e.nodes ≡ false → entry_sound e ≡ false
-unfolding entry_sound
-nodes_broken e t = rw (t, and-false)
-
-below_full : (k x : ℕ) → k ≤ 32 → leb x (set_of (range 0 (min k 32))) ≡ ltb x (2 ^ k)
+-- The ended set against the set of all k nodes.
+pub below_full : (k x : ℕ) → k ≤ 32 → leb x (set_of (range 0 (min k 32))) ≡ ltb x (2 ^ k)
 below_full k x h =
     let full : set_of (range 0 (min k 32)) ≡ 2 ^ k - 1 = rw (min-eq_left {n = k} {m = 32} h) (set_of-range k) in
     rw full (leb_same x (2 ^ k - 1) (suc x) (2 ^ k) (λ t. omega (arith, pow_pos k)) (λ t. omega (arith, pow_pos k)))
-
-pub entry_by_tests : (e : TaskState) (level masks figures gone : Bool) (full : ℕ) → within 1 32 e.nodes ≡ true
-    → level ≡ level_lawful e.level → masks ≡ masks_lawful e.predecessors e.nodes → figures ≡ within 1 (figure_limit e.level) e.deadline
-    → full ≡ set_of (range 0 (min e.nodes 32)) → gone ≡ all_ended e.nodes e.job.ended
-    → (level && masks && figures && leb e.virtual_deadline e.deadline && leb e.age e.deadline && leb e.job.ended full && not (e.job.alive && gone)) ≡ entry_sound e
-unfolding entry_sound
-entry_by_tests e level masks figures gone full k l m f all g =
-    rw (l, m, f, all, g, k, and-true, below_full e.nodes e.job.ended (within_bounds 1 32 e.nodes k).1)
 
 pub few_nodes : (e : TaskState) → entry_sound e ≡ true → e.nodes ≤ 32
 few_nodes e t = (within_bounds 1 32 e.nodes (entry_facts e t).nodes).1

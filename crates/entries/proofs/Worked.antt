@@ -81,7 +81,8 @@ pub record Worked : Type 0 where
   -- S7.2: an alive job has a node that has not ended.
   pub alive_some : entry_sound (entry 1 2 chain 45 9 5 1 true) ≡ true
   pub alive_none : entry_sound (entry 1 2 chain 45 9 5 3 true) ≡ false
-  -- S7.4, S8.6: a switch leaves the jobs of a high task and of a low one that is kept; the least critical share keeps it.
+  -- S7.4, S8.6: a switch leaves the jobs of a high task and of a low one that is kept; the least critical share keeps
+  -- it.
   pub stays_high : survives (sharing 1 2 2) ≡ true
   pub stays_kept : survives (sharing 0 2 2) ≡ true
   pub stays_least : survives (sharing 0 2 1) ≡ true

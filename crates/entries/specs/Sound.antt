@@ -6,8 +6,8 @@ use Rattle.sheet.specs.Rules.{masks_lawful}
 use Rattle.model.specs.Row.{all_ended}
 use Rattle.entries.specs.declared.state.TaskState.{TaskState}
 
--- S7.2, of one entry, in the clause's order. An ended set without a node from k on is a number below 2 to the power of k; and no
--- alive job has ended all its nodes.
+-- S7.2, of one entry, in the clause's order. An ended set without a node from k on is a number below 2 to the power of
+-- k; and no alive job has ended all its nodes.
 unfoldable pub entry_sound : TaskState → Bool
 entry_sound e =
     level_lawful e.level

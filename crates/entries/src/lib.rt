@@ -1,8 +1,5 @@
-// One task's entry of a state (S7.1): its soundness, its running nodes, and what each call makes of it.
+//! One task's entry of a state (S7.1): its soundness, its running nodes, and what each call makes of it.
 #![tactic(auto)]
 
-pub mod entry;
 pub mod pass;
-pub mod release;
-pub mod sound;
 pub mod state;

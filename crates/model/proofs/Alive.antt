@@ -1,5 +1,6 @@
--- An alive high job that keeps its overload budget is younger than D: it began with the last Release of its task, and with D ticks behind it it
--- would be over. What is asked of the high jobs of a list holds of each beginning of it, so that this speaks of every moment.
+-- An alive high job that keeps its overload budget is younger than D: it began with the last Release of its task, and
+-- with D ticks behind it it would be over. What is asked of the high jobs of a list holds of each beginning of it, so
+-- that this speaks of every moment.
 use Prim.Native.Nat.{ℕ, ◌≤◌, ◌<◌}
 use mathlib.Core.Path.{◌≡◌, refl, sym, ap, subst, ◌∙◌}
 use mathlib.Core.Bool.{Bool, true, false, true≢false, and-eq-true_iff}
@@ -30,8 +31,8 @@ use Rattle.model.proofs.Apart.{age_after, age_begun, row_known}
 use Rattle.model.proofs.Course.{dead_step}
 use Rattle.model.proofs.Deadline.{high_over}
 
--- Where the alive job of task i after a list of calls began: before them, and none of the task is released in them; or with a Release
--- among them, behind which there is no other.
+-- Where the alive job of task i after a list of calls began: before them, and none of the task is released in them; or
+-- with a Release among them, behind which there is no other.
 data Origin (m : Model) (i : ℕ) (calls : List Call) : Type 0 where
   old : (row_at m i).job.alive ≡ true → releases_in i m calls ≡ 0 → Origin m i calls
   young : (job : ReleaseIn m i calls) → releases_in i (begun job) job.since ≡ 0 → Origin m i calls

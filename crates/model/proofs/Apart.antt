@@ -1,21 +1,21 @@
--- S10.10: releases of a task lie D ticks apart. The age of a job is at most the number of accepted ticks since its release, and a
--- Release is accepted only at age D.
+-- S10.10: releases of a task lie D ticks apart. The age of a job is at most the number of accepted ticks since its
+-- release, and a Release is accepted only at age D.
 use Prim.Native.Nat.{ℕ, suc, ◌+◌, ◌≤◌, ◌<◌, min}
 use mathlib.Core.Path.{◌≡◌, refl, sym, ap, ◌∙◌}
 use mathlib.Core.Bool.{Bool, true, false, cond, not, ◌&&◌, ◌||◌, false≢true}
 use mathlib.Core.List.{List, [], ◌∷◌, ◌++◌}
-use mathlib.Core.Option.{none}
 use native.Mathlib.Omega.{arith}
 use borrow.Author.Tests.{ltb-false}
 use lib.Dec.{leb}
 use lib.ListN.{length, get_or}
 use Rattle.sheet.specs.declared.task.TaskSet.{TaskSet}
 use Rattle.shares.specs.declared.share.Share.{Share}
-use Rattle.sheet.specs.Answers.{no_task}
+use Rattle.std.specs.Prelude.{is_ok}
+use Rattle.sheet.specs.declared.refusal.Refusal.TheVariants.{UnknownTask, LowInCritical, TooEarly}
+use Rattle.sheet.specs.Refusal.{refused_if, ◌or_else◌}
 use Rattle.sheet.specs.Format.{task_in}
 use Rattle.model.specs.Row.{Fixed, Row, released_row, ticked_row, survives, switched_row}
-use Rattle.model.specs.Step.{Model, Call, release, tick, refusal, unknown_task, low_in_critical, too_early, release_refusal, row_at}
-use Rattle.basics.specs.Lists.{is_none}
+use Rattle.model.specs.Step.{Model, Call, release, tick, release_refusal, row_at}
 use Rattle.model.specs.Run.{after, is_accepted, is_tick, is_release_of, count_calls, ticks_in, releases_in}
 use Rattle.model.specs.Plan.{fresh_row, fresh, Planned}
 use Rattle.model.specs.Claim.{ReleaseIn, begun, DeadlinePassed}
@@ -33,7 +33,7 @@ release_aged m i e =
     omega (arith, ltb-false)
   where
     go : (unknown low alive early : Bool) →
-        is_none (cond unknown (refusal unknown_task no_task) (cond low (refusal low_in_critical i) (cond (alive || early) (refusal too_early i) none)))
+        is_ok (refused_if unknown UnknownTask or_else refused_if low (LowInCritical i) or_else refused_if (alive || early) (TooEarly i))
         ≡ true →
         early ≡ false
     go true low alive early n = absurd (false≢true n)

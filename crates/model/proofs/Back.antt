@@ -1,19 +1,22 @@
--- S10.13, back in time: after a switch every task grows older with each tick, and an alive high job is younger than D. So as long as no high
--- task is released, fewer ticks pass than the longest deadline has until no high job is alive, and the tick with which that is so returns.
+-- S10.13, back in time: after a switch every task grows older with each tick, and an alive high job is younger than D.
+-- So as long as no high task is released, fewer ticks pass than the longest deadline has until no high job is alive,
+-- and the tick with which that is so returns.
 use Prim.Native.Nat.{ℕ, ◌+◌, ◌-◌, ◌≤◌, ◌<◌, min}
 use mathlib.Core.Path.{◌≡◌, refl, sym, ap, ap₂, subst, ◌∙◌}
 use mathlib.Core.Bool.{Bool, true, false, cond, not, ◌&&◌, ◌||◌, true≢false, false≢true, and-eq-true_iff, or-true}
 use mathlib.Core.List.{List, [], ◌∷◌, ◌++◌, map, append_assoc}
-use mathlib.Core.Option.{Option, none, some}
+use Rattle.std.specs.Prelude.{Option, Some, None}
 use native.Mathlib.Omega.{arith}
 use lib.ListN.{length}
-use Rattle.basics.specs.Lists.{any, is_none}
+use Rattle.std.specs.Prelude.{Result, Ok, Err, ⊤, is_ok}
+use Rattle.sheet.specs.declared.refusal.Refusal.{Refusal}
+use Rattle.basics.specs.Lists.{any}
 use Rattle.basics.proofs.Lists.{any_some}
 use Rattle.sheet.specs.declared.task.TaskSet.{TaskSet}
 use Rattle.sheet.specs.Level.{is_high}
 use Rattle.shares.specs.declared.share.Share.{Share}
 use Rattle.model.specs.Row.{Fixed, Row, has_high_job, is_late, switched_row}
-use Rattle.model.specs.Step.{Model, Call, release, tick, Refusal, Step, step, step_by, row_at, no_row, refusal_of, released, ticked_rows, lowest_late, switched_to, returned_to, turning, ticked}
+use Rattle.model.specs.Step.{Model, Call, release, tick, Step, step, step_by, row_at, no_row, refusal_of, released, ticked_rows, lowest_late, switched_to, returned_to, turning, ticked}
 use Rattle.model.specs.Run.{after, is_accepted, is_tick, ticks_in}
 use Rattle.model.specs.Plan.{fresh, Planned}
 use Rattle.model.specs.Claim.{is_switched, is_returned}
@@ -32,7 +35,8 @@ record SomeHigh (m : Model) : Type 0 where
   pub known : task < length m.rows
   pub job : has_high_job (row_at m task) ≡ true
 
--- The mode is critical, n ticks after the switch: a high job is alive, and each high task is older than n, or as old as D.
+-- The mode is critical, n ticks after the switch: a high job is alive, and each high task is older than n, or as old as
+-- D.
 record Waiting (m : Model) (n : ℕ) : Type 0 where
   pub critical : m.critical ≡ true
   pub some : SomeHigh m
@@ -56,9 +60,9 @@ idle_answer m (tick reports) idle = go (is_returned (step m (tick reports)).answ
     go false e = refl
 idle_answer m (release i) idle = go (refusal_of m (release i))
   where
-    go : (o : Option Refusal) → is_returned (step_by o m (release i)).answer ≡ false
-    go none = refl
-    go (some r) = refl
+    go : (o : Result ⊤ Refusal) → is_returned (step_by o m (release i)).answer ≡ false
+    go (Ok x) = refl
+    go (Err r) = refl
 
 -- A Release of task i in a list that waits for the return: the task is not high.
 not_high : (m : Model) (i : ℕ) (x : Call) → x ≡ release i → is_accepted m x ≡ true → is_high_release m x ≡ false →
@@ -181,15 +185,15 @@ back limit (x ∷ calls) m n w early waits enough =
     go y e false is rest =
         then n (omega (arith, ap {B = ℕ} (λ (b : Bool). cond b 1 0) is)) (waiting_idle m n x w is parts.0) (idle_answer m x is) rest
 
-not_some : {i : ℕ} → ◌≡◌ {A = Option ℕ} none (some i) → ⊥
+not_some : {i : ℕ} → ◌≡◌ {A = Option ℕ} None (Some i) → ⊥
 not_some e = let z : ◌≡◌ {A = ℕ} 0 1 = cc in omega arith
 
 -- Where a lowest late task is found, some task is late.
-late_found : (j : ℕ) (rows : List Row) (i : ℕ) → lowest_late j rows ≡ some i → any is_late rows ≡ true
+late_found : (j : ℕ) (rows : List Row) (i : ℕ) → lowest_late j rows ≡ Some i → any is_late rows ≡ true
 late_found j [] i e = absurd (not_some e)
 late_found j (r ∷ rows) i e = go (is_late r) _ _ e (late_found _ rows i)
   where
-    go : (t : Bool) (q : ℕ) (o : Option ℕ) → cond t (some q) o ≡ some i → (o ≡ some i → any is_late rows ≡ true) →
+    go : (t : Bool) (q : ℕ) (o : Option ℕ) → cond t (Some q) o ≡ Some i → (o ≡ Some i → any is_late rows ≡ true) →
         (t || any is_late rows) ≡ true
     go true q o e then = refl
     go false q o e then = then e
@@ -215,7 +219,7 @@ record Switching (m : Model) (reports : List ℕ) : Type 0 where
   pub accepted : is_accepted m (tick reports) ≡ true
   pub typical : m.critical ≡ false
   pub task : ℕ
-  pub lowest : lowest_late 0 (ticked_rows m.rows reports) ≡ some task
+  pub lowest : lowest_late 0 (ticked_rows m.rows reports) ≡ Some task
 
 switching : (m : Model) (reports : List ℕ) → is_switched (step m (tick reports)).answer ≡ true → Switching m reports
 unfolding step is_accepted ticked
@@ -224,23 +228,23 @@ switching m reports said = go (refusal_of m (tick reports)) refl said
     rows : List Row
     rows = ticked_rows m.rows reports
 
-    late : (o : Option ℕ) → lowest_late 0 rows ≡ o → is_switched (switched_to rows o).answer ≡ true → (i : ℕ) × (lowest_late 0 rows ≡ some i)
-    late none found e = absurd (false≢true e)
-    late (some i) found e = (i, found)
+    late : (o : Option ℕ) → lowest_late 0 rows ≡ o → is_switched (switched_to rows o).answer ≡ true → (i : ℕ) × (lowest_late 0 rows ≡ Some i)
+    late None found e = absurd (false≢true e)
+    late (Some i) found e = (i, found)
 
     high : (t : Bool) → is_switched (returned_to rows t).answer ≡ true → ⊥
     high true e = false≢true e
     high false e = false≢true e
 
-    mode : (t : Bool) → is_switched (turning t rows).answer ≡ true → (t ≡ false) × ((i : ℕ) × (lowest_late 0 rows ≡ some i))
+    mode : (t : Bool) → is_switched (turning t rows).answer ≡ true → (t ≡ false) × ((i : ℕ) × (lowest_late 0 rows ≡ Some i))
     mode true e = absurd (high (any has_high_job rows) e)
     mode false e = (refl, late (lowest_late 0 rows) refl e)
 
-    go : (o : Option Refusal) → refusal_of m (tick reports) ≡ o → is_switched (step_by o m (tick reports)).answer ≡ true → Switching m reports
-    go none o e =
+    go : (o : Result ⊤ Refusal) → refusal_of m (tick reports) ≡ o → is_switched (step_by o m (tick reports)).answer ≡ true → Switching m reports
+    go (Ok x) o e =
         let found = mode m.critical e in
-        record { accepted = ap is_none o; typical = found.0; task = found.1.0; lowest = found.1.1 }
-    go (some r) o e = absurd (false≢true e)
+        record { accepted = ap is_ok o; typical = found.0; task = found.1.0; lowest = found.1.1 }
+    go (Err r) o e = absurd (false≢true e)
 
 -- Just after a switch a high job is alive, and one tick has passed since each release.
 switch_waits : (m : Model) (reports : List ℕ) → Switching m reports → Waiting (next m (tick reports)) 0

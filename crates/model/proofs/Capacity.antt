@@ -1,4 +1,5 @@
--- S10.8, capacity: each task runs at most what it is granted, the grants are the shares in the mode, and these total at most M.
+-- S10.8, capacity: each task runs at most what it is granted, the grants are the shares in the mode, and these total at
+-- most M.
 use Prim.Native.Nat.{ℕ, ◌+◌, ◌≤◌, ◌<◌, zero-le}
 use mathlib.Core.Path.{◌≡◌, refl, ap, ◌∙◌}
 use mathlib.Core.Bool.{Bool}

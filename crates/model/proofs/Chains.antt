@@ -1,5 +1,5 @@
--- Sums along chains, and the step of the deadline theorem: where a node with work left either runs or waits for one with work left,
--- every chain with work left after the tick had less than some chain before it.
+-- Sums along chains, and the step of the deadline theorem: where a node with work left either runs or waits for one
+-- with work left, every chain with work left after the tick had less than some chain before it.
 use Prim.Native.Nat.{ℕ, ◌+◌, ◌≤◌, ◌<◌}
 use mathlib.Core.Path.{◌≡◌}
 use mathlib.Core.Bool.{Bool, true}

@@ -1,6 +1,6 @@
--- The deadline theorem over any bound on the full ticks in typical mode. Of a task's job it asks that (a) it survives a switch;
--- (b) while it is alive, so many of the ticks behind it at most were full ones in typical mode; (c) with so few it is alive only
--- below D. Who shows (b) and (c), and for which bound, is left open.
+-- The deadline theorem over any bound on the full ticks in typical mode. Of a task's job it asks that (a) it survives a
+-- switch; (b) while it is alive, so many of the ticks behind it at most were full ones in typical mode; (c) with so few
+-- it is alive only below D. Who shows (b) and (c), and for which bound, is left open.
 use Prim.Native.Nat.{ℕ, ◌+◌, ◌*◌, ◌≤◌, ◌<◌}
 use mathlib.Core.Path.{◌≡◌, sym, ap, subst, ◌∙◌}
 use mathlib.Core.Bool.{true, true≢false}

@@ -1,4 +1,5 @@
--- A job over a list of calls: true reports carried from call to call, one call of an alive job, and a job that has ended.
+-- A job over a list of calls: true reports carried from call to call, one call of an alive job, and a job that has
+-- ended.
 use Prim.Native.Nat.{ℕ, ◌+◌, ◌<◌}
 use mathlib.Core.Path.{◌≡◌, refl, sym, ap, subst, subst₃, fun_ext, ◌∙◌}
 use mathlib.Core.Bool.{Bool, true, false, cond, ◌&&◌, ◌||◌, true≢false, and-true}
@@ -112,8 +113,8 @@ over_after m (x ∷ calls) i h none o =
     let z = count_zero (is_release_of i m x) (releases_in i (next m x) calls) none in
     over_after (next m x) calls i (rw (length-step m x) h) z.1 (over_step m x i h z.0 o)
 
--- What a call that is no Release of its task makes of an alive job: it is no accepted tick and nothing happens; or a tick runs, and
--- the job goes on, is dropped by a switch that it does not survive, or ends.
+-- What a call that is no Release of its task makes of an alive job: it is no accepted tick and nothing happens; or a
+-- tick runs, and the job goes on, is dropped by a switch that it does not survive, or ends.
 module _ {len : ℕ → ℕ} {work span : ℕ} {r : Row} {c : ℕ → ℕ} {n : ℕ} (live : Live len work span r c n) where
   pub data Moved (critical worked : Bool) (r' : Row) (critical' : Bool) (d : ℕ → ℕ) : Type 0 where
     rests : worked ≡ false → critical' ≡ critical → r' ≡ r → d ≡ c → (l : Live len work span r' d n) →

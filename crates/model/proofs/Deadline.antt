@@ -1,5 +1,6 @@
--- S10.7, deadline: a high job under its overload budget ends within D accepted ticks. While it is alive, at most V of the ticks
--- behind it were full ones in typical mode: in typical mode there are fewer than V in all, and in critical mode no more of them come.
+-- S10.7, deadline: a high job under its overload budget ends within D accepted ticks. While it is alive, at most V of
+-- the ticks behind it were full ones in typical mode: in typical mode there are fewer than V in all, and in critical
+-- mode no more of them come.
 use Prim.Native.Nat.{ℕ, ◌≤◌, ◌<◌}
 use mathlib.Core.Path.{◌≡◌, refl, sym, ap, ◌∙◌}
 use mathlib.Core.Bool.{Bool, true, false, ◌||◌, false≢true}

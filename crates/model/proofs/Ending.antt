@@ -1,5 +1,5 @@
--- A job over a list of calls is over once D accepted ticks have passed, if something holds at its start that every call keeps, that
--- allows an alive job fewer than D ticks, and under which no switch drops it. By induction on the calls.
+-- A job over a list of calls is over once D accepted ticks have passed, if something holds at its start that every call
+-- keeps, that allows an alive job fewer than D ticks, and under which no switch drops it. By induction on the calls.
 use Prim.Native.Nat.{ℕ, ◌+◌, ◌≤◌, ◌<◌}
 use mathlib.Core.Path.{◌≡◌, refl, sym, ap, subst, ◌∙◌}
 use mathlib.Core.Bool.{Bool, true, false, cond}
@@ -51,7 +51,8 @@ module _ (len : ℕ → ℕ) (work span i : ℕ) (f : Fixed) where
     pub full : OneMore now.model.critical now.live.full₁ now.live.full₂ later.live.full₁ later.live.full₂
     pub calm : later.model.critical ≡ false → is_late (row_at later.model i) ≡ false
 
-  -- An accepted tick by which the job is lost to a switch: before the switch it was alive, with one more tick behind it.
+  -- An accepted tick by which the job is lost to a switch: before the switch it was alive, with one more tick behind
+  -- it.
   pub record Dropped (now : Moment) (x : Call) : Type 0 where
     pub accepted : is_tick now.model x ≡ true
     pub lost : survives f ≡ false

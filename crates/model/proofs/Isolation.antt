@@ -1,11 +1,11 @@
--- S10.14 and S10.15: one task seen by itself. What a tick leaves of a task is told by its row at the tick count before, how often it was
--- released since, the tick's report, and the modes before and after. So two tasks whose rows differ in their shares alone go on together
--- while they are given the same and have the same share in each mode that stands.
+-- S10.14 and S10.15: one task seen by itself. What a tick leaves of a task is told by its row at the tick count before,
+-- how often it was released since, the tick's report, and the modes before and after. So two tasks whose rows differ in
+-- their shares alone go on together while they are given the same and have the same share in each mode that stands.
 use Prim.Native.Nat.{ℕ, zero, suc, ◌+◌, ◌≤◌, ◌<◌}
 use mathlib.Core.Path.{◌≡◌, refl, sym, ap, ap₂, ◌∙◌}
 use mathlib.Core.Bool.{Bool, true, false, cond, ◌&&◌, ◌||◌, true≢false}
 use mathlib.Core.List.{List, [], ◌∷◌, ◌++◌}
-use mathlib.Core.Option.{Option, none, some}
+use Rattle.std.specs.Prelude.{Option, Some, None}
 use native.Mathlib.Omega.{arith}
 use lib.Dec.{ltb}
 use lib.ListN.{length}
@@ -296,8 +296,8 @@ unfolding ticked
 stays_typical m c e unswitched = go c (is_accepted m c) refl unswitched
   where
     late : (rows : List Row) (o : Option ℕ) → is_switched (switched_to rows o).answer ≡ false → (switched_to rows o).model.critical ≡ false
-    late rows none u = refl
-    late rows (some j) u = absurd (true≢false u)
+    late rows None u = refl
+    late rows (Some j) u = absurd (true≢false u)
 
     go : (c : Call) (t : Bool) → is_accepted m c ≡ t → is_switched (step m c).answer ≡ false → (next m c).critical ≡ false
     go c false a u = ap (λ (n : Model). n.critical) (refused_step m c a) ∙ e

@@ -1,5 +1,5 @@
--- One row through one tick, with a job whose reports are true: the model's sets are the tests of the job's mathematics, and the
--- ended nodes are those that have run their lengths.
+-- One row through one tick, with a job whose reports are true: the model's sets are the tests of the job's mathematics,
+-- and the ended nodes are those that have run their lengths.
 use Prim.Native.Nat.{ℕ, ◌+◌, ◌*◌, ◌≤◌, ◌<◌, ◌^◌, min}
 use mathlib.Core.Path.{◌≡◌, refl, sym, ap, ap₂, ◌∙◌}
 use mathlib.Core.Bool.{Bool, true, false, not, ◌&&◌, ◌||◌, true≢false}
@@ -97,8 +97,8 @@ all_ended_test k set =
 abbrev pub pace : Fixed → Share
 pace f = f.share
 
--- The job of a row is alive, n accepted ticks after its release: each node v ran on c v of them and has ended if that is its length.
--- Of these ticks full₁ were full in typical and full₂ in critical mode, and partial ones were not full.
+-- The job of a row is alive, n accepted ticks after its release: each node v ran on c v of them and has ended if that
+-- is its length. Of these ticks full₁ were full in typical and full₂ in critical mode, and partial ones were not full.
 pub record Live (len : ℕ → ℕ) (work span : ℕ) (r : Row) (c : ℕ → ℕ) (n : ℕ) : Type 0 where
   pub alive : r.job.alive ≡ true
   pub sound : KeptSound r
@@ -188,7 +188,8 @@ module _ {len : ℕ → ℕ} {work span : ℕ} {r : Row} {c : ℕ → ℕ} {n : 
       ∙ sym (ended_same len d (next grant r.fixed.nodes (precedes r.fixed.predecessors) len c) v
       (counts v ∙ ap (λ (t : Bool). c v + bit t) (ran_is grant v l)))
 
-  -- What an accepted tick with a true report makes of an alive job. The grant is the pace in the mode, whoever decided it.
+  -- What an accepted tick with a true report makes of an alive job. The grant is the pace in the mode, whoever decided
+  -- it.
   pub data AfterTick (critical : Bool) (r' : Row) (d : ℕ → ℕ) : Type 0 where
     goes_on : (l : Live len work span r' d (n + 1)) → OneMore critical live.full₁ live.full₂ l.full₁ l.full₂ →
         AfterTick critical r' d

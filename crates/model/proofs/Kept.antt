@@ -1,5 +1,5 @@
--- S10.11, a job of a kept low task under its budget: it has the same share in both modes, so that a full tick in critical mode
--- counts as one in typical mode, and while it is alive fewer than D have passed; and no switch drops it.
+-- S10.11, a job of a kept low task under its budget: it has the same share in both modes, so that a full tick in
+-- critical mode counts as one in typical mode, and while it is alive fewer than D have passed; and no switch drops it.
 use Prim.Native.Nat.{ℕ, ◌+◌, ◌*◌, ◌<◌}
 use mathlib.Core.Path.{◌≡◌, refl, sym, ap, ◌∙◌}
 use mathlib.Core.Bool.{Bool, true, false, ◌||◌, true≢false, and-eq-true_iff}
@@ -38,7 +38,8 @@ unfolding is_kept
 kept_facts level s kept =
     let both = (and-eq-true_iff (is_low level) (ltb 0 s.critical)).0 kept in (both.0, ltb-true 0 s.critical both.1)
 
--- A job that survives the switch, and whose budget is closed whatever the full ticks in typical mode: nothing else is asked.
+-- A job that survives the switch, and whose budget is closed whatever the full ticks in typical mode: nothing else is
+-- asked.
 always : (len : ℕ → ℕ) (work span i : ℕ) (f : Fixed) → survives f ≡ true → ((bound : ℕ) → Closes work span bound f) →
     Invariant len work span i f (λ now calls. Unit {0})
 always len work span i f stays closes =

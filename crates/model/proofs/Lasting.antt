@@ -4,7 +4,7 @@ use Prim.Native.Nat.{ℕ, ◌≤◌, ◌<◌, ◌^◌}
 use mathlib.Core.Path.{◌≡◌, refl, sym, ap, subst, ◌∙◌}
 use mathlib.Core.Bool.{Bool, true, false, not, false≢true, and-eq-true_iff}
 use mathlib.Core.List.{List, [], ◌∷◌, map}
-use mathlib.Core.Option.{Option, none, some}
+use Rattle.std.specs.Prelude.{Option, Some, None}
 use native.Mathlib.Omega.{arith}
 use borrow.Author.Tests.{not-true}
 use lib.Bits.{bit_or, or_lt}
@@ -40,8 +40,8 @@ fixed_turning true rows = go (any has_high_job rows)
 fixed_turning false rows = go (lowest_late 0 rows)
   where
     go : (o : Option ℕ) → map fixed_part (switched_to rows o).model.rows ≡ map fixed_part rows
-    go none = refl
-    go (some j) = fixed_switched rows
+    go None = refl
+    go (Some j) = fixed_switched rows
 
 fixed_accepted : (m : Model) (c : Call) → is_accepted m c ≡ true → map fixed_part (next m c).rows ≡ map fixed_part m.rows
 unfolding released ticked released_row row_at
@@ -87,7 +87,8 @@ pub no_row_lem : (m : Model) (i : ℕ) → length m.rows ≤ i → row_at m i �
 unfolding row_at
 no_row_lem m i h = get_or-eq_default m.rows no_row h
 
--- A property of a row that a tick's part and the switch keep is kept by every call, if a Release of the task brings it too.
+-- A property of a row that a tick's part and the switch keep is kept by every call, if a Release of the task brings it
+-- too.
 pub kept_by_call : (P : Row → Type 0) →
     ((r : Row) (grant report : ℕ) → is_subset report (running_set grant r) ≡ true → P r → P (ticked_row r report)) →
     ((r : Row) → P r → P (switched_row r)) →

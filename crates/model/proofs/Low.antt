@@ -1,5 +1,5 @@
--- S10.10, a low job under its budget: as long as the mode is typical, all its full ticks are typical ones, so that while it is alive
--- fewer than D have passed; and a tick that drops it would be the D-th or a later one.
+-- S10.10, a low job under its budget: as long as the mode is typical, all its full ticks are typical ones, so that
+-- while it is alive fewer than D have passed; and a tick that drops it would be the D-th or a later one.
 use Prim.Native.Nat.{ℕ, ◌+◌, ◌<◌}
 use mathlib.Core.Path.{◌≡◌, refl, sym, ap, subst, ◌∙◌}
 use mathlib.Core.Bool.{Bool, true, false, cond, true≢false}

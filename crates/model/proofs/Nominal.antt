@@ -1,10 +1,11 @@
--- S10.9, nominal: while every high job keeps its nominal budget under true reports, an alive one has fewer than V ticks behind it, so
--- that no tick switches. By induction on the calls, with what is known of each alive high job and of each Release to come.
+-- S10.9, nominal: while every high job keeps its nominal budget under true reports, an alive one has fewer than V ticks
+-- behind it, so that no tick switches. By induction on the calls, with what is known of each alive high job and of each
+-- Release to come.
 use Prim.Native.Nat.{ℕ, suc, ◌+◌, ◌≤◌, ◌<◌}
 use mathlib.Core.Path.{◌≡◌, refl, sym, ap, ap₂, subst, ◌∙◌}
 use mathlib.Core.Bool.{Bool, true, false, cond, not, ◌||◌, true≢false, and-eq-true_iff}
 use mathlib.Core.List.{List, [], ◌∷◌}
-use mathlib.Core.Option.{Option, none, some}
+use Rattle.std.specs.Prelude.{Option, Some, None}
 use native.Mathlib.Omega.{arith}
 use borrow.Author.Tests.{leb-true}
 use lib.ListN.{length, get_or}
@@ -13,8 +14,9 @@ use Rattle.sheet.specs.declared.task.TaskSet.{TaskSet}
 use Rattle.shares.specs.declared.share.Share.{Share}
 use Rattle.shares.proofs.Ends.{nominal_ends}
 use Rattle.model.specs.Row.{Fixed, Row, all_ended, joined, ticked_row, has_high_job, is_late}
-use Rattle.model.specs.Step.{Model, Call, release, tick, Refusal, Step, step, step_by, refusal_of, row_at, no_row, released, ticked_rows, lowest_late, switched_to, turning, ticked}
-use Rattle.basics.specs.Lists.{is_none}
+use Rattle.model.specs.Step.{Model, Call, release, tick, Step, step, step_by, refusal_of, row_at, no_row, released, ticked_rows, lowest_late, switched_to, turning, ticked}
+use Rattle.std.specs.Prelude.{Result, Ok, Err, ⊤, is_ok}
+use Rattle.sheet.specs.declared.refusal.Refusal.{Refusal}
 use Rattle.model.specs.Run.{is_accepted, is_tick, is_release_of}
 use Rattle.sheet.specs.Format.{task_in}
 use Rattle.shares.specs.Totals.{share_at}
@@ -52,13 +54,13 @@ record Calm (m : Model) (calls : List Call) : Type 0 where
   pub coming : (i : ℕ) (job : ReleaseIn m i calls) → is_high (row_at m i).fixed.level ≡ true → Honest i (begun job) job.since
 
 none_late_intro : (j : ℕ) (rows : List Row) → ((i : ℕ) → i < length rows → is_late (get_or rows i no_row) ≡ false) →
-    lowest_late j rows ≡ none
+    lowest_late j rows ≡ None
 none_late_intro j [] h = refl
 none_late_intro j (r ∷ rows) h =
     go (is_late r) _ _ (h 0 (omega arith)) (none_late_intro _ rows (λ i b. h (suc i) (omega arith)))
   where
-    go : (t : Bool) (q : ℕ) (o : Option ℕ) → t ≡ false → o ≡ none → cond t (some q) o ≡ none
-    go t q o e n = ap (λ (b : Bool). cond b (some q) o) e ∙ n
+    go : (t : Bool) (q : ℕ) (o : Option ℕ) → t ≡ false → o ≡ None → cond t (Some q) o ≡ None
+    go t q o e n = ap (λ (b : Bool). cond b (Some q) o) e ∙ n
 
 -- No job is late if it is below V, where it is an alive one of a high task.
 below_not_late : (r : Row) → (is_high r.fixed.level ≡ true → r.job.alive ≡ true → r.age < r.fixed.virtual_deadline) → is_late r ≡ false
@@ -124,7 +126,7 @@ quiet_tick m reports calls calm a =
         ap is_late (get_ticked m.rows reports i (tick_tests m reports a).0 known)
         ∙ part_not_late m reports calls calm a i known
 
-    e : step m (tick reports) ≡ switched_to rows none
+    e : step m (tick reports) ≡ switched_to rows None
     e =
         accepted_step_lem m (tick reports) a
         ∙ ap (λ (t : Bool). turning t rows) calm.typical
@@ -140,10 +142,10 @@ quiet_refused m x typical a =
       unreturned = answered.1;
     }
   where
-    go : (o : Option Refusal) → is_none o ≡ false →
+    go : (o : Result ⊤ Refusal) → is_ok o ≡ false →
         (is_switched (step_by o m x).answer ≡ false) × (is_returned (step_by o m x).answer ≡ false)
-    go none e = absurd (true≢false e)
-    go (some r) e = (refl, refl)
+    go (Ok x) e = absurd (true≢false e)
+    go (Err r) e = (refl, refl)
 
 quiet_step : (m : Model) (x : Call) (calls : List Call) → Calm m (x ∷ calls) → Quiet m x
 unfolding released

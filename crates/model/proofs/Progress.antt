@@ -1,5 +1,6 @@
--- The invariant of the deadline theorem for one job: each full tick uses up a share of the work, each partial one a tick of the span.
--- A tick on which the job is alive is full if at least as many nodes are ready as its share, else partial.
+-- The invariant of the deadline theorem for one job: each full tick uses up a share of the work, each partial one a
+-- tick of the span. A tick on which the job is alive is full if at least as many nodes are ready as its share, else
+-- partial.
 use Prim.Native.Nat.{ℕ, ◌+◌, ◌*◌, ◌-◌, ◌≤◌, ◌<◌}
 use mathlib.Core.Path.{◌≡◌, refl, ap, sym, ◌∙◌}
 use mathlib.Core.Bool.{Bool, true, false, not, cond}
@@ -13,9 +14,9 @@ use Rattle.model.proofs.Sums.{sum_same, sum_add, sum_zero, sum_at_lem, count_som
 use Rattle.model.proofs.Chains.{Earlier, along_le, along_same, longer_before}
 use Rattle.model.proofs.JobTick.{ended, ready, runs, next, remaining, Alive, alive_same, runs_same, ready_or_waits, some_ready, unended_less, less_unended, next_within, sum_next}
 
--- A job of which each node v ran on c v ticks, over f₁ full ticks with share a, f₂ full ticks with share b and p partial ticks.
--- No node ran more than its length. A full tick ran as many nodes as its share, a partial one at least one.
--- Each partial tick took one tick off what is left along every chain that still has work left.
+-- A job of which each node v ran on c v ticks, over f₁ full ticks with share a, f₂ full ticks with share b and p
+-- partial ticks. No node ran more than its length. A full tick ran as many nodes as its share, a partial one at least
+-- one. Each partial tick took one tick off what is left along every chain that still has work left.
 pub record Progress (k : ℕ) (precedes : ℕ → ℕ → Bool) (len : ℕ → ℕ) (a b span : ℕ) (c : ℕ → ℕ) (f₁ f₂ p : ℕ) : Type 0 where
   pub within : (v : ℕ) → v < k → c v ≤ len v
   pub spent : a * f₁ + b * f₂ + p ≤ sum_below k c
@@ -73,8 +74,9 @@ module _ {k : ℕ} {precedes : ℕ → ℕ → Bool} {len : ℕ → ℕ} {a b sp
       let chain : len v - c v + p ≤ span = g.chains v [] (alone alive.below) (omega arith) in
       (omega arith, omega (arith, run_and_left g, keeps.work, g.spent))
 
--- What a tick makes of the numbers of full and partial ticks: one of them grows by one, that of the partial ticks or that of
--- the full ticks in the mode, critical or not, in which the tick ran. Each node v has run on d v ticks after it.
+-- What a tick makes of the numbers of full and partial ticks: one of them grows by one, that of the partial ticks or
+-- that of the full ticks in the mode, critical or not, in which the tick ran. Each node v has run on d v ticks after
+-- it.
 pub record Ticked
     (k : ℕ)
     (precedes : ℕ → ℕ → Bool)

@@ -1,4 +1,5 @@
--- A job at its release in a list of calls from the fresh model: its task is known, its row is that of the plan, and it is live.
+-- A job at its release in a list of calls from the fresh model: its task is known, its row is that of the plan, and it
+-- is live.
 use Prim.Native.Nat.{ℕ, ◌<◌}
 use mathlib.Core.Path.{◌≡◌, sym, ap, subst, ◌∙◌}
 use mathlib.Core.Bool.{Bool, true, cond, not}

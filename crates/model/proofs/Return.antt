@@ -1,19 +1,24 @@
--- S10.12: a tick returns just where it finds the mode critical and leaves no high job alive; then every task may be released.
+-- S10.12: a tick returns just where it finds the mode critical and leaves no high job alive; then every task may be
+-- released.
 use Prim.Native.Nat.{ℕ, ◌≤◌, ◌<◌}
 use mathlib.Core.Path.{◌≡◌, refl, sym, ap, ◌∙◌}
-use mathlib.Core.Bool.{Bool, true, false, cond, not, ◌&&◌, ◌||◌, false≢true}
+use mathlib.Core.Bool.{Bool, true, false, not, ◌&&◌, ◌||◌, false≢true}
 use mathlib.Core.List.{List}
-use mathlib.Core.Option.{Option, none, some}
+use Rattle.std.specs.Prelude.{Option, Some, None}
 use native.Mathlib.Omega.{arith}
 use native.Mathlib.Decide.{dec_lt, dec_le}
 use borrow.Author.Tests.{le-leb, lt-leb, lt-ltb, le-ltb}
 use lib.Dec.{leb, ltb}
 use lib.ListN.{length, get_or}
-use Rattle.basics.specs.Lists.{any, is_none}
+use Rattle.std.specs.Prelude.{Result, Ok, Err, ⊤, is_ok}
+use Rattle.sheet.specs.declared.refusal.Refusal.{Refusal}
+use Rattle.sheet.specs.declared.refusal.Refusal.TheVariants.{TooEarly}
+use Rattle.sheet.specs.Refusal.{refused_if}
+use Rattle.basics.specs.Lists.{any}
 use Rattle.basics.proofs.Lists.{any_none, none_any}
 use Rattle.sheet.specs.Level.{is_high}
 use Rattle.model.specs.Row.{Row, has_high_job}
-use Rattle.model.specs.Step.{Model, tick, Refusal, refusal, Step, step, step_by, returned, too_early, row_at, no_row, release_refusal, refusal_of, ticked_rows, lowest_late, switched_to, returned_to, turning, ticked}
+use Rattle.model.specs.Step.{Model, tick, Step, step, step_by, returned, row_at, no_row, release_refusal, refusal_of, ticked_rows, lowest_late, switched_to, returned_to, turning, ticked}
 use Rattle.model.specs.Run.{is_accepted}
 use Rattle.model.specs.Claim.{is_returned}
 use Rattle.model.specs.Return.{MayReturn, OpenToAll, ReturnLaw}
@@ -47,8 +52,8 @@ returning m reports said = go (refusal_of m (tick reports)) refl said
     rows = ticked_rows m.rows reports
 
     late : (o : Option ℕ) → is_returned (switched_to rows o).answer ≡ true → ⊥
-    late none e = false≢true e
-    late (some i) e = false≢true e
+    late None e = false≢true e
+    late (Some i) e = false≢true e
 
     high : (t : Bool) → is_returned (returned_to rows t).answer ≡ true → t ≡ false
     high true e = absurd (false≢true e)
@@ -58,10 +63,10 @@ returning m reports said = go (refusal_of m (tick reports)) refl said
     mode true e = (refl, high (any has_high_job rows) e)
     mode false e = absurd (late (lowest_late 0 rows) e)
 
-    go : (o : Option Refusal) → refusal_of m (tick reports) ≡ o → is_returned (step_by o m (tick reports)).answer ≡ true →
+    go : (o : Result ⊤ Refusal) → refusal_of m (tick reports) ≡ o → is_returned (step_by o m (tick reports)).answer ≡ true →
         Returning m reports
-    go none o e = let both = mode m.critical e in record { accepted = ap is_none o; critical = both.0; none = both.1 }
-    go (some r) o e = absurd (false≢true e)
+    go (Ok x) o e = let both = mode m.critical e in record { accepted = ap is_ok o; critical = both.0; none = both.1 }
+    go (Err r) o e = absurd (false≢true e)
 
 -- What an accepted tick in critical mode does.
 pub critical_tick : (m : Model) (reports : List ℕ) → is_accepted m (tick reports) ≡ true → m.critical ≡ true →
@@ -130,7 +135,7 @@ open_typical m typical =
     }
   where
     go : (i : ℕ) (alive : Bool) → Dec ((row_at m i).fixed.deadline ≤ (row_at m i).age) →
-        is_none (cond (alive || ltb (row_at m i).age (row_at m i).fixed.deadline) (refusal too_early i) none)
+        is_ok (refused_if (alive || ltb (row_at m i).age (row_at m i).fixed.deadline) (TooEarly i))
         ≡ (not alive && leb (row_at m i).fixed.deadline (row_at m i).age)
     go i true d = refl
     go i false (yes h) = rw (le-leb (row_at m i).fixed.deadline (row_at m i).age h, le-ltb (row_at m i).age (row_at m i).fixed.deadline h)

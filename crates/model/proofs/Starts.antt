@@ -1,4 +1,5 @@
--- S8.2 and S8.3: a node starts only when each of its predecessors has ended: the test of `is_ready` by sets, read bit by bit.
+-- S8.2 and S8.3: a node starts only when each of its predecessors has ended: the test of `is_ready` by sets, read bit
+-- by bit.
 use Prim.Native.Nat.{ℕ, ◌+◌, ◌≤◌, ◌<◌, min}
 use mathlib.Core.Path.{◌≡◌, sym, ap, ap₂, subst, ◌∙◌}
 use mathlib.Core.Bool.{Bool, true, not, ◌&&◌, and-eq-true_iff}

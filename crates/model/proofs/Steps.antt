@@ -1,9 +1,9 @@
 -- What one step does to one row: nothing, a release, or its part of a tick and perhaps the switch.
 use Prim.Native.Nat.{ℕ, zero, suc, ◌+◌, ◌<◌}
 use mathlib.Core.Path.{◌≡◌, refl, sym, ap, ap₂, subst₂, ◌∙◌}
-use mathlib.Core.Bool.{Bool, true, false, cond, ◌&&◌, true≢false, false≢true, and-false}
+use mathlib.Core.Bool.{Bool, true, false, cond, not, ◌&&◌, true≢false, false≢true, and-false}
 use mathlib.Core.List.{List, [], ◌∷◌, ◌++◌, map}
-use mathlib.Core.Option.{Option, none, some}
+use Rattle.std.specs.Prelude.{Option, Some, None}
 use native.Mathlib.Omega.{arith}
 use native.Mathlib.Decide.{ℕ_discrete}
 use borrow.Author.Tests.{eqb-true, leb-false, eq-eqb, ne_eqb}
@@ -12,9 +12,12 @@ use lib.ListN.{length, get_or, get_or-map}
 use lib.Seq.{get_or-set_same, get_or-set_other}
 use Rattle.basics.proofs.Lists.{any_none}
 use Rattle.model.specs.Row.{Row, is_subset, running_set, released_row, ticked_row, has_high_job, is_late, switched_row}
-use Rattle.sheet.specs.Answers.{no_task}
-use Rattle.model.specs.Step.{Model, Call, release, tick, Refusal, refusal, unknown_task, wrong_count, Step, step, step_by, row_at, no_row, granted, release_refusal, report_refusal, tick_refusal, refusal_of, released, ticked_rows, lowest_late, switched_to, returned_to, turning, ticked}
-use Rattle.basics.specs.Lists.{any, is_none}
+use Rattle.std.specs.Prelude.{Result, Ok, Err, ⊤, is_ok}
+use Rattle.sheet.specs.declared.refusal.Refusal.{Refusal}
+use Rattle.sheet.specs.declared.refusal.Refusal.TheVariants.{UnknownTask, WrongCount}
+use Rattle.sheet.specs.Refusal.{refused_if, ◌or_else◌}
+use Rattle.model.specs.Step.{Model, Call, release, tick, Step, step, step_by, row_at, no_row, granted, release_refusal, report_refusal, tick_refusal, refusal_of, released, ticked_rows, lowest_late, switched_to, returned_to, turning, ticked}
+use Rattle.basics.specs.Lists.{any}
 use Rattle.model.specs.Run.{after, is_accepted, is_tick, is_release_of}
 
 -- The model after one call.
@@ -38,9 +41,9 @@ zero_count false n e z = omega arith
 pub false_and : (x y : Bool) → x ≡ false → (x && y) ≡ false
 false_and x y e = ap (λ (t : Bool). t && y) e
 
-none_is : (o : Option Refusal) → is_none o ≡ true → o ≡ none
-none_is none e = refl
-none_is (some r) e = absurd (false≢true e)
+ok_is : (o : Result ⊤ Refusal) → is_ok o ≡ true → o ≡ Ok tt
+ok_is (Ok x) e = refl
+ok_is (Err r) e = absurd (false≢true e)
 
 pub length-ticked : (rows : List Row) (reports : List ℕ) → length (ticked_rows rows reports) ≡ length rows
 length-ticked [] reports = refl
@@ -56,28 +59,28 @@ get_ticked (r ∷ rows) (x ∷ reports) (suc i) e h = get_ticked rows reports i 
 
 -- No report of an accepted tick has a node that is not running.
 get_subset : (grants : ℕ → ℕ) (j : ℕ) (rows : List Row) (reports : List ℕ) (i : ℕ) →
-    is_none (report_refusal grants j rows reports) ≡ true → length reports ≡ length rows → i < length rows →
+    is_ok (report_refusal grants j rows reports) ≡ true → length reports ≡ length rows → i < length rows →
     is_subset (get_or reports i 0) (running_set (grants (j + i)) (get_or rows i no_row)) ≡ true
 get_subset grants j [] reports i e l h = absurd (omega arith)
 get_subset grants j (r ∷ rows) [] i e l h = absurd (omega arith)
 get_subset grants j (r ∷ rows) (x ∷ reports) i e l h =
     go i h (is_subset x (running_set (grants j) r)) refl _ _ e (λ u n b. get_subset grants (suc j) rows reports u n (omega arith) b)
   where
-    go : (i : ℕ) → i < suc (length rows) → (t : Bool) → is_subset x (running_set (grants j) r) ≡ t → (o : Option Refusal) (q : Refusal) →
-        is_none (cond t o (some q)) ≡ true →
-        ((u : ℕ) → is_none o ≡ true → u < length rows →
+    go : (i : ℕ) → i < suc (length rows) → (t : Bool) → is_subset x (running_set (grants j) r) ≡ t → (o : Result ⊤ Refusal) (q : Refusal) →
+        is_ok (refused_if (not t) q or_else o) ≡ true →
+        ((u : ℕ) → is_ok o ≡ true → u < length rows →
         is_subset (get_or reports u 0) (running_set (grants (suc j + u)) (get_or rows u no_row)) ≡ true) →
         is_subset (get_or (x ∷ reports) i 0) (running_set (grants (j + i)) (get_or (r ∷ rows) i no_row)) ≡ true
     go zero b true s o q n rest = let here : j + 0 ≡ j = omega arith in rw here s
     go (suc u) b true s o q n rest = let there : j + suc u ≡ suc j + u = omega arith in rw there (rest u n (omega arith))
     go u b false s o q n rest = absurd (false≢true n)
 
-none_late : (j : ℕ) (rows : List Row) (i : ℕ) → lowest_late j rows ≡ none → i < length rows → is_late (get_or rows i no_row) ≡ false
+none_late : (j : ℕ) (rows : List Row) (i : ℕ) → lowest_late j rows ≡ None → i < length rows → is_late (get_or rows i no_row) ≡ false
 none_late j [] i e h = absurd (omega arith)
 none_late j (r ∷ rows) i e h = go i h (is_late r) refl _ _ e (none_late _ rows)
   where
-    go : (i : ℕ) → i < suc (length rows) → (t : Bool) → is_late r ≡ t → (q : ℕ) (o : Option ℕ) → cond t (some q) o ≡ none →
-        ((u : ℕ) → o ≡ none → u < length rows → is_late (get_or rows u no_row) ≡ false) →
+    go : (i : ℕ) → i < suc (length rows) → (t : Bool) → is_late r ≡ t → (q : ℕ) (o : Option ℕ) → cond t (Some q) o ≡ None →
+        ((u : ℕ) → o ≡ None → u < length rows → is_late (get_or rows u no_row) ≡ false) →
         is_late (get_or (r ∷ rows) i no_row) ≡ false
     go i b true s q o n rest = let z : ◌≡◌ {A = ℕ} 0 1 = cc in absurd (omega arith)
     go zero b false s q o n rest = s
@@ -100,8 +103,8 @@ early_none : (r : Row) → has_high_job r ≡ false → is_late r ≡ false
 unfolding is_late
 early_none r e = false_and (has_high_job r) _ e
 
--- What an accepted tick leaves of task i: its part of the tick, in critical or in typical mode, and in typical mode the task is not late;
--- or the tick switched.
+-- What an accepted tick leaves of task i: its part of the tick, in critical or in typical mode, and in typical mode the
+-- task is not late; or the tick switched.
 pub data Settled (after : Model) (i : ℕ) (part : Row) : Type 0 where
   in_critical : after.critical ≡ true → row_at after i ≡ part → Settled after i part
   in_typical : after.critical ≡ false → row_at after i ≡ part → is_late part ≡ false → Settled after i part
@@ -117,10 +120,11 @@ settle true rows i h = high (any has_high_job rows) refl
 settle false rows i h = late (lowest_late 0 rows) refl
   where
     late : (o : Option ℕ) → lowest_late 0 rows ≡ o → Settled (switched_to rows o).model i (get_or rows i no_row)
-    late none e = in_typical refl refl (none_late 0 rows i e h)
-    late (some j) e = turns refl (get_switched rows i)
+    late None e = in_typical refl refl (none_late 0 rows i e h)
+    late (Some j) e = turns refl (get_switched rows i)
 
--- What a tick makes of a row by the mode before it and the mode after it: the switch is a turn from the typical to the critical one.
+-- What a tick makes of a row by the mode before it and the mode after it: the switch is a turn from the typical to the
+-- critical one.
 abbrev pub turned_row : Bool → Bool → Row → Row
 turned_row true after r = r
 turned_row false true r = switched_row r
@@ -137,8 +141,8 @@ turned_row_lem true rows i = high (any has_high_job rows)
 turned_row_lem false rows i = late (lowest_late 0 rows)
   where
     late : (o : Option ℕ) → get_or (switched_to rows o).model.rows i no_row ≡ turned_row false (switched_to rows o).model.critical (get_or rows i no_row)
-    late none = refl
-    late (some j) = get_switched rows i
+    late None = refl
+    late (Some j) = get_switched rows i
 
 -- An accepted tick, as task i sees it.
 pub record TickAt (m : Model) (i : ℕ) (reports : List ℕ) : Type 0 where
@@ -157,24 +161,24 @@ pub data Turn (m : Model) (i : ℕ) (c : Call) : Type 0 where
   begins : c ≡ release i → is_accepted m c ≡ true → ReleaseAt m i → Turn m i c
   ticks : (reports : List ℕ) → c ≡ tick reports → is_accepted m c ≡ true → TickAt m i reports → Turn m i c
 
-pub accepted_step_lem : (m : Model) (c : Call) → is_accepted m c ≡ true → step m c ≡ step_by none m c
+pub accepted_step_lem : (m : Model) (c : Call) → is_accepted m c ≡ true → step m c ≡ step_by (Ok tt) m c
 unfolding is_accepted step
-accepted_step_lem m c e = ap (λ (o : Option Refusal). step_by o m c) (none_is (refusal_of m c) e)
+accepted_step_lem m c e = ap (λ (o : Result ⊤ Refusal). step_by o m c) (ok_is (refusal_of m c) e)
 
 pub refused_step : (m : Model) (c : Call) → is_accepted m c ≡ false → next m c ≡ m
 unfolding is_accepted step
 refused_step m c e = go (refusal_of m c) e
   where
-    go : (o : Option Refusal) → is_none o ≡ false → (step_by o m c).model ≡ m
-    go none e = absurd (true≢false e)
-    go (some r) e = refl
+    go : (o : Result ⊤ Refusal) → is_ok o ≡ false → (step_by o m c).model ≡ m
+    go (Ok x) e = absurd (true≢false e)
+    go (Err r) e = refl
 
 -- An accepted Release names a task: refusal 11 does not hold.
 release_known : (m : Model) (i : ℕ) → is_accepted m (release i) ≡ true → i < length m.rows
 unfolding is_accepted release_refusal
 release_known m i e = leb-false (length m.rows) i (go (leb (length m.rows) i) _ e)
   where
-    go : (t : Bool) (o : Option Refusal) → is_none (cond t (refusal unknown_task no_task) o) ≡ true → t ≡ false
+    go : (t : Bool) (o : Result ⊤ Refusal) → is_ok (refused_if t UnknownTask or_else o) ≡ true → t ≡ false
     go true o n = absurd (false≢true n)
     go false o n = refl
 
@@ -191,13 +195,13 @@ release_at m i e =
 
 -- What the refusals 14 and 15 leave of an accepted tick.
 pub tick_tests : (m : Model) (reports : List ℕ) → is_accepted m (tick reports) ≡ true →
-    (length reports ≡ length m.rows) × (is_none (report_refusal (granted m) 0 m.rows reports) ≡ true)
+    (length reports ≡ length m.rows) × (is_ok (report_refusal (granted m) 0 m.rows reports) ≡ true)
 unfolding is_accepted tick_refusal
 tick_tests m reports e = go (eqb (length reports) (length m.rows)) refl e
   where
     go : (t : Bool) → eqb (length reports) (length m.rows) ≡ t →
-        is_none (cond t (report_refusal (granted m) 0 m.rows reports) (refusal wrong_count no_task)) ≡ true →
-        (length reports ≡ length m.rows) × (is_none (report_refusal (granted m) 0 m.rows reports) ≡ true)
+        is_ok (refused_if (not t) WrongCount or_else report_refusal (granted m) 0 m.rows reports) ≡ true →
+        (length reports ≡ length m.rows) × (is_ok (report_refusal (granted m) 0 m.rows reports) ≡ true)
     go true s n = (eqb-true (length reports) (length m.rows) s, n)
     go false s n = absurd (false≢true n)
 

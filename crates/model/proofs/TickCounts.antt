@@ -1,5 +1,5 @@
--- S10.14: the functions of the tick count say what their names do. By induction on the calls: a call that is an accepted tick takes one off
--- the count, and any other leaves it.
+-- S10.14: the functions of the tick count say what their names do. By induction on the calls: a call that is an
+-- accepted tick takes one off the count, and any other leaves it.
 use Prim.Native.Nat.{ℕ, zero, suc, ◌+◌, ◌≤◌, ◌<◌}
 use mathlib.Core.Path.{◌≡◌, refl, ap, subst, ◌∙◌}
 use mathlib.Core.Bool.{Bool, true, false, cond}
@@ -7,7 +7,7 @@ use mathlib.Core.List.{List, [], ◌∷◌, ◌++◌}
 use native.Mathlib.Omega.{arith}
 use Rattle.model.specs.Step.{Model, Call, release, tick}
 use Rattle.model.specs.Run.{is_accepted, is_tick, ticks_in}
-use Rattle.model.specs.Isolation.{until_tick, calls_at, TickCounted}
+use Rattle.model.specs.Isolation.{until_tick, calls_at, TickCounted, TicksCounted}
 use Rattle.model.proofs.Steps.{next, zero_count}
 
 -- The count that is left behind a call, by whether this is an accepted tick.
@@ -104,3 +104,8 @@ tick_counted zero m (tick reports ∷ calls) h = go (is_accepted m (tick reports
 tick_counted (suc t) m (c ∷ calls) h =
     counted_later m c calls t
     (tick_counted (left (is_tick m c) t) (next m c) calls (left_fewer (is_tick m c) t (ticks_in (next m c) calls) h))
+
+-- Of every list of calls.
+pub ticks_counted : TicksCounted
+unfolding TicksCounted
+ticks_counted t m calls h = tick_counted t m calls h

@@ -9,7 +9,9 @@ use Rattle.nodes.specs.Sets.{has}
 use Rattle.sheet.specs.Level.{is_high, is_low}
 use Rattle.shares.specs.Low.{is_kept}
 use Rattle.model.specs.Row.{Row, is_subset, all_ended, predecessors_of, is_ready, ready, running, running_set, released_row, joined, ticked_row, has_high_job, is_late, survives, switched_row}
-use Rattle.model.specs.Step.{Model, Call, release, tick, accepted, ran, switched, returned, refused, step, row_at, granted, running_at, unknown_task, low_in_critical, too_early, wrong_count, not_running, release_refusal, tick_refusal, released, ticked}
+use Rattle.sheet.specs.declared.refusal.Refusal.TheVariants.{UnknownTask, LowInCritical, TooEarly, WrongCount, NotRunning}
+use Rattle.sheet.specs.Refusal.{number}
+use Rattle.model.specs.Step.{Model, Call, release, tick, accepted, ran, switched, returned, refused, step, row_at, granted, running_at, release_refusal, tick_refusal, released, ticked}
 use Rattle.model.specs.Run.{after, answers, is_accepted, ticks_in, is_running, runs_in, is_due}
 
 -- A row without a job: level, nodes, masks, D, V and both shares.
@@ -70,7 +72,8 @@ silent = tick (0 ∷ 0 ∷ 0 ∷ 0 ∷ [])
 abbrev three : List Call
 three = release 2 ∷ release 1 ∷ release 3 ∷ []
 
--- A high task with V 2, a low one that is kept, and a low one that is not; the low ones have two nodes and two processors each.
+-- A high task with V 2, a low one that is kept, and a low one that is not; the low ones have two nodes and two
+-- processors each.
 abbrev keeping : Model
 keeping =
     record {
@@ -127,19 +130,20 @@ pub record Worked : Type 0 where
   -- S11.13, lengths 4, 3, 3: the job is alive after tick 9, which switches.
   pub late : answers alone ends_late ≡ accepted ∷ replicate 8 ran ++ switched 0 ∷ []
   pub late_alive : changed_at (after alone ends_late) 0 ≡ record { age = 9; ended = 3; alive = true }
-  -- S10.5: a node is due with the tick that brings what it ran to its length, neither before nor after, and only if it runs.
+  -- S10.5: a node is due with the tick that brings what it ran to its length, neither before nor after, and only if it
+  -- runs.
   pub not_due : due (4 ∷ 3 ∷ 2 ∷ []) (quiet 2) ≡ []
   pub due_first : due (4 ∷ 3 ∷ 2 ∷ []) (quiet 3) ≡ 0 ∷ []
   pub due_past : due (4 ∷ 3 ∷ 2 ∷ []) (quiet 4) ≡ []
   pub due_next : due (4 ∷ 3 ∷ 2 ∷ []) (quiet 3 ++ tick (1 ∷ []) ∷ quiet 2) ≡ 1 ∷ []
   -- S9.11 to S9.15: the numbers of the refusals.
-  pub numbers : unknown_task ∷ low_in_critical ∷ too_early ∷ wrong_count ∷ not_running ∷ [] ≡ 11 ∷ 12 ∷ 13 ∷ 14 ∷ 15 ∷ []
+  pub numbers : number UnknownTask ∷ number (LowInCritical 3) ∷ number (TooEarly 3) ∷ number WrongCount ∷ number (NotRunning 3) ∷ [] ≡ 11 ∷ 12 ∷ 13 ∷ 14 ∷ 15 ∷ []
   -- S3.4, S9.14 and S9.15: a refused tick ages nothing: node 1 does not run, node 3 is none, two reports are too many.
   pub wrong_node : answers alone (release 0 ∷ tick (2 ∷ []) ∷ tick (8 ∷ []) ∷ tick (1 ∷ 0 ∷ []) ∷ [])
       ≡ accepted
-      ∷ refused (record { number = 15; task = 0 })
-      ∷ refused (record { number = 15; task = 0 })
-      ∷ refused (record { number = 14; task = 255 })
+      ∷ refused (NotRunning 0)
+      ∷ refused (NotRunning 0)
+      ∷ refused WrongCount
       ∷ []
   pub no_age : after alone (release 0 ∷ tick (2 ∷ []) ∷ tick (8 ∷ []) ∷ tick (1 ∷ 0 ∷ []) ∷ []) ≡ after alone (release 0 ∷ [])
   pub no_tick : ticks_in alone (release 0 ∷ tick (2 ∷ []) ∷ tick (1 ∷ []) ∷ []) ≡ 1
@@ -148,13 +152,13 @@ pub record Worked : Type 0 where
       ≡ accepted
       ∷ accepted
       ∷ accepted
-      ∷ refused (record { number = 15; task = 1 })
-      ∷ refused (record { number = 15; task = 0 })
+      ∷ refused (NotRunning 1)
+      ∷ refused (NotRunning 0)
       ∷ []
-  -- S8.6, S8.7 and S9.12: the switch names the lowest task that is late and drops the job of a low task that is not kept, whose ended
-  -- set stays; such a task is then refused. The job of a high task stays.
+  -- S8.6, S8.7 and S9.12: the switch names the lowest task that is late and drops the job of a low task that is not
+  -- kept, whose ended set stays; such a task is then refused. The job of a high task stays.
   pub lowest : answers mixed (three ++ tick (0 ∷ 0 ∷ 0 ∷ 1 ∷ []) ∷ silent ∷ release 3 ∷ [])
-      ≡ accepted ∷ accepted ∷ accepted ∷ ran ∷ switched 1 ∷ refused (record { number = 12; task = 3 }) ∷ []
+      ≡ accepted ∷ accepted ∷ accepted ∷ ran ∷ switched 1 ∷ refused (LowInCritical 3) ∷ []
   pub dropped : changed_at (after mixed (three ++ tick (0 ∷ 0 ∷ 0 ∷ 1 ∷ []) ∷ silent ∷ [])) 3
       ≡ record { age = 2; ended = 1; alive = false }
   pub high_stays : changed_at (after mixed (three ++ silent ∷ silent ∷ [])) 2 ≡ record { age = 2; ended = 0; alive = true }
@@ -165,20 +169,20 @@ pub record Worked : Type 0 where
   pub other_dropped : changed_at (after keeping switch_over) 2 ≡ record { age = 2; ended = 1; alive = false }
   -- S9.12: in critical mode the kept low task is released, the other refused.
   pub kept_released : answers keeping released_after
-      ≡ accepted ∷ ran ∷ switched 0 ∷ accepted ∷ refused (record { number = 12; task = 2 }) ∷ []
-  -- S8.9: the tick with which the last high job ends returns, and the next one runs. The kept job goes on, with its ended set; the dropped one
-  -- stays dropped. In typical mode its task is released again, at age D.
+      ≡ accepted ∷ ran ∷ switched 0 ∷ accepted ∷ refused (LowInCritical 2) ∷ []
+  -- S8.9: the tick with which the last high job ends returns, and the next one runs. The kept job goes on, with its
+  -- ended set; the dropped one stays dropped. In typical mode its task is released again, at age D.
   pub returns : answers keeping (over_and_back ++ still ∷ []) ≡ accepted ∷ accepted ∷ accepted ∷ ran ∷ switched 0 ∷ returned ∷ ran ∷ []
   pub back_typical : (after keeping over_and_back).critical ≡ false
   pub kept_goes_on : changed_at (after keeping over_and_back) 1 ≡ record { age = 3; ended = 1; alive = true }
   pub kept_runs_on : running_at (after keeping over_and_back) 1 ≡ 1 ∷ []
   pub dropped_stays : changed_at (after keeping over_and_back) 2 ≡ record { age = 3; ended = 1; alive = false }
   pub low_again : answers (after keeping over_and_back) (replicate 5 still ++ release 2 ∷ still ∷ release 2 ∷ [])
-      ≡ replicate 5 ran ++ refused (record { number = 13; task = 2 }) ∷ ran ∷ accepted ∷ []
-  -- S8.9: it is the jobs after the tick that count. A critical mode without a high job ends with the next accepted tick, and a refused one
-  -- leaves it; a kept job does not hold it back.
+      ≡ replicate 5 ran ++ refused (TooEarly 2) ∷ ran ∷ accepted ∷ []
+  -- S8.9: it is the jobs after the tick that count. A critical mode without a high job ends with the next accepted
+  -- tick, and a refused one leaves it; a kept job does not hold it back.
   pub none_before : answers left_critical (tick (0 ∷ []) ∷ release 1 ∷ still ∷ still ∷ [])
-      ≡ refused (record { number = 14; task = 255 }) ∷ accepted ∷ returned ∷ ran ∷ []
+      ≡ refused WrongCount ∷ accepted ∷ returned ∷ ran ∷ []
   pub refused_stays : (after left_critical (tick (0 ∷ []) ∷ [])).critical ≡ true
   -- S8.9: the last of two high jobs returns, and one that is released in critical mode holds the return back.
   pub last_of_two : answers mixed (three ++ silent ∷ silent ∷ tick (0 ∷ 1 ∷ 0 ∷ 0 ∷ []) ∷ tick (0 ∷ 0 ∷ 1 ∷ 0 ∷ []) ∷ [])
@@ -193,8 +197,8 @@ pub record Worked : Type 0 where
   pub next_nodes : runs fork (release 0 ∷ tick (1 ∷ []) ∷ []) ≡ 1 ∷ 2 ∷ []
   pub in_critical : running_at (record { critical = true; rows = (after fork (release 0 ∷ tick (1 ∷ []) ∷ [])).rows }) 0 ≡ 1 ∷ 2 ∷ 3 ∷ []
   pub counted : runs_in 0 2 fork (release 0 ∷ tick (1 ∷ []) ∷ tick (2 ∷ []) ∷ tick (0 ∷ []) ∷ []) ≡ 2
-  -- S8.2: a node waits until each of its predecessors has ended, although there is a processor for it: node 3 too, of whose
-  -- predecessors node 0 has.
+  -- S8.2: a node waits until each of its predecessors has ended, although there is a processor for it: node 3 too, of
+  -- whose predecessors node 0 has.
   pub level_one : runs ladder (release 0 ∷ []) ≡ 0 ∷ []
   pub level_two : runs ladder (release 0 ∷ tick (1 ∷ []) ∷ []) ≡ 1 ∷ []
   pub level_three : runs ladder (release 0 ∷ tick (1 ∷ []) ∷ tick (2 ∷ []) ∷ []) ≡ 2 ∷ []
@@ -203,18 +207,18 @@ pub record Worked : Type 0 where
   pub stays_ended : changed_at (after ladder (release 0 ∷ tick (1 ∷ []) ∷ tick (0 ∷ []) ∷ tick (2 ∷ []) ∷ [])) 0
       ≡ record { age = 3; ended = 3; alive = true }
   pub not_again : answers ladder (release 0 ∷ tick (1 ∷ []) ∷ tick (1 ∷ []) ∷ [])
-      ≡ accepted ∷ ran ∷ refused (record { number = 15; task = 0 }) ∷ []
+      ≡ accepted ∷ ran ∷ refused (NotRunning 0) ∷ []
   -- S9.11 and S9.13: a Release is refused for an unknown task, and while a job is alive or the age is below D.
   pub released_too_early : answers alone (release 1 ∷ release 0 ∷ release 0 ∷ [])
-      ≡ refused (record { number = 11; task = 255 }) ∷ accepted ∷ refused (record { number = 13; task = 0 }) ∷ []
+      ≡ refused UnknownTask ∷ accepted ∷ refused (TooEarly 0) ∷ []
   pub not_yet : answers (after alone ends_in_time) (release 0 ∷ quiet 35 ++ release 0 ∷ quiet 1 ++ release 0 ∷ [])
-      ≡ refused (record { number = 13; task = 0 })
-      ∷ replicate 35 ran ++ refused (record { number = 13; task = 0 }) ∷ ran ∷ accepted ∷ []
+      ≡ refused (TooEarly 0)
+      ∷ replicate 35 ran ++ refused (TooEarly 0) ∷ ran ∷ accepted ∷ []
   -- S8.4: the next job begins afresh: what the last one left as its ended set goes with the Release.
   pub afresh : changed_at (after (after alone ends_in_time) (quiet 36 ++ release 0 ∷ [])) 0 ≡ record { age = 0; ended = 0; alive = true }
 
 worked : Worked
-unfolding has range is_high is_low is_kept is_subset all_ended predecessors_of is_ready ready running running_set released_row joined ticked_row has_high_job is_late survives switched_row step row_at granted running_at unknown_task low_in_critical too_early wrong_count not_running release_refusal tick_refusal released ticked is_accepted is_running is_due
+unfolding has range is_high is_low is_kept is_subset all_ended predecessors_of is_ready ready running running_set released_row joined ticked_row has_high_job is_late survives switched_row step row_at granted running_at release_refusal tick_refusal released ticked is_accepted is_running is_due
 worked =
     record {
       in_time = refl;

@@ -12,13 +12,14 @@ use Rattle.model.specs.Run.{after, is_accepted, ticks_in, TrueReports}
 use Rattle.model.specs.Plan.{fresh}
 use Rattle.model.specs.Claim.{ReleaseIn, begun, KeepsBudget, Ended, DeadlinePassed}
 
--- S10.10: from the model m on, the mode is typical until the d-th accepted tick of these calls: at each moment before it.
+-- S10.10: from the model m on, the mode is typical until the d-th accepted tick of these calls: at each moment before
+-- it.
 unfoldable pub TypicalUntil : ℕ → Model → List Call → Type 0
 TypicalUntil d m calls =
     (before rest : List Call) → calls ≡ before ++ rest → ticks_in m before < d → (after m before).critical ≡ false
 
--- S10.10: a low job that keeps its budget, with true reports, has ended once its deadline has passed, if from its release until the
--- D-th tick the mode was typical. What that tick and later ones make of the mode does not matter.
+-- S10.10: a low job that keeps its budget, with true reports, has ended once its deadline has passed, if from its
+-- release until the D-th tick the mode was typical. What that tick and later ones make of the mode does not matter.
 unfoldable pub LowDeadline : TaskSet → List Share → List Call → Type 0
 LowDeadline ts shares calls =
     (i : ℕ) (job : ReleaseIn (fresh ts shares) i calls) (lengths : ℕ → ℕ) →
@@ -54,8 +55,8 @@ pub record MayStart (r : Row) (v : ℕ) : Type 0 where
   pub left : has r.job.ended v ≡ false
   pub predecessors : (j : ℕ) → precedes r.fixed.predecessors j v ≡ true → has r.job.ended j ≡ true
 
--- S8.2 and S8.3, whatever the task is granted: only such nodes run and each of them is ready; where one runs, so do those with
--- lower numbers; and as many run as are granted, or all that are ready.
+-- S8.2 and S8.3, whatever the task is granted: only such nodes run and each of them is ready; where one runs, so do
+-- those with lower numbers; and as many run as are granted, or all that are ready.
 pub record Startable (r : Row) : Type 0 where
   pub runs : (grant v : ℕ) → Memᴰ v (running grant r) → MayStart r v
   pub listed : (v : ℕ) → MayStart r v → Memᴰ v (ready r)

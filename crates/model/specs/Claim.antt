@@ -1,4 +1,5 @@
--- The promises of S10.7 to S10.9 and S10.11, read off the model: what holds of a task set, its shares and a list of calls from the start.
+-- The promises of S10.7 to S10.9 and S10.11, read off the model: what holds of a task set, its shares and a list of
+-- calls from the start.
 use Rattle.std.specs.Prelude.{ℕ, ◌+◌, ◌≤◌, ◌≡◌, Bool, true, false, List, [], ◌∷◌, ◌++◌, length}
 use Rattle.basics.specs.Lists.{any}
 use Rattle.sheet.specs.declared.task.Budget.{Budget}
@@ -15,7 +16,8 @@ use Rattle.sheet.specs.Format.{task_in}
 use Rattle.sheet.specs.Level.{is_high}
 use Rattle.model.specs.Plan.{fresh}
 
--- S10.4: a job begins with an accepted Release: one of task i in a list of calls, with the calls before it and those since.
+-- S10.4: a job begins with an accepted Release: one of task i in a list of calls, with the calls before it and those
+-- since.
 pub record ReleaseIn (start : Model) (i : ℕ) (calls : List Call) : Type 0 where
   pub before : List Call
   pub since : List Call
@@ -35,8 +37,8 @@ pub record Ended (t : Task) (r : Row) : Type 0 where
   pub nodes : all_ended t.nodes r.job.ended ≡ true
   pub gone : r.job.alive ≡ false
 
--- S10.7: among the calls since the release that left the model m there is a D-th accepted tick, and after it no Release of task i
--- is accepted. (Before it none can be: `ReleasesApart`.)
+-- S10.7: among the calls since the release that left the model m there is a D-th accepted tick, and after it no Release
+-- of task i is accepted. (Before it none can be: `ReleasesApart`.)
 pub record DeadlinePassed (t : Task) (i : ℕ) (m : Model) (since : List Call) : Type 0 where
   pub before : List Call
   pub reports : List ℕ
@@ -46,8 +48,8 @@ pub record DeadlinePassed (t : Task) (i : ℕ) (m : Model) (since : List Call) :
   pub ticks : ticks_in m before + 1 ≡ t.figures.deadline
   pub unreleased : releases_in i (after m (before ++ tick reports ∷ [])) later ≡ 0
 
--- Each job of a task of such a level whose lengths keep this budget, with true reports, has ended once its deadline has passed.
--- Nothing is asked of other tasks and their reports.
+-- Each job of a task of such a level whose lengths keep this budget, with true reports, has ended once its deadline has
+-- passed. Nothing is asked of other tasks and their reports.
 unfoldable pub EndInTime : (ℕ → Bool) → (Task → Budget) → TaskSet → List Share → List Call → Type 0
 EndInTime is_such budget ts shares calls =
     (i : ℕ) (job : ReleaseIn (fresh ts shares) i calls) (lengths : ℕ → ℕ) →
@@ -61,8 +63,9 @@ EndInTime is_such budget ts shares calls =
 unfoldable pub Deadline : TaskSet → List Share → List Call → Type 0
 Deadline ts shares calls = EndInTime is_high (λ t. t.figures.overload) ts shares calls
 
--- S10.11, kept: a job of a low task that is kept, whose lengths keep its budget, with true reports, has ended once its deadline has
--- passed, in whichever mode it was released and over the switch. Nothing is asked of other tasks and their reports.
+-- S10.11, kept: a job of a low task that is kept, whose lengths keep its budget, with true reports, has ended once its
+-- deadline has passed, in whichever mode it was released and over the switch. Nothing is asked of other tasks and their
+-- reports.
 unfoldable pub KeptDeadline : TaskSet → List Share → List Call → Type 0
 KeptDeadline ts shares calls =
     (i : ℕ) (job : ReleaseIn (fresh ts shares) i calls) (lengths : ℕ → ℕ) →
@@ -111,15 +114,15 @@ pub record StaysTypical (start : Model) (calls : List Call) : Type 0 where
   pub unswitched : any is_switched (answers start calls) ≡ false
   pub unreturned : any is_returned (answers start calls) ≡ false
 
--- S10.9, nominal: if each job of a high task keeps its nominal budget, with true reports, the mode stays typical. Nothing is asked
--- of low tasks.
+-- S10.9, nominal: if each job of a high task keeps its nominal budget, with true reports, the mode stays typical.
+-- Nothing is asked of low tasks.
 unfoldable pub Nominal : TaskSet → List Share → List Call → Type 0
 Nominal ts shares calls =
     HighJobsWithin (λ t. t.figures.nominal) ts (fresh ts shares) calls → StaysTypical (fresh ts shares) calls
 
--- S10.7 to S10.9 and S10.11 over one list of calls, whatever number of switches and returns is in it. Every prefix of a list is a list, so
--- this speaks of every moment.
-pub record Demand3 (ts : TaskSet) (shares : List Share) (calls : List Call) : Type 0 where
+-- S10.7 to S10.9 and S10.11 over one list of calls, whatever number of switches and returns is in it. Every prefix of a
+-- list is a list, so this speaks of every moment.
+pub record OfEveryRun (ts : TaskSet) (shares : List Share) (calls : List Call) : Type 0 where
   pub deadline : Deadline ts shares calls
   pub capacity : Capacity ts shares (after (fresh ts shares) calls)
   pub nominal : Nominal ts shares calls

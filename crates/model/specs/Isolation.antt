@@ -1,5 +1,5 @@
--- S10.14 and S10.15: one task seen by itself. What the calls of a run give a task at each tick count, and that nothing bears on it but this and
--- the mode.
+-- S10.14 and S10.15: one task seen by itself. What the calls of a run give a task at each tick count, and that nothing
+-- bears on it but this and the mode.
 use Rattle.std.specs.Prelude.{ℕ, zero, suc, ◌≤◌, ◌<◌, ◌≡◌, Bool, true, false, cond, List, [], ◌∷◌, ◌++◌, get_or}
 use Rattle.basics.specs.Lists.{any}
 use Rattle.sheet.specs.declared.task.Task.{Task}
@@ -12,7 +12,8 @@ use Rattle.model.specs.Run.{after, answers, is_accepted, is_tick, ticks_in, rele
 use Rattle.model.specs.Plan.{fresh}
 use Rattle.model.specs.Claim.{is_switched}
 
--- S10.14: the calls of a list up to its t-th accepted tick, with it: none for 0, and all of them where there are fewer ticks.
+-- S10.14: the calls of a list up to its t-th accepted tick, with it: none for 0, and all of them where there are fewer
+-- ticks.
 abbrev pub until_tick : ℕ → Model → List Call → List Call
 until_tick t m [] = []
 until_tick zero m (c ∷ calls) = []
@@ -35,8 +36,9 @@ report_at i t m [] = 0
 report_at i zero m (c ∷ calls) = cond (is_tick m c) (report_of i c) (report_at i zero (step m c).model calls)
 report_at i (suc t) m (c ∷ calls) = report_at i (cond (is_tick m c) t (suc t)) (step m c).model calls
 
--- S10.14: that these are what their names say. The list has the calls up to the t-th tick, those at tick count t, an accepted tick and the rest;
--- the first of these have t accepted ticks, the second none, and the tick is the last of the calls up to the next one and has its report.
+-- S10.14: that these are what their names say. The list has the calls up to the t-th tick, those at tick count t, an
+-- accepted tick and the rest; the first of these have t accepted ticks, the second none, and the tick is the last of
+-- the calls up to the next one and has its report.
 pub record TickCounted (t : ℕ) (m : Model) (calls : List Call) : Type 0 where
   pub reports : List ℕ
   pub rest : List Call
@@ -46,6 +48,10 @@ pub record TickCounted (t : ℕ) (m : Model) (calls : List Call) : Type 0 where
   pub next : until_tick (suc t) m calls ≡ (until_tick t m calls ++ calls_at t m calls) ++ tick reports ∷ []
   pub accepted : is_accepted (after m (until_tick t m calls ++ calls_at t m calls)) (tick reports) ≡ true
   pub report : (i : ℕ) → report_at i t m calls ≡ get_or reports i 0
+
+-- So it is of every list of calls with more than t accepted ticks.
+unfoldable pub TicksCounted : Type 0
+TicksCounted = (t : ℕ) (m : Model) (calls : List Call) → t < ticks_in m calls → TickCounted t m calls
 
 -- S10.14: one task of a run: the task set and its shares, the list of calls from the start, and the task's number.
 pub record TaskRun : Type 0 where
@@ -82,14 +88,15 @@ mode_at r t = (after (start r) (until_in r t)).critical
 abbrev pub releases_at : TaskRun → ℕ → ℕ
 releases_at r t = releases_in r.number (after (start r) (until_in r t)) (calls_at t (start r) r.calls)
 
--- S10.14: a task of each run, both with the same record. Their numbers may differ, and so may the other tasks and the processors.
+-- S10.14: a task of each run, both with the same record. Their numbers may differ, and so may the other tasks and the
+-- processors.
 pub record SameRecord (r q : TaskRun) : Type 0 where
   pub known : r.number < r.tasks.count
   pub other_known : q.number < q.tasks.count
   pub says : task_of r ≡ task_of q
 
--- S10.14: up to the t-th accepted tick both runs give their task the same: there are so many ticks in both, and at each tick count below t
--- there are as many accepted releases of the task, and the tick that follows reports the same of it.
+-- S10.14: up to the t-th accepted tick both runs give their task the same: there are so many ticks in both, and at each
+-- tick count below t there are as many accepted releases of the task, and the tick that follows reports the same of it.
 pub record SameGiven (t : ℕ) (r q : TaskRun) : Type 0 where
   pub ticks : t ≤ ticks_in (start r) r.calls
   pub other_ticks : t ≤ ticks_in (start q) q.calls
@@ -100,22 +107,23 @@ pub record SameGiven (t : ℕ) (r q : TaskRun) : Type 0 where
 unfoldable pub SameModes : ℕ → TaskRun → TaskRun → Type 0
 SameModes t r q = (s : ℕ) → s ≤ t → mode_at r s ≡ mode_at q s
 
--- S10.14: a task of one model is as a task of another: its running nodes and its ended nodes are alike, and so are its alive mark and its
--- age.
+-- S10.14: a task of one model is as a task of another: its running nodes and its ended nodes are alike, and so are its
+-- alive mark and its age.
 pub record Alike (m : Model) (i : ℕ) (n : Model) (j : ℕ) : Type 0 where
   pub running : running_at m i ≡ running_at n j
   pub ended : (row_at m i).job.ended ≡ (row_at n j).job.ended
   pub alive : (row_at m i).job.alive ≡ (row_at n j).job.alive
   pub age : (row_at m i).age ≡ (row_at n j).age
 
--- S10.14: the tasks are alike after each tick up to the t-th, and just before each of them, so that the same nodes run on it. Beside each run
--- stands what is held after a list of its calls, be it by the model or by a state.
+-- S10.14: the tasks are alike after each tick up to the t-th, and just before each of them, so that the same nodes run
+-- on it. Beside each run stands what is held after a list of its calls, be it by the model or by a state.
 pub record AlikeUntil (t : ℕ) (r : TaskRun) (held : List Call → Model) (q : TaskRun) (other_held : List Call → Model) : Type 0 where
   pub after_tick : (s : ℕ) → s ≤ t → Alike (held (until_in r s)) r.number (other_held (until_in q s)) q.number
   pub before_tick : (s : ℕ) → s < t → Alike (held (before_in r s)) r.number (other_held (before_in q s)) q.number
 
--- S10.14, isolation: two tasks with the same record and the same shares in both modes, which are given the same up to the t-th tick while the
--- modes are alike, are alike so long. Nothing is asked of other tasks, of refused calls and of what comes later.
+-- S10.14, isolation: two tasks with the same record and the same shares in both modes, which are given the same up to
+-- the t-th tick while the modes are alike, are alike so long. Nothing is asked of other tasks, of refused calls and of
+-- what comes later.
 unfoldable pub Isolated : ℕ → TaskRun → TaskRun → Type 0
 Isolated t r q =
     SameRecord r q → share_of r ≡ share_of q → SameGiven t r q → SameModes t r q →

@@ -45,8 +45,8 @@ pub record LawfulFigures (f : Figures) : Type 0 where
   pub span : 1 ≤ f.nominal.span
   pub spans : f.nominal.span ≤ f.overload.span
 
--- S2.7, S2.11, S2.12 and S2.13: there is a node; the figures keep their rules, a low task's CN equals its CO; the task is heavy;
--- each predecessor of a node has a lower number.
+-- S2.7, S2.11, S2.12 and S2.13: there is a node; the figures keep their rules, a low task's CN equals its CO; the task
+-- is heavy; each predecessor of a node has a lower number.
 pub record LawfulTask (t : Task) : Type 0 where
   pub nodes : 1 ≤ t.nodes
   pub figures : LawfulFigures t.figures
@@ -66,8 +66,8 @@ pub record LowPair (f : Figures) (s : Share) : Type 0 where
   pub typical : s.typical ≡ low_share f
   pub critical : 0 < s.critical → s.critical ≡ s.typical
 
--- S5.1 and S5.2: what is assumed of a task set and its shares. There is a pair for each task; each task keeps the sheet's rules; a
--- high task's pair passes and a low task has its share; and in each mode the shares total at most M.
+-- S5.1 and S5.2: what is assumed of a task set and its shares. There is a pair for each task; each task keeps the
+-- sheet's rules; a high task's pair passes and a low task has its share; and in each mode the shares total at most M.
 pub record Planned (ts : TaskSet) (shares : List Share) : Type 0 where
   pub tasks : ts.count ≤ length ts.tasks
   pub each : length shares ≡ ts.count

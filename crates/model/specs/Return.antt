@@ -1,4 +1,5 @@
--- S10.12 and S10.13: when a tick returns to the typical mode, what may be released after it, and how soon after a switch it comes.
+-- S10.12 and S10.13: when a tick returns to the typical mode, what may be released after it, and how soon after a
+-- switch it comes.
 use Rattle.std.specs.Prelude.{ℕ, ◌+◌, ◌≤◌, ◌<◌, ◌≡◌, Bool, true, false, not, ◌&&◌, ◌||◌, List, [], ◌∷◌, ◌++◌, map, leb, length, take}
 use Rattle.basics.specs.Lists.{keep, greatest}
 use Rattle.sheet.specs.declared.task.TaskSet.{TaskSet}
@@ -21,8 +22,8 @@ pub record OpenToAll (m : Model) : Type 0 where
   pub release : (i : ℕ) → i < length m.rows →
       is_accepted m (release i) ≡ (not (row_at m i).job.alive && leb (row_at m i).fixed.deadline (row_at m i).age)
 
--- S10.12: a tick answers that it returned just where it may; then every task is as its own part of the tick left it, kept jobs and ended
--- sets too, and every task may be released.
+-- S10.12: a tick answers that it returned just where it may; then every task is as its own part of the tick left it,
+-- kept jobs and ended sets too, and every task may be released.
 pub record ReturnLaw (m : Model) (reports : List ℕ) : Type 0 where
   pub only : (step m (tick reports)).answer ≡ returned → MayReturn m reports
   pub always : MayReturn m reports → (step m (tick reports)).answer ≡ returned
@@ -58,7 +59,8 @@ waits_for_return m [] = true
 waits_for_return m (c ∷ calls) =
     not (is_high_release m c) && (is_returned (step m c).answer || waits_for_return (step m c).model calls)
 
--- S10.13: among the calls since the model m a tick returns, with so few accepted ticks up to it that with it they are fewer than the limit.
+-- S10.13: among the calls since the model m a tick returns, with so few accepted ticks up to it that with it they are
+-- fewer than the limit.
 pub record ReturnWithin (limit : ℕ) (m : Model) (since : List Call) : Type 0 where
   pub before : List Call
   pub reports : List ℕ
@@ -67,9 +69,9 @@ pub record ReturnWithin (limit : ℕ) (m : Model) (since : List Call) : Type 0 w
   pub answer : (step (after m before) (tick reports)).answer ≡ returned
   pub soon : ticks_in m before + 1 < limit
 
--- S10.13, back in time: if each job of a high task keeps its overload budget, with true reports, a switch is followed by a return: counted
--- from the switch it is not as late as the longest deadline of the high tasks, unless a high task is released in between. The list has
--- to go on that long.
+-- S10.13, back in time: if each job of a high task keeps its overload budget, with true reports, a switch is followed
+-- by a return: counted from the switch it is not as late as the longest deadline of the high tasks, unless a high task
+-- is released in between. The list has to go on that long.
 unfoldable pub BackInTime : TaskSet → List Share → List Call → Type 0
 BackInTime ts shares calls =
     (s : SwitchIn (fresh ts shares) calls) →

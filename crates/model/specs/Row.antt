@@ -1,4 +1,5 @@
--- One task in the model: what the sheet and the plan fix, what calls change, and which of its nodes are ready and running.
+-- One task in the model: what the sheet and the plan fix, what calls change, and which of its nodes are ready and
+-- running.
 use Rattle.std.specs.Prelude.{ℕ, suc, min, Bool, true, not, ◌&&◌, ◌||◌, List, eqb, leb, get_or, take}
 use Rattle.std.specs.Int.Bits.{bit_and, bit_or}
 use Rattle.shares.specs.declared.share.Share.{Share}
@@ -21,7 +22,8 @@ pub record Job : Type 0 where
   pub ended : ℕ
   pub alive : Bool
 
--- S10.2: one task in the model: what is fixed of it, its age, and its job. The age is the task's: it grows on when the job has ended.
+-- S10.2: one task in the model: what is fixed of it, its age, and its job. The age is the task's: it grows on when the
+-- job has ended.
 pub record Row : Type 0 where
   pub fixed : Fixed
   pub age : ℕ
@@ -74,8 +76,8 @@ released_row r = record { fixed = r.fixed; age = 0; job = record { ended = 0; al
 unfoldable pub joined : Row → ℕ → ℕ
 joined r report = bit_or r.job.ended report
 
--- S8.5: what a tick does to one task. The reported nodes have ended; if all have, the job is no longer alive; the age grows by 1,
--- but not beyond D.
+-- S8.5: what a tick does to one task. The reported nodes have ended; if all have, the job is no longer alive; the age
+-- grows by 1, but not beyond D.
 unfoldable pub ticked_row : Row → ℕ → Row
 ticked_row r report =
     record {

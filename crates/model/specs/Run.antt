@@ -1,6 +1,6 @@
--- A run (S10.1): the model after a list of calls, its answers, its accepted ticks, on which of them a node runs, and true reports.
-use Rattle.std.specs.Prelude.{ℕ, ◌+◌, ◌≡◌, Bool, true, false, cond, ◌&&◌, List, [], ◌∷◌, ◌++◌, eqb, get_or}
-use Rattle.basics.specs.Lists.{is_none}
+-- A run (S10.1): the model after a list of calls, its answers, its accepted ticks, on which of them a node runs, and
+-- true reports.
+use Rattle.std.specs.Prelude.{ℕ, ◌+◌, ◌≡◌, Bool, true, false, cond, ◌&&◌, List, [], ◌∷◌, ◌++◌, eqb, get_or, is_ok}
 use Rattle.nodes.specs.Sets.{has, set_of}
 use Rattle.model.specs.Step.{Model, Call, release, tick, Answer, step, refusal_of, running_at}
 
@@ -16,7 +16,7 @@ answers m (c ∷ calls) = (step m c).answer ∷ answers (step m c).model calls
 
 -- S3.2: whether the call is accepted: none of its refusals holds.
 unfoldable pub is_accepted : Model → Call → Bool
-is_accepted m c = is_none (refusal_of m c)
+is_accepted m c = is_ok (refusal_of m c)
 
 -- Whether the call is an accepted tick.
 abbrev pub is_tick : Model → Call → Bool
@@ -45,7 +45,8 @@ releases_in i m calls = count_calls (is_release_of i) m calls
 unfoldable pub is_running : ℕ → ℕ → Model → Bool
 is_running i v m = has (set_of (running_at m i)) v
 
--- S10.5: node v of task i runs on a call: the call is an accepted tick, and in the model just before it the node is running.
+-- S10.5: node v of task i runs on a call: the call is an accepted tick, and in the model just before it the node is
+-- running.
 abbrev pub runs_on : ℕ → ℕ → Model → Call → Bool
 runs_on i v m c = is_tick m c && is_running i v m
 
@@ -53,13 +54,13 @@ runs_on i v m c = is_tick m c && is_running i v m
 abbrev pub runs_in : ℕ → ℕ → Model → List Call → ℕ
 runs_in i v m calls = count_calls (runs_on i v) m calls
 
--- S10.5: whether a tick has to report a node that ran on so many ticks before it: the node runs on this tick too, and with it has
--- run its length.
+-- S10.5: whether a tick has to report a node that ran on so many ticks before it: the node runs on this tick too, and
+-- with it has run its length.
 unfoldable pub is_due : Bool → ℕ → ℕ → Bool
 is_due runs ran len = runs && eqb (ran + 1) len
 
--- S10.5: the reports of the job of task i whose release left the model m are true over the calls that follow, up to the next
--- accepted Release of i: each accepted tick reports of i just the nodes that are due.
+-- S10.5: the reports of the job of task i whose release left the model m are true over the calls that follow, up to the
+-- next accepted Release of i: each accepted tick reports of i just the nodes that are due.
 unfoldable pub TrueReports : ℕ → (ℕ → ℕ) → Model → List Call → Type 0
 TrueReports i lengths m calls =
     (before : List Call) (reports : List ℕ) (rest : List Call) →

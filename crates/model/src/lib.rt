@@ -1,2 +1,5 @@
-// The model of S10.2: tasks, jobs, calls, one step, and the theorems of S10.7 to S10.10. Definitions and laws only.
+//! The model of S10.2: tasks, jobs, calls, one step, runs of calls, and what S10.4 to S10.15 promise of them.
+//! Definitions and laws: no call is made here.
 #![tactic(auto)]
+
+pub mod promise;

@@ -2,21 +2,21 @@
 use Prim.Native.Nat.{ℕ, ◌<◌, ◌+◌}
 use mathlib.Core.Bool.{Bool, false}
 use mathlib.Core.List.{List}
-use mathlib.Core.Path.{◌≡◌, sym}
+use mathlib.Core.Path.{◌≡◌, sym, ap}
 use native.Mathlib.Omega.{arith}
 use lib.ListN.{set, replicate}
-use Rattle.sheet.specs.declared.answer.Answer.{Answer}
-use Rattle.sheet.specs.declared.answer.Answer.TheVariants.{Accepted, Refused}
+use Rattle.std.specs.Prelude.{Result, Ok, Err}
+use Rattle.sheet.specs.declared.refusal.Refusal.{Refusal}
 use Rattle.sheet.specs.declared.task.TaskSet.{TaskSet}
-use Rattle.sheet.specs.Format.{task_in}
+use Rattle.sheet.specs.Format.{task_in, task_set_of}
 use Rattle.basics.proofs.Cells.{cells_none, cells_store}
-use Rattle.reader.specs.Reading.{read_of}
 use Rattle.allocation.specs.declared.allocate.Allocation.{Allocation}
-use Rattle.allocation.specs.Allocation.{allocation_at, allocation_answer, allocated_of}
+use Rattle.allocation.specs.Allocation.{allocation_at, allocation_answer, allocations_for}
 use Rattle.entries.specs.declared.state.TaskState.{TaskState}
 use Rattle.dispatcher.specs.declared.state.State.{State}
 use Rattle.start.specs.Fresh.{fresh_entry, zero_entry}
-use Rattle.start.specs.Start.{entries_below, fresh_state, zero_state, start_of}
+use Rattle.start.specs.Start.{Started}
+use Rattle.start.specs.Start.{entries_below, fresh_state, zero_state, prepared_of, started_with, start_of}
 
 module _ (tasks : TaskSet) (allocations : List Allocation) where
   pub entries_none : replicate 16 zero_entry ≡ entries_below tasks allocations 0
@@ -35,14 +35,21 @@ module _ (tasks : TaskSet) (allocations : List Allocation) where
   unfolding fresh_state
   state_whole processors count critical entries p c m e = rw (p, c, m, e)
 
--- What Start returns.
-module _ (s : List ℕ) where
-  pub start_refused : (answer : Answer) (state : State) {number task : ℕ} → answer ≡ Refused number task → allocation_answer s ≡ answer → state ≡ zero_state →
-      record { state = state; answer = answer } ≡ start_of s
-  unfolding start_of
-  start_refused answer state refused same zeros = rw (same, refused, zeros)
+-- The refusals of a sheet, and what is made of an accepted one.
+prepared_refused : (s : List ℕ) {r : Refusal} → allocation_answer s ≡ Err r → ◌≡◌ {A = Result State Refusal} (Err r) (prepared_of s)
+unfolding prepared_of
+prepared_refused s e = rw e
 
-  pub start_accepted : (state : State) → allocation_answer s ≡ Accepted →
-      state ≡ fresh_state (read_of s).set (allocated_of s).allocations → record { state = state; answer = Accepted } ≡ start_of s
-  unfolding start_of
-  start_accepted state same fresh = rw (same, fresh)
+pub prepared_accepted : (s : List ℕ) → allocation_answer s ≡ Ok tt → ◌≡◌ {A = Result State Refusal} (Ok (fresh_state (task_set_of s) (allocations_for s))) (prepared_of s)
+unfolding prepared_of
+prepared_accepted s e = rw e
+
+-- What Start returns of either.
+pub start_refused : (s : List ℕ) {r : Refusal} → allocation_answer s ≡ Err r → ◌≡◌ {A = Started} (record { state = zero_state; answer = Err r }) (start_of s)
+unfolding start_of
+start_refused s e = ap started_with (prepared_refused s e)
+
+pub start_accepted : (s : List ℕ) → allocation_answer s ≡ Ok tt →
+    ◌≡◌ {A = Started} (record { state = fresh_state (task_set_of s) (allocations_for s); answer = Ok tt }) (start_of s)
+unfolding start_of
+start_accepted s e = ap started_with (prepared_accepted s e)

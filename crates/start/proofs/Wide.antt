@@ -5,26 +5,28 @@ use mathlib.Core.Path.{◌≡◌, refl, sym, ap, ◌∙◌}
 use native.Mathlib.Omega.{arith}
 use lib.ListN.{get_or, replicate}
 use Rattle.basics.proofs.Cells.{cells_none, cells_at, cells_same}
-use Rattle.sheet.specs.declared.answer.Answer.{Answer}
-use Rattle.sheet.specs.declared.answer.Answer.TheVariants.{Accepted, Refused}
+use Rattle.std.specs.Prelude.{Ok, Err}
+use Rattle.sheet.specs.Refusal.{Answer, ◌or_else◌}
+use Rattle.allocation.specs.declared.allocate.Allocated.{Allocated}
 use Rattle.sheet.specs.declared.task.Task.{Task}
 use Rattle.sheet.specs.declared.task.TaskSet.{TaskSet}
-use Rattle.sheet.specs.Format.{task_in}
+use Rattle.sheet.specs.Format.{task_in, task_set_of}
 use Rattle.sheet.specs.Wide.{wide_task, wide_set}
-use Rattle.reader.specs.Reading.{read_of}
+use Rattle.reader.specs.Reading.{read_answer}
+use Rattle.reader.proofs.Readings.{read_ok}
 use Rattle.reader.proofs.Worked.{dye_sheet, worked}
 use Rattle.allocation.specs.declared.allocate.Allocation.{Allocation}
-use Rattle.allocation.specs.Allocation.{allocation_at, allocation_answer, allocated_of}
+use Rattle.allocation.specs.Allocation.{allocation_at, allocation_answer, allocated_of, allocations_for}
 use Rattle.allocation.specs.Lawful.{LawfulSet}
 use Rattle.allocation.specs.Wide.{wide_form, WideRead, WideAllocated}
-use Rattle.allocation.proofs.Accepted.{accepted_lawful}
+use Rattle.allocation.proofs.Accepted.{sheet_lawful}
 use Rattle.allocation.proofs.Allocations.{answer_same}
 use Rattle.allocation.proofs.Sheets.{wide_task_lem, wide_read}
 use Rattle.allocation.proofs.Wide.{wide_allocated}
 use Rattle.entries.specs.declared.state.TaskState.{TaskState}
 use Rattle.dispatcher.specs.declared.state.State.{State}
 use Rattle.start.specs.Fresh.{fresh_entry, zero_entry}
-use Rattle.start.specs.Start.{entries_below, fresh_state, zero_state, started_with, start_of}
+use Rattle.start.specs.Start.{entries_below, fresh_state, zero_state, prepared_of, start_of}
 use Rattle.start.specs.Wide.{wide_entry, wide_state, WideStarted}
 
 entry_wide : (t : Task) (a : Allocation) → fresh_entry (wide_task t) a ≡ wide_entry (fresh_entry t a)
@@ -52,19 +54,38 @@ zero_wide : zero_state ≡ wide_state zero_state
 unfolding zero_state wide_state
 zero_wide = rw (cells_none (λ i. wide_entry (get_or (replicate 16 zero_entry) i zero_entry)) zero_entry 0 16 0 (omega arith))
 
--- An answer with a state that goes with it, and with that state in the wide form.
-started_wide : (a : Answer) (fresh : State) →
-    started_with a (wide_state fresh) ≡ record { state = wide_state (started_with a fresh).state; answer = (started_with a fresh).answer }
-started_wide Accepted fresh = refl
-started_wide (Refused number task) fresh = ap (λ (st : State). record { state = st; answer = Refused number task }) zero_wide
+-- Sheets with the same answer have the same fixed for their tasks.
+allocations_same : (s t : List ℕ) → allocated_of s ≡ allocated_of t → allocation_answer s ≡ Ok tt → allocation_answer t ≡ Ok tt → allocations_for s ≡ allocations_for t
+unfolding allocated_of
+allocations_same s t same a b = ap (λ (p : Allocated). p.allocations) (go (allocation_answer s) (allocation_answer t) _ _ a b same)
+  where
+    go : (x y : Answer) (p q : Allocated) → x ≡ Ok tt → y ≡ Ok tt → (x or_else Ok p) ≡ (y or_else Ok q) → p ≡ q
+    go (Ok u) (Ok v) p q a b e = cc
+    go (Ok u) (Err r) p q a b e = absurd (cc)
+    go (Err r) y p q a b e = absurd (cc)
+
+-- A sheet and its wide form, by what they are answered.
+module _ (s : List ℕ) (accepted : read_answer s ≡ Ok tt) where
+  same : allocation_answer (wide_form s) ≡ allocation_answer s
+  unfolding WideAllocated
+  same = answer_same (wide_form s) s (wide_allocated s accepted)
+
+  told : wide_set (task_set_of s) ≡ task_set_of (wide_form s)
+  unfolding WideRead
+  told = (read_ok (wide_form s) (wide_read s accepted)).1
+
+  fixed : allocation_answer s ≡ Ok tt → allocations_for (wide_form s) ≡ allocations_for s
+  unfolding WideAllocated
+  fixed e = allocations_same (wide_form s) s (wide_allocated s accepted) (same ∙ e) e
+
+  by_answer : (a : Answer) → allocation_answer s ≡ a → start_of (wide_form s) ≡ record { state = wide_state (start_of s).state; answer = (start_of s).answer }
+  unfolding start_of prepared_of
+  by_answer (Err r) e = rw (same, e) (ap (λ (st : State). record { state = st; answer = Err r }) zero_wide)
+  by_answer (Ok u) e = rw (same, e, fixed e, ← told, fresh_wide (task_set_of s) (sheet_lawful s accepted) (allocations_for s))
 
 pub wide_started : WideStarted
-unfolding WideStarted WideRead WideAllocated start_of
-wide_started s accepted =
-    let set = (read_of s).set in
-    let fixed = wide_allocated s accepted in
-    rw (answer_same (wide_form s) s fixed, fixed, wide_read s accepted, fresh_wide set (accepted_lawful s accepted) (allocated_of s).allocations)
-    (started_wide (allocation_answer s) (fresh_state set (allocated_of s).allocations))
+unfolding WideStarted
+wide_started s accepted = by_answer s accepted (allocation_answer s) refl
 
 -- There is such a sheet: a dye line with records of both forms.
 pub some_wide : start_of (wide_form dye_sheet) ≡ record { state = wide_state (start_of dye_sheet).state; answer = (start_of dye_sheet).answer }

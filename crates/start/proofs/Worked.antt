@@ -3,8 +3,9 @@ use mathlib.Core.Bool.{false}
 use mathlib.Core.List.{[], ◌∷◌}
 use mathlib.Core.Path.{◌≡◌, refl}
 use lib.ListN.{replicate}
-use Rattle.sheet.specs.declared.answer.Answer.TheVariants.{Refused}
-use Rattle.sheet.specs.Answers.{number_of, task_of}
+use Rattle.std.specs.Prelude.{Err}
+use Rattle.sheet.specs.declared.refusal.Refusal.TheVariants.{BadHeader}
+use Rattle.sheet.specs.Refusal.{number_of, task_of}
 use Rattle.basics.specs.Numbers.{byte_at}
 use Rattle.sheet.specs.Format.{processors_of, count_of}
 use Rattle.reader.specs.Reading.{header_lawful, header_answer, read_of, read_answer}
@@ -12,7 +13,7 @@ use Rattle.sheet.specs.declared.task.Task.{Task}
 use Rattle.allocation.specs.declared.allocate.Allocation.{Allocation}
 use Rattle.allocation.specs.Allocation.{allocation_answer}
 use Rattle.start.specs.Fresh.{fresh_entry, zero_entry}
-use Rattle.start.specs.Start.{zero_state, start_of}
+use Rattle.start.specs.Start.{prepared_of, zero_state, start_of}
 
 -- Task A of S11 with two nodes.
 abbrev task_a : Task
@@ -41,20 +42,20 @@ pub record Worked : Type 0 where
   pub zero_mode : zero_state.critical ≡ false
   pub zero_entries : zero_state.entries ≡ replicate 16 zero_entry
   -- S9.1: no byte at all.
-  pub empty_answer : (start_of []).answer ≡ Refused 1 255
+  pub empty_answer : (start_of []).answer ≡ Err BadHeader
   pub empty_processors : (start_of []).state.processors ≡ 0
   pub empty_mode : (start_of []).state.critical ≡ false
   pub empty_state : (start_of []).state ≡ zero_state
   -- S9.1: 65 processors; 17 tasks; a directory that is cut short.
-  pub many_processors : (start_of (65 ∷ 1 ∷ 6 ∷ 0 ∷ 16 ∷ 0 ∷ [])).answer ≡ Refused 1 255
-  pub many_tasks : (start_of (8 ∷ 17 ∷ [])).answer ≡ Refused 1 255
-  pub cut_short : (start_of (8 ∷ 1 ∷ 6 ∷ 0 ∷ 16 ∷ [])).answer ≡ Refused 1 255
+  pub many_processors : (start_of (65 ∷ 1 ∷ 6 ∷ 0 ∷ 16 ∷ 0 ∷ [])).answer ≡ Err BadHeader
+  pub many_tasks : (start_of (8 ∷ 17 ∷ [])).answer ≡ Err BadHeader
+  pub cut_short : (start_of (8 ∷ 1 ∷ 6 ∷ 0 ∷ 16 ∷ [])).answer ≡ Err BadHeader
   -- S3.1: number and task of a refused Start.
   pub empty_number : number_of (start_of []).answer ≡ 1
   pub empty_task : task_of (start_of []).answer ≡ 255
 
 worked : Worked
-unfolding byte_at processors_of count_of header_lawful header_answer read_answer read_of fresh_entry zero_entry allocation_answer zero_state start_of
+unfolding byte_at processors_of count_of header_lawful header_answer read_answer read_of fresh_entry zero_entry allocation_answer zero_state prepared_of start_of
 worked =
     record {
       fresh = refl;

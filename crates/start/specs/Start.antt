@@ -1,16 +1,15 @@
 -- S8.1: Start. What it answers to a sheet, and the state that it returns.
-use Rattle.std.specs.Prelude.{ℕ, false, List, replicate}
-use Rattle.sheet.specs.declared.answer.Answer.{Answer}
-use Rattle.sheet.specs.declared.answer.Answer.TheVariants.{Accepted, Refused}
+use Rattle.std.specs.Prelude.{ℕ, false, List, replicate, Result, Ok, Err}
+use Rattle.sheet.specs.declared.refusal.Refusal.{Refusal}
+use Rattle.sheet.specs.Refusal.{Answer, ◌or_else◌}
 use Rattle.sheet.specs.declared.task.TaskSet.{TaskSet}
 use Rattle.basics.specs.Lists.{cells}
-use Rattle.sheet.specs.Format.{task_in}
-use Rattle.reader.specs.Reading.{read_of}
+use Rattle.sheet.specs.Format.{task_in, task_set_of}
 use Rattle.allocation.specs.declared.allocate.Allocation.{Allocation}
-use Rattle.allocation.specs.Allocation.{allocation_at, allocation_answer, allocated_of}
+use Rattle.allocation.specs.Allocation.{allocation_at, allocation_answer, allocations_for}
 use Rattle.entries.specs.declared.state.TaskState.{TaskState}
+use Rattle.dispatcher.specs.declared.state.Answered.{Answered}
 use Rattle.dispatcher.specs.declared.state.State.{State}
-use Rattle.start.specs.declared.Started.{Started}
 use Rattle.start.specs.Fresh.{fresh_entry, zero_entry}
 
 -- S8.1: the fresh entries of the first count tasks. S7.3: zeros in the place of the others.
@@ -31,11 +30,19 @@ fresh_state set allocations =
 unfoldable pub zero_state : State
 zero_state = record { processors = 0; count = 0; critical = false; entries = replicate 16 zero_entry }
 
+-- S8.1, S3.3: the fresh state of a list of bytes as a sheet, or the first of the refusals 1 to 8.
+unfoldable pub prepared_of : List ℕ → Result State Refusal
+prepared_of sheet = allocation_answer sheet or_else Ok (fresh_state (task_set_of sheet) (allocations_for sheet))
+
+-- S8.1: what Start returns: an answer beside the state.
+abbrev pub Started : Type 0
+Started = Answered Answer
+
 -- S8.1: an answer with the state that goes with it: the fresh one if accepted, zeros if refused.
-abbrev pub started_with : Answer → State → Started
-started_with Accepted fresh = record { state = fresh; answer = Accepted }
-started_with (Refused number task) fresh = record { state = zero_state; answer = Refused number task }
+abbrev pub started_with : Result State Refusal → Started
+started_with (Ok fresh) = record { state = fresh; answer = Ok tt }
+started_with (Err r) = record { state = zero_state; answer = Err r }
 
 -- S8.1, S3.3: what Start makes of a list of bytes; it answers what the allocation does.
 unfoldable pub start_of : List ℕ → Started
-start_of sheet = started_with (allocation_answer sheet) (fresh_state (read_of sheet).set (allocated_of sheet).allocations)
+start_of sheet = started_with (prepared_of sheet)

@@ -1,9 +1,8 @@
 -- S2.14: Start makes the same of a sheet and of its wide form, but for the levels.
-use Rattle.std.specs.Prelude.{ℕ, List, ◌≡◌, get_or}
+use Rattle.std.specs.Prelude.{ℕ, List, ◌≡◌, get_or, Ok}
 use Rattle.basics.specs.Lists.{cells}
-use Rattle.sheet.specs.declared.answer.Answer.TheVariants.{Accepted}
 use Rattle.sheet.specs.Wide.{wide_level}
-use Rattle.reader.specs.Reading.{read_of}
+use Rattle.reader.specs.Reading.{read_answer}
 use Rattle.allocation.specs.Wide.{wide_form}
 use Rattle.entries.specs.declared.state.TaskState.{TaskState}
 use Rattle.dispatcher.specs.declared.state.State.{State}
@@ -37,5 +36,5 @@ wide_state st =
 -- Of every sheet that the reader accepts: the same answer, 7 and 8 among them, and the same state but for the levels.
 unfoldable pub WideStarted : Type 0
 WideStarted =
-    (s : List ℕ) → (read_of s).answer ≡ Accepted →
+    (s : List ℕ) → read_answer s ≡ Ok tt →
     start_of (wide_form s) ≡ record { state = wide_state (start_of s).state; answer = (start_of s).answer }

@@ -1,4 +1,4 @@
-// S8.1: a fresh entry, and one of zeros.
+//! S8.1: a fresh entry, and one of zeros.
 ghost use Rattle.std.specs.Prelude.{◌≡◌};
 ghost use Rattle.start.specs.Fresh.{fresh_entry, zero_entry};
 
@@ -7,14 +7,22 @@ use entries::state::{Job, TaskState};
 use shares::share::Share;
 use sheet::task::Task;
 
-// S7.3: an entry that stands for no task.
+/// S8.1: no job is alive, and no node has ended.
+const NO_JOB: Job = Job {
+    ended: 0,
+    alive: false,
+};
+
+/// S7.3: an entry that stands for no task.
+/// Written out, for its array of 32, as `sheet::task::zero_task` is.
+#[tactic(auto, unfolding(crate::specs::Fresh::zero_entry))]
 pub fn zero_entry() -> TaskState
     ensures { result ≡ zero_entry }
 {
     TaskState {
         level: 0,
         nodes: 0,
-        predecessors: [0u32; 32],
+        predecessors: [0; 32],
         deadline: 0,
         virtual_deadline: 0,
         share: Share {
@@ -22,31 +30,26 @@ pub fn zero_entry() -> TaskState
             critical: 0,
         },
         age: 0,
-        job: Job {
-            ended: 0,
-            alive: false,
-        },
+        job: NO_JOB,
     }
 }
 
-// S8.1: a task's entry with what is fixed for it, as old as D, so that it may be released at once.
-pub fn fresh_entry(t: Task, a: Allocation) -> TaskState
-    ensures { result ≡ fresh_entry t a }
+/// S8.1: a task's entry with what is fixed for it, as old as D, so that it may be released at once.
+/// Field by field: what it copies is of two structs, and of neither all.
+#[tactic(auto, unfolding(crate::specs::Fresh::fresh_entry))]
+pub fn fresh_entry(t: &Task, a: &Allocation) -> TaskState
+    ensures { result ≡ fresh_entry t.now a.now }
 {
-    let figures = t.figures;
+    // Bound first: of an array behind a `&` in a literal nothing is known.
     let predecessors = t.predecessors;
-    let share = a.share;
     TaskState {
         level: t.level,
         nodes: t.nodes,
         predecessors,
-        deadline: figures.deadline,
+        deadline: t.figures.deadline,
         virtual_deadline: a.virtual_deadline,
-        share,
-        age: figures.deadline,
-        job: Job {
-            ended: 0,
-            alive: false,
-        },
+        share: a.share,
+        age: t.figures.deadline,
+        job: NO_JOB,
     }
 }

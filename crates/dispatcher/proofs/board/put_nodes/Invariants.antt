@@ -1,5 +1,5 @@
--- `dispatcher::board::put_nodes` meets its contract. The loop's invariant: what is written, with the pairs of the nodes left, is the
--- whole, and there is room for them. The measure is the set that is left, as a number. Assumes nothing.
+-- `dispatcher::board::put_nodes`: what is written, with the pairs of the nodes to come, is the whole, and there is room
+-- for them.
 use lib.ListN.{length}
 use lib.Seq.{sets}
 use Rattle.nodes.specs.Sets.{members}
@@ -7,8 +7,6 @@ use Rattle.dispatcher.specs.Board.{pairs_of}
 use Rattle.dispatcher.proofs.Boards.{Written}
 use Rattle.dispatcher.proofs.board.put_nodes.Given as goal
 
-abbrev pub invariant-loop-rest : goal.invariant-loop-rest
-invariant-loop-rest l = Written (sets l.initial.buffer l.at (pairs_of l.task (members 32 l.nodes))) (length l.initial.buffer) l.task l.buffer l.place l.rest
-
-abbrev pub decreases-loop-rest : goal.decreases-loop-rest
-decreases-loop-rest l = l.rest
+abbrev pub invariant-loop-v : goal.invariant-loop-v
+invariant-loop-v l =
+    Written (sets l.initial.buffer l.at (pairs_of l.task (members 32 l.fn.nodes))) (length l.initial.buffer) l.task l.buffer l.place l.v-iterator

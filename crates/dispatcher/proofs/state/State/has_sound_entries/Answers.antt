@@ -1,0 +1,59 @@
+-- `dispatcher::state::State::has_sound_entries`: the entry of a turn is that of the next task, and what is passed, with
+-- what is left, is the whole.
+use Prim.Native.Nat.{◌≤◌, ◌<◌}
+use mathlib.Core.Path.{◌≡◌, sym, ap, ◌∙◌}
+use mathlib.Core.Bool.{Bool, ◌&&◌}
+use native.Mathlib.Omega.{arith}
+use borrow.Author.Tests.{le-leb}
+use lib.Dec.{leb}
+use lib.ListN.{length, take, get_or}
+use lib.Seq.{length-take-le}
+use Rattle.entries.specs.declared.state.TaskState.{TaskState}
+use Rattle.dispatcher.proofs.Entries.{Passed, no_entry, entry_at, turn_entry, passed_none, passed_broken, passed_more, passed_all}
+use Rattle.dispatcher.proofs.state.State.has_sound_entries.Goals.{Start, In-loop-e}
+use Rattle.dispatcher.proofs.state.State.has_sound_entries.Goals as goal
+
+-- The line has sixteen entries.
+long : (c : Start) → c.args.self.now.count ≤ length c.args.self.now.entries
+long c = omega arith
+
+pub loop-e-init : goal.loop-e-init
+loop-e-init c = passed_none c.args.self.now (long (goal.at.loop-e-init c).Start)
+
+inside : (c : In-loop-e) → c.loop-e.e-index < c.args.self.now.count
+inside c = omega (arith, c.from.ensures, c.loop-e-test.true, length-take-le _ c.args.self.now.entries (long (goal.at.In-loop-e c).Start))
+
+here : (c : In-loop-e) → get_or (take c.from.result c.args.self.now.entries) c.loop-e.e-index no_entry ≡ entry_at c.args.self.now c.loop-e.e-index
+here c = turn_entry c.args.self.now c.from.result c.loop-e.e-index c.from.ensures (inside c)
+
+pub returns-then-not-is_sound : goal.returns-then-not-is_sound
+returns-then-not-is_sound c =
+    let t = (goal.at.returns-then-not-is_sound c).In-loop-e in
+    rw (passed_broken c.args.self.now (long (goal.at.returns-then-not-is_sound c).Start) _ _ _ (inside t) (rw (here t) at (sym c.is_sound.ensures ∙ c.if-not-is_sound.true)) c.loop-e.invariant)
+
+pub overflow_add-critical : goal.overflow_add-critical
+overflow_add-critical c = let p : Passed _ _ _ _ = c.loop-e.invariant in omega (arith, p.critical_small, c.from-critical.ensures, inside (goal.at.overflow_add-critical c).In-loop-e)
+
+pub overflow_add-typical : goal.overflow_add-typical
+overflow_add-typical c = let p : Passed _ _ _ _ = c.loop-e.invariant in omega (arith, p.typical_small, c.from-typical.ensures, inside (goal.at.overflow_add-typical c).In-loop-e)
+
+pub loop-e-preserved : goal.loop-e-preserved
+loop-e-preserved c =
+    let t = (goal.at.loop-e-preserved c).In-loop-e in
+    let typical : c.from-typical.result ≡ (entry_at c.args.self.now c.loop-e.e-index).share.typical =
+    c.from-typical.ensures ∙ c.in_mode.ensures ∙ ap (λ (e : TaskState). e.share.typical) (here t) in
+    let critical : c.from-critical.result ≡ (entry_at c.args.self.now c.loop-e.e-index).share.critical =
+    c.from-critical.ensures ∙ c.in_mode-in-loop-e.ensures ∙ ap (λ (e : TaskState). e.share.critical) (here t) in
+    rw (typical, critical)
+    (passed_more c.args.self.now (long (goal.at.loop-e-preserved c).Start) _ _ _ (inside t)
+    (rw (here t) at (sym c.is_sound.ensures ∙ c.if-not-is_sound.false))
+    (omega (arith, typical, c.from-typical.ensures))
+    (omega (arith, critical, c.from-critical.ensures))
+    c.loop-e.invariant)
+
+pub returns-then-typical-processors : goal.returns-then-typical-processors
+returns-then-typical-processors c =
+    let all : c.args.self.now.count ≤ c.loop-e.e-index =
+    omega (arith, c.from.ensures, length-take-le _ c.args.self.now.entries (long (goal.at.returns-then-typical-processors c).Start)) in
+    ap (λ (t : Bool). t && leb c.loop-e.critical c.from-processors.result) (sym (le-leb c.loop-e.typical c.from-processors.result c.if-typical-processors.true))
+    ∙ rw c.from-processors.ensures (passed_all c.args.self.now (long (goal.at.returns-then-typical-processors c).Start) c.loop-e.e-index _ _ all c.loop-e.invariant)

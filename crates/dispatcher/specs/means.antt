@@ -1,0 +1,2 @@
+-- What only proofs and inner functions need: the pass of a tick.
+pub mod Passed
