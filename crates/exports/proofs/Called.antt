@@ -1,5 +1,5 @@
--- The calls case by case: no state, a state whose call is refused, and one whose call is accepted. A refused call hands the state back,
--- and the words of what a line says are the line's.
+-- The calls case by case: no state, a state whose call is refused, and one whose call is accepted. A refused call
+-- hands the state back, and the words of what a line says are the line's.
 use Prim.Native.Nat.{ℕ}
 use mathlib.Core.Path.{◌≡◌, refl, sym, ap, ◌∙◌}
 use mathlib.Core.Bool.{true, false}
@@ -7,19 +7,20 @@ use mathlib.Core.List.{List}
 use native.Mathlib.Omega.{arith}
 use lib.ListN.{length}
 use borrow.Author.Tests.{eq-eqb, ne_eqb}
-use Rattle.sheet.specs.declared.answer.Answer.{Answer}
-use Rattle.sheet.specs.declared.answer.Answer.TheVariants.{Accepted, Refused}
+use Rattle.sheet.specs.Refusal.{Answer}
+use Rattle.std.specs.Prelude.{Ok, Err}
+use Rattle.sheet.specs.declared.refusal.Refusal.{Refusal}
 use Rattle.dispatcher.specs.declared.state.State.{State}
-use Rattle.dispatcher.specs.declared.release.Released.{Released}
-use Rattle.dispatcher.specs.declared.tick.Ticked.{Ticked}
+use Rattle.dispatcher.specs.Answers.{Released}
+use Rattle.dispatcher.specs.Answers.{Ticked}
 use Rattle.dispatcher.specs.declared.tick.TickAnswer.TheVariants.{Refused as TickRefused}
-use Rattle.dispatcher.specs.declared.board.Boarded.{Boarded}
+use Rattle.dispatcher.specs.Answers.{Boarded}
 use Rattle.dispatcher.specs.Calls.{release_of, tick_of}
 use Rattle.dispatcher.specs.Board.{boarded_of, board_of}
 use Rattle.dispatcher.proofs.Laws.{release_back, tick_back}
-use Rattle.start.specs.declared.Started.{Started}
+use Rattle.start.specs.Start.{Started}
 use Rattle.start.specs.Start.{start_of}
-use Rattle.sheet.specs.Answers.{answer_word}
+use Rattle.sheet.specs.Refusal.{answer_word}
 use Rattle.exports.specs.Ticks.{tick_word}
 use Rattle.exports.specs.Words.{state_size, state_words, state_from, is_state, StateHeld}
 use Rattle.exports.specs.Calls.{Called, no_state, start_left, start_call, release_call, tick_call, board_call, StartTaken}
@@ -43,16 +44,16 @@ module _ (sheet line : List ℕ) where
   unfolding StartTaken
   start_short short left long accepted = absurd (short long)
 
-  pub start_untaken : (s : Started) → s ≡ start_of sheet → {number task : ℕ} → s.answer ≡ Refused number task → (left : List ℕ) → StartTaken sheet line left
+  pub start_untaken : (s : Started) → s ≡ start_of sheet → {r : Refusal} → s.answer ≡ Err r → (left : List ℕ) → StartTaken sheet line left
   unfolding StartTaken
-  start_untaken s started {number} {task} refused left long accepted = absurd (never (sym accepted ∙ ap (λ (s : Started). s.answer) (sym started) ∙ refused))
+  start_untaken s started {r} refused left long accepted = absurd (never (sym accepted ∙ ap (λ (s : Started). s.answer) (sym started) ∙ refused))
     where
-      never : Accepted ≡ Refused number task → ⊥
+      never : ◌≡◌ {A = Answer} (Ok tt) (Err r) → ⊥
       never e = let z : ◌≡◌ {A = ℕ} 0 1 = ap told e in omega arith
         where
           told : Answer → ℕ
-          told Accepted = 0
-          told (Refused number task) = 1
+          told (Ok x) = 0
+          told (Err r) = 1
 
   pub start_taken : (s : State) → StateHeld s → (left : List ℕ) → left ≡ state_words s → StartTaken sheet line left
   unfolding StartTaken
@@ -66,15 +67,15 @@ module _ (sheet line : List ℕ) where
         (ap (λ (s : Started). record { word = answer_word s.answer; left = start_left s.answer s.state line }) (sym started)
         ∙ ap (λ (a : Answer). record { word = answer_word a; left = start_left a s.state line }) answered)
 
-    pub start_refused : (word : ℕ) {number task : ℕ} → word ≡ answer_word s.answer → s.answer ≡ Refused number task → Does (start_call sheet line) word line
-    start_refused word {number} {task} said refused =
-        rw (said, refused) (does _ line (start_answered (Refused number task) refused))
+    pub start_refused : (word : ℕ) {r : Refusal} → word ≡ answer_word (Err r) → s.answer ≡ Err r → Does (start_call sheet line) word line
+    start_refused word {r} said refused = rw said (does _ line (start_answered (Err r) refused))
 
-    pub start_accepted : (out : List ℕ) → out ≡ state_words s.state → s.answer ≡ Accepted → Does (start_call sheet line) 65280 out
-    unfolding answer_word
-    start_accepted out written accepted = rw written (does 65280 (state_words s.state) (start_answered Accepted accepted))
+    pub start_accepted : (word : ℕ) (out : List ℕ) → word ≡ answer_word s.answer → out ≡ state_words s.state → s.answer ≡ Ok tt → Does (start_call sheet line) word out
+    start_accepted word out said written accepted =
+        rw (said, written, accepted) (does (answer_word (Ok tt)) (state_words s.state) (start_answered (Ok tt) accepted))
 
--- A call on a line that is a state: the state that was read, and what the call on it returned, an answer's word and a state.
+-- A call on a line that is a state: the state that was read, and what the call on it returned, an answer's word and a
+-- state.
 module _
     {R : Type 0}
     (word : R → ℕ)
@@ -111,17 +112,15 @@ module _ (line : List ℕ) (task : ℕ) where
   release_called is = rw is
 
   module _ (is : is_state line ≡ true) (s : State) (read : s ≡ state_from line) (r : Released) (released : r ≡ release_of s task) where
-    pub release_refused : (word : ℕ) {number at : ℕ} → word ≡ answer_word r.answer → r.answer ≡ Refused number at → Does (release_call line task) word line
-    release_refused word {number} {at} said refused =
-        handed_back (λ (r : Released). answer_word r.answer) (λ (r : Released). r.state) (λ (s : State). release_of s task) line (release_called is) s read r released is word said
+    pub release_refused : (word : ℕ) {refusal : Refusal} → word ≡ answer_word (Err refusal) → r.answer ≡ Err refusal → Does (release_call line task) word line
+    release_refused word {refusal} said refused =
+        handed_back (λ (r : Released). answer_word r.answer) (λ (r : Released). r.state) (λ (s : State). release_of s task) line (release_called is) s read r released is word (said ∙ sym (ap answer_word refused))
         (ap (λ (r : Released). r.state) released
-        ∙ release_back s task {number = number} {task = at} (sym (ap (λ (r : Released). r.answer) released) ∙ refused))
+        ∙ release_back s task (sym (ap (λ (r : Released). r.answer) released) ∙ refused))
 
-    pub release_accepted : (out : List ℕ) → out ≡ state_words r.state → r.answer ≡ Accepted → Does (release_call line task) 65280 out
-    unfolding answer_word
-    release_accepted out written accepted =
-        written_over (λ (r : Released). answer_word r.answer) (λ (r : Released). r.state) (λ (s : State). release_of s task) line (release_called is) s read r released 65280 out
-        (sym (ap answer_word accepted)) written
+    pub release_accepted : (word : ℕ) (out : List ℕ) → word ≡ answer_word r.answer → out ≡ state_words r.state → Does (release_call line task) word out
+    release_accepted word out said written =
+        written_over (λ (r : Released). answer_word r.answer) (λ (r : Released). r.state) (λ (s : State). release_of s task) line (release_called is) s read r released word out said written
 
 -- Tick.
 module _ (line reports : List ℕ) where
@@ -135,11 +134,12 @@ module _ (line reports : List ℕ) where
   tick_called is = rw is
 
   module _ (is : is_state line ≡ true) (s : State) (read : s ≡ state_from line) (t : Ticked) (ticked : t ≡ tick_of s reports) where
-    pub tick_refused : (word : ℕ) {number at : ℕ} → word ≡ tick_word t.answer → t.answer ≡ TickRefused number at → Does (tick_call line reports) word line
-    tick_refused word {number} {at} said refused =
-        handed_back (λ (t : Ticked). tick_word t.answer) (λ (t : Ticked). t.state) (λ (s : State). tick_of s reports) line (tick_called is) s read t ticked is word said
+    pub tick_refused : (word : ℕ) {refusal : Refusal} → word ≡ answer_word (Err refusal) → t.answer ≡ TickRefused refusal → Does (tick_call line reports) word line
+    unfolding tick_word
+    tick_refused word {refusal} said refused =
+        handed_back (λ (t : Ticked). tick_word t.answer) (λ (t : Ticked). t.state) (λ (s : State). tick_of s reports) line (tick_called is) s read t ticked is word (said ∙ sym (ap tick_word refused))
         (ap (λ (t : Ticked). t.state) ticked
-        ∙ tick_back s reports {number = number} {task = at} (sym (ap (λ (t : Ticked). t.answer) ticked) ∙ refused))
+        ∙ tick_back s reports (sym (ap (λ (t : Ticked). t.answer) ticked) ∙ refused))
 
     pub tick_accepted : (word : ℕ) (out : List ℕ) → word ≡ tick_word t.answer → out ≡ state_words t.state → Does (tick_call line reports) word out
     tick_accepted word out said written =

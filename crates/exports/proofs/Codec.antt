@@ -1,5 +1,5 @@
--- S13.1, S13.2: words and states say the same, with nothing lost either way (`same_said`). An entry's words are taken apart at the masks,
--- which are 32; a state's words entry by entry, each 41 behind the one before.
+-- S13.1, S13.2: words and states say the same, with nothing lost either way (`same_said`). An entry's words are taken
+-- apart at the masks, which are 32; a state's words entry by entry, each 41 behind the one before.
 use Prim.Native.Nat.{ℕ, zero, suc, ◌+◌, ◌*◌, ◌≤◌, ◌<◌}
 use mathlib.Core.Path.{◌≡◌, refl, sym, ap, ap₂, subst⁻¹, ◌∙◌}
 use mathlib.Core.Bool.{Bool, true, false}

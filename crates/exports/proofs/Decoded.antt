@@ -1,50 +1,22 @@
 -- Entries read one after the other: cells that are all filled are the whole.
-use Prim.Native.Nat.{ℕ, ◌+◌, ◌<◌}
+use Prim.Native.Nat.{ℕ, ◌+◌, ◌-◌, ◌<◌}
 use mathlib.Core.Path.{◌≡◌, ap, ap₂, ◌∙◌}
 use mathlib.Core.Bool.{not}
 use mathlib.Core.List.{List}
-use native.Mathlib.Nat.{add-zero}
 use native.Mathlib.Omega.{arith}
 use lib.Dec.{eqb}
-use lib.ListN.{get_or, take, drop, set, replicate}
-use lib.Seq.{get_or-drop, drop-drop}
+use lib.ListN.{length, get_or, take, drop, set, replicate, length-drop}
+use lib.Seq.{take_all}
 use Rattle.basics.specs.Lists.{cells}
 use Rattle.basics.proofs.Cells.{cells_none, cells_store, cells_full}
 use Rattle.entries.specs.declared.state.TaskState.{TaskState}
 use Rattle.start.specs.Fresh.{zero_entry}
 use Rattle.dispatcher.specs.declared.state.State.{State}
-use Rattle.exports.specs.Words.{is_set, entry_from, entry_at, state_from}
+use Rattle.exports.specs.Words.{is_set, entry_at, state_from}
 
--- The entry by its words' places in the line.
-pub entry_in_place : (line : List ℕ) (at : ℕ) (masks : List ℕ) → masks ≡ take 32 (drop (at + 2) line) →
-    ◌≡◌ {A = TaskState}
-    (record {
-      level = get_or line at 0;
-      nodes = get_or line (at + 1) 0;
-      predecessors = masks;
-      deadline = get_or line (at + 34) 0;
-      virtual_deadline = get_or line (at + 35) 0;
-      share = record { typical = get_or line (at + 36) 0; critical = get_or line (at + 37) 0 };
-      age = get_or line (at + 38) 0;
-      job = record { ended = get_or line (at + 39) 0; alive = not (eqb (get_or line (at + 40) 0) 0) };
-    })
-    (entry_from (drop at line))
-unfolding entry_from is_set
-entry_in_place line at masks read =
-    rw (
-      read,
-      drop-drop 2 at line,
-      get_or-drop at line 0 0,
-      get_or-drop at line 1 0,
-      get_or-drop at line 34 0,
-      get_or-drop at line 35 0,
-      get_or-drop at line 36 0,
-      get_or-drop at line 37 0,
-      get_or-drop at line 38 0,
-      get_or-drop at line 39 0,
-      get_or-drop at line 40 0,
-      add-zero at,
-    )
+-- A line from a place on, as the code takes it.
+pub rest_whole : (line : List ℕ) (at : ℕ) → take (length line - at) (drop at line) ≡ drop at line
+rest_whole line at = take_all (length line - at) (drop at line) (omega (arith, length-drop at line))
 
 module _ (line : List ℕ) where
   -- The state that the line says, with these entries.

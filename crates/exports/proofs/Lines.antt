@@ -1,13 +1,11 @@
 -- S13.2: what the tests of a line say, as facts, and back.
-use Prim.Native.Nat.{ℕ, ◌+◌, ◌<◌}
+use Prim.Native.Nat.{ℕ, ◌<◌}
 use mathlib.Core.Path.{◌≡◌}
 use mathlib.Core.Bool.{Bool, true, ◌&&◌, and-eq-true_iff}
 use mathlib.Core.List.{List}
-use native.Mathlib.Nat.{add-zero}
 use borrow.Author.Tests.{ltb-true, lt-ltb, eqb-true, eq-eqb}
-use lib.Dec.{ltb, eqb}
+use lib.Dec.{eqb}
 use lib.ListN.{length, get_or, drop}
-use lib.Seq.{get_or-drop}
 use Rattle.basics.specs.Lists.{all_below}
 use Rattle.basics.proofs.Below.{all_at, all_intro}
 use Rattle.exports.specs.Words.{entry_start, state_size, is_byte, is_mark, entry_fits, is_state}
@@ -88,36 +86,3 @@ line_state line f =
       lt-ltb (get_or line 2 0) 2 f.mode,
       all_intro 16 (λ (i : ℕ). entry_fits (drop (entry_start i) line)) f.entries,
     )
-
--- The tests of an entry by its words' places in the line.
-pub fits_in_place : (line : List ℕ) (at : ℕ) →
-    (ltb (get_or line at 0) 256 && ltb (get_or line (at + 1) 0) 256 && ltb (get_or line (at + 36) 0) 256 && ltb (get_or line (at + 37) 0) 256
-    && ltb (get_or line (at + 40) 0) 2)
-    ≡ entry_fits (drop at line)
-unfolding entry_fits
-fits_in_place line at =
-    rw (
-      get_or-drop at line 0 0,
-      get_or-drop at line 1 0,
-      get_or-drop at line 36 0,
-      get_or-drop at line 37 0,
-      get_or-drop at line 40 0,
-      add-zero at,
-    )
-
--- What fits, by the words' places in the line.
-pub record FittingAt (line : List ℕ) (at : ℕ) : Type 0 where
-  pub level : get_or line at 0 < 256
-  pub nodes : get_or line (at + 1) 0 < 256
-  pub typical : get_or line (at + 36) 0 < 256
-  pub critical : get_or line (at + 37) 0 < 256
-
-pub fitting_at : (line : List ℕ) (at : ℕ) → entry_fits (drop at line) ≡ true → FittingAt line at
-fitting_at line at t =
-    let f = entry_fitting (drop at line) t in
-    record {
-      level = rw (get_or-drop at line 0 0, add-zero at) at f.level;
-      nodes = rw (get_or-drop at line 1 0) at f.nodes;
-      typical = rw (get_or-drop at line 36 0) at f.typical;
-      critical = rw (get_or-drop at line 37 0) at f.critical;
-    }

@@ -1,5 +1,6 @@
--- S13.5, S13.6, S13.8: a refused call leaves what stood there, a line that is no state is answered first, and a line that is a state stays
--- one. By the cases of the answer: an accepted one has number 0, and a refused one hands back what it was given.
+-- S13.5, S13.6, S13.8: a refused call leaves what stood there, a line that is no state is answered first, and a line
+-- that is a state stays one. By the cases of the answer: an accepted one has number 0, and a refused one hands back
+-- what it was given.
 use Prim.Native.Nat.{ℕ, zero, suc, ◌≤◌}
 use mathlib.Core.Path.{◌≡◌, refl, ap, ◌∙◌}
 use mathlib.Core.Bool.{Bool, true, false, cond}
@@ -7,11 +8,13 @@ use mathlib.Core.List.{List, [], ◌∷◌}
 use native.Mathlib.Omega.{arith}
 use lib.Dec.{eqb}
 use lib.ListN.{length, get_or, get_or-replicate, length-replicate}
-use Rattle.sheet.specs.declared.answer.Answer.{Answer}
-use Rattle.sheet.specs.declared.answer.Answer.TheVariants.{Accepted, Refused}
-use Rattle.allocation.specs.Allocation.{allocated_of}
+use Rattle.sheet.specs.Refusal.{Answer}
+use Rattle.std.specs.Prelude.{Ok, Err}
+use Rattle.sheet.specs.declared.refusal.Refusal.{Refusal}
+use Rattle.sheet.specs.Format.{task_set_of}
+use Rattle.allocation.specs.Allocation.{allocations_for}
 use Rattle.planner.specs.Plan.{plan_answer, plan_bytes, planned}
-use Rattle.sheet.specs.Answers.{no_task, answer_word, written_if}
+use Rattle.sheet.specs.Refusal.{answer_word, written_if}
 use Rattle.model.specs.Row.{Row}
 use Rattle.model.specs.Step.{Model, step, release, tick}
 use Rattle.entries.specs.declared.state.TaskState.{TaskState}
@@ -20,7 +23,7 @@ use Rattle.start.specs.Fresh.{zero_entry}
 use Rattle.dispatcher.specs.declared.state.State.{State}
 use Rattle.dispatcher.specs.Holds.{model_of, with_rows, with_model}
 use Rattle.dispatcher.specs.Sound.{is_sound}
-use Rattle.dispatcher.specs.Answers.{not_sound}
+use Rattle.sheet.specs.declared.refusal.Refusal.TheVariants.{NotSound}
 use Rattle.dispatcher.specs.declared.tick.TickAnswer.{TickAnswer}
 use Rattle.dispatcher.specs.declared.tick.TickAnswer.TheVariants.{Ran, Switched, Returned, Refused as TickRefused}
 use Rattle.dispatcher.specs.Calls.{released_by, release_of, ticked_by, tick_of}
@@ -34,19 +37,19 @@ use Rattle.exports.proofs.Codec.{same_said}
 use Rattle.exports.proofs.Called.{release_none, tick_none, board_none}
 
 -- An accepted answer has number 0: what a refused one leaves is all that counts.
-left_by : {A : Type 0} (a : Answer) (left before : A) → ((number task : ℕ) → a ≡ Refused number task → left ≡ before) →
+left_by : {A : Type 0} (a : Answer) (left before : A) → ((r : Refusal) → a ≡ Err r → left ≡ before) →
     1 ≤ number_in (answer_word a) → left ≡ before
 unfolding answer_word
-left_by Accepted left before h refused = absurd (omega arith)
-left_by (Refused number task) left before h refused = h number task refl
+left_by (Ok x) left before h refused = absurd (omega arith)
+left_by (Err r) left before h refused = h r refl
 
-tick_left_by : {A : Type 0} (a : TickAnswer) (left before : A) → ((number task : ℕ) → a ≡ TickRefused number task → left ≡ before) →
+tick_left_by : {A : Type 0} (a : TickAnswer) (left before : A) → ((r : Refusal) → a ≡ TickRefused r → left ≡ before) →
     1 ≤ number_in (tick_word a) → left ≡ before
 unfolding tick_word
 tick_left_by Ran left before h refused = absurd (omega arith)
 tick_left_by (Switched task) left before h refused = absurd (omega arith)
 tick_left_by Returned left before h refused = absurd (omega arith)
-tick_left_by (TickRefused number task) left before h refused = h number task refl
+tick_left_by (TickRefused r) left before h refused = h r refl
 
 start-leaves : (sheet line : List ℕ) → Leaves (start_call sheet line) line
 unfolding Leaves start_call
@@ -55,7 +58,7 @@ start-leaves sheet line = go (eqb (length line) state_size) (start_of sheet).ans
     go : (t : Bool) (a : Answer) →
         Leaves (cond t (record { word = answer_word a; left = start_left a (start_of sheet).state line }) (no_state line)) line
     go false a refused = refl
-    go true a refused = left_by a (start_left a (start_of sheet).state line) line (λ number task e. ap (λ (a : Answer). start_left a (start_of sheet).state line) e) refused
+    go true a refused = left_by a (start_left a (start_of sheet).state line) line (λ r e. ap (λ (a : Answer). start_left a (start_of sheet).state line) e) refused
 
 -- A call on a line leaves it where a number other than 0 goes with the state that was read.
 line-leaves : (line : List ℕ) (word : ℕ) (after : State) → (1 ≤ number_in word → after ≡ state_from line) →
@@ -68,7 +71,7 @@ release_leaves : (line : List ℕ) (task : ℕ) → Leaves (release_call line ta
 unfolding release_call
 release_leaves line task =
     line-leaves line (answer_word (release_of (state_from line) task).answer) (release_of (state_from line) task).state
-    (left_by (release_of (state_from line) task).answer _ _ (λ number at. release_back (state_from line) task {number = number} {task = at}))
+    (left_by (release_of (state_from line) task).answer _ _ (λ r. release_back (state_from line) task {r = r}))
     (is_state line)
     refl
 
@@ -76,7 +79,7 @@ tick_leaves : (line reports : List ℕ) → Leaves (tick_call line reports) line
 unfolding tick_call
 tick_leaves line reports =
     line-leaves line (tick_word (tick_of (state_from line) reports).answer) (tick_of (state_from line) reports).state
-    (tick_left_by (tick_of (state_from line) reports).answer _ _ (λ number at. tick_back (state_from line) reports {number = number} {task = at}))
+    (tick_left_by (tick_of (state_from line) reports).answer _ _ (λ r. tick_back (state_from line) reports {r = r}))
     (is_state line)
     refl
 
@@ -86,17 +89,17 @@ board_leaves line buffer = go (is_state line) (board_answer (state_from line) (l
   where
     go : (t : Bool) (a : Answer) → Leaves (cond t (record { word = answer_word a; left = board_left a (state_from line) buffer }) (no_state buffer)) buffer
     go false a refused = refl
-    go true a refused = left_by a (board_left a (state_from line) buffer) buffer (λ number task e. ap (λ (a : Answer). board_left a (state_from line) buffer) e) refused
+    go true a refused = left_by a (board_left a (state_from line) buffer) buffer (λ r e. ap (λ (a : Answer). board_left a (state_from line) buffer) e) refused
 
 plan_leaves : (sheet buffer : List ℕ) → Leaves (plan_call sheet buffer) buffer
 unfolding Leaves plan_call planned
 plan_leaves sheet buffer refused =
     left_by (plan_answer sheet (length buffer)) (planned sheet buffer) buffer
-    (λ number task e. ap (λ (a : Answer). written_if a (plan_bytes (allocated_of sheet).count (allocated_of sheet).allocations) buffer) e)
+    (λ r e. ap (λ (a : Answer). written_if a (plan_bytes (task_set_of sheet).count (allocations_for sheet)) buffer) e)
     refused
 
-pub refusal-leaves : RefusalLeaves
-refusal-leaves =
+pub refusal_leaves : RefusalLeaves
+refusal_leaves =
     record { start = start-leaves; release = release_leaves; tick = tick_leaves; board = board_leaves; plan = plan_leaves }
 
 pub no_state_first : (line : List ℕ) → is_state line ≡ false → NoStateFirst line
@@ -133,7 +136,7 @@ release_held : (s : State) (task : ℕ) → StateHeld s → StateHeld (release_o
 unfolding release_of
 release_held s task h = go (is_sound s)
   where
-    go : (t : Bool) → StateHeld (cond t (released_by s (step (model_of s) (release task))) (record { state = s; answer = Refused not_sound no_task })).state
+    go : (t : Bool) → StateHeld (cond t (released_by s (step (model_of s) (release task))) (record { state = s; answer = Err NotSound })).state
     go true = model_held s (step (model_of s) (release task)).model h
     go false = h
 
@@ -141,7 +144,7 @@ tick_held : (s : State) (reports : List ℕ) → StateHeld s → StateHeld (tick
 unfolding tick_of
 tick_held s reports h = go (is_sound s)
   where
-    go : (t : Bool) → StateHeld (cond t (ticked_by s (step (model_of s) (tick reports))) (record { state = s; answer = TickRefused not_sound no_task })).state
+    go : (t : Bool) → StateHeld (cond t (ticked_by s (step (model_of s) (tick reports))) (record { state = s; answer = TickRefused NotSound })).state
     go true = model_held s (step (model_of s) (tick reports)).model h
     go false = h
 

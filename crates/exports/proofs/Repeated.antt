@@ -7,10 +7,10 @@ use lib.ListN.{length}
 use native.Mathlib.Numerals.{add-one}
 use native.Mathlib.Omega.{arith}
 use Rattle.dispatcher.specs.declared.state.State.{State}
-use Rattle.dispatcher.specs.declared.tick.Ticked.{Ticked}
+use Rattle.dispatcher.specs.Answers.{Ticked}
 use Rattle.dispatcher.specs.Calls.{release_of, tick_of}
 use Rattle.dispatcher.specs.Board.{boarded_of, board_of}
-use Rattle.sheet.specs.Answers.{answer_word}
+use Rattle.sheet.specs.Refusal.{answer_word}
 use Rattle.exports.specs.Ticks.{accepted_word, tick_word}
 use Rattle.exports.specs.Words.{state_from, is_state}
 use Rattle.exports.specs.Repeats.{ticks_word, last_word, boards_of, ticks_call, releases_call, boards_call}

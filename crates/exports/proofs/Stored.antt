@@ -1,43 +1,45 @@
--- Words read and stored one behind the other: what is done, with what is left, is the whole.
-use Prim.Native.Nat.{ℕ, zero, suc, ◌+◌, ◌≤◌, ◌<◌}
+-- Words stored one behind the other: what is done, with what is left, is the whole.
+use Prim.Native.Nat.{ℕ, zero, suc, ◌+◌, ◌-◌, ◌≤◌, ◌<◌}
 use mathlib.Core.Path.{◌≡◌, refl, sym, subst, ◌∙◌}
-use mathlib.Core.Bool.{Bool, ◌&&◌}
-use mathlib.Core.List.{List, [], ◌∷◌, ◌++◌, append-nil}
+use mathlib.Core.Bool.{Bool, true, false}
+use mathlib.Core.List.{List, [], ◌∷◌, ◌++◌, append-nil, append_assoc}
+use mir.Val.{bool_byte}
+use borrow.Rule.Slice.PartMut.{put_mid}
 use native.Mathlib.Numerals.{add-one}
 use native.Mathlib.Omega.{arith}
 use native.Mathlib.Decide.{dec_lt}
 use lib.ListN.{length, get_or, take, drop, set, length-drop, drop_of_length-le}
-use lib.Seq.{take-suc, take-suc-set, drop-cons, get_or-drop, sets, length-sets, sets-eq}
-use Rattle.basics.specs.Lists.{all_below, bit}
+use lib.Seq.{drop-cons, drop-drop, sets, length-sets, sets-eq}
+use Rattle.basics.specs.Lists.{bit}
 use Rattle.basics.proofs.Bytes.{sets-append}
 use Rattle.entries.specs.declared.state.TaskState.{TaskState}
 use Rattle.start.specs.Fresh.{zero_entry}
 use Rattle.dispatcher.specs.declared.state.State.{State}
 use Rattle.exports.specs.Words.{entry_start, state_size, entry_words, entries_words, state_words, EntryHeld, StateHeld}
 use Rattle.exports.proofs.Codec.{entry_long, same_said}
+use Rattle.exports.proofs.Decoded.{rest_whole}
 
--- One more number tested.
-pub all_next : (test : ℕ → Bool) (i : ℕ) (fit fits : Bool) → fit ≡ all_below i test → fits ≡ test i → (fit && fits) ≡ all_below (i + 1) test
-unfolding all_below
-all_next test i fit fits so_far next = rw (add-one i, so_far, next)
+-- A mark in a word.
+pub mark_word : (b : Bool) → bool_byte b ≡ bit b
+mark_word true = refl
+mark_word false = refl
 
--- One more word read.
-pub read_next : (words line : List ℕ) (at v : ℕ) → v < length words → at + v < length line → take v words ≡ take v (drop at line) →
-    take (v + 1) (set words v (get_or line (at + v) 0)) ≡ take (v + 1) (drop at line)
-read_next words line at v room inside so_far =
-    let short : v < length (drop at line) = omega (arith, length-drop at line) in
-    rw (add-one v, take-suc-set words v (get_or line (at + v) 0) room, take-suc (drop at line) v 0 short, get_or-drop at line v 0, so_far)
+-- Words written over the front of a line's rest are written over the line.
+pub rest_written : (line words : List ℕ) (at : ℕ) → at + length words ≤ length line →
+    put_mid at (length line - at) line (sets (take (length line - at) (drop at line)) 0 words) ≡ sets line at words
+rest_written line words at inside =
+    let none : drop (length line - at) (drop at line) ≡ [] =
+    drop_of_length-le (drop at line) {i = length line - at} (omega (arith, length-drop at line)) in
+    let front : 0 + length words ≡ length words = omega arith in
+    rw (rest_whole line at, none, append-nil (sets (drop at line) 0 words))
+    (rw (sets-eq words (drop at line) 0 (omega (arith, length-drop at line)), sets-eq words line at inside, front, drop-drop (length words) at line, append_assoc (take at line) words (drop (at + length words) line)))
 
--- One more word stored.
-pub store_next : (words line whole : List ℕ) (at v : ℕ) → v < length words → sets line (at + v) (drop v words) ≡ whole →
-    sets (set line (at + v) (get_or words v 0)) (at + (v + 1)) (drop (v + 1) words) ≡ whole
-store_next words line whole at v inside left =
-    let next : at + (v + 1) ≡ suc (at + v) = omega arith in
-    rw (next, add-one v) (rw (drop-cons words v 0 inside) at left)
-
--- None left.
-pub store_none : (words line whole : List ℕ) (at v : ℕ) → length words ≤ v → sets line (at + v) (drop v words) ≡ whole → line ≡ whole
-store_none words line whole at v all left = rw (drop_of_length-le words all) at left
+pub entry_written : (line : List ℕ) (e : TaskState) (i : ℕ) → EntryHeld e → i < 16 → length line ≡ state_size →
+    put_mid (entry_start i) (length line - entry_start i) line
+    (sets (take (length line - entry_start i) (drop (entry_start i) line)) 0 (entry_words e))
+    ≡ sets line (entry_start i) (entry_words e)
+entry_written line e i held inside long =
+    rest_written line (entry_words e) (entry_start i) (omega (arith, entry_long e held.masks, long))
 
 -- Two words, the masks and seven words are an entry's.
 module _ (line : List ℕ) (at : ℕ) (e : TaskState) (masks : length e.predecessors ≡ 32) where
@@ -65,7 +67,8 @@ module _ (line : List ℕ) (at : ℕ) (e : TaskState) (masks : length e.predeces
       rw (so_far, last, p0, p1, p2, p3, p4, p5, p6, two, one)
       (sym (sets-append (set (set line at e.level) (suc at) e.nodes) (suc (suc at)) e.predecessors _))
 
--- On the way through a state's entries: what is written, with what is left to write, is the whole, and the values of the entries passed fit.
+-- On the way through a state's entries: what is written, with what is left to write, is the whole, and the values of
+-- the entries passed fit.
 pub record Storing (entries : List TaskState) (whole line : List ℕ) (i : ℕ) : Type 0 where
   pub upto : i ≤ 16
   pub size : length line ≡ state_size

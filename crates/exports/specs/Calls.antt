@@ -1,8 +1,9 @@
--- S13.3 to S13.6: the calls on lines and buffers. What each answers, as a word, and what it leaves in the line or buffer that it may write.
+-- S13.3 to S13.6: the calls on lines and buffers. What each answers, as a word, and what it leaves in the line or
+-- buffer that it may write.
 use Rattle.std.specs.Prelude.{ℕ, ◌+◌, ◌*◌, ◌%◌, ◌≤◌, true, false, cond, List, [], ◌≡◌, eqb, length}
-use Rattle.sheet.specs.declared.answer.Answer.{Answer}
-use Rattle.sheet.specs.declared.answer.Answer.TheVariants.{Accepted, Refused}
-use Rattle.sheet.specs.Answers.{no_task, answer_word}
+use Rattle.sheet.specs.Refusal.{Answer}
+use Rattle.std.specs.Prelude.{Ok, Err}
+use Rattle.sheet.specs.Refusal.{no_task, answer_word}
 use Rattle.planner.specs.Plan.{plan_answer, planned}
 use Rattle.dispatcher.specs.declared.state.State.{State}
 use Rattle.dispatcher.specs.Calls.{release_of, tick_of}
@@ -24,10 +25,11 @@ not_state = 100
 abbrev pub no_state : List ℕ → Called
 no_state left = record { word = not_state + 256 * no_task; left = left }
 
--- S13.3, S13.6: what Start leaves in a line: the words of the fresh state, or the line as it was where the sheet is refused.
+-- S13.3, S13.6: what Start leaves in a line: the words of the fresh state, or the line as it was where the sheet is
+-- refused.
 abbrev pub start_left : Answer → State → List ℕ → List ℕ
-start_left Accepted fresh line = state_words fresh
-start_left (Refused number task) fresh line = line
+start_left (Ok x) fresh line = state_words fresh
+start_left (Err r) fresh line = line
 
 -- S13.3: Start, of a sheet on a line of so many words as a state has. They are not read.
 unfoldable pub start_call : List ℕ → List ℕ → Called
@@ -85,7 +87,7 @@ pub record NoStateFirst (line : List ℕ) : Type 0 where
 
 -- S13.8: a line that Start wrote is a state. (`Witness.started` of `guarantee` has a sheet that is accepted.)
 unfoldable pub StartTaken : List ℕ → List ℕ → List ℕ → Type 0
-StartTaken sheet line left = length line ≡ state_size → (start_of sheet).answer ≡ Accepted → is_state left ≡ true
+StartTaken sheet line left = length line ≡ state_size → (start_of sheet).answer ≡ Ok tt → is_state left ≡ true
 
 -- S13.8: a line that is a state stays one.
 pub record StaysState (line : List ℕ) : Type 0 where

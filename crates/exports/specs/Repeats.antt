@@ -3,13 +3,13 @@ use Rattle.std.specs.Prelude.{ℕ, zero, suc, cond, List, length}
 use Rattle.dispatcher.specs.declared.state.State.{State}
 use Rattle.dispatcher.specs.Calls.{release_of, tick_of}
 use Rattle.dispatcher.specs.Board.{boarded_of, board_of}
-use Rattle.sheet.specs.Answers.{answer_word}
+use Rattle.sheet.specs.Refusal.{answer_word}
 use Rattle.exports.specs.Ticks.{accepted_word, tick_word}
 use Rattle.exports.specs.Words.{state_from, is_state}
 use Rattle.exports.specs.Calls.{Called, no_state}
 
--- The word of the last of count ticks with the same reports, each on the state that the one before returned; if there is none, the
--- word that is given.
+-- The word of the last of count ticks with the same reports, each on the state that the one before returned; if there
+-- is none, the word that is given.
 unfoldable pub ticks_word : ℕ → ℕ → State → List ℕ → ℕ
 ticks_word zero word s reports = word
 ticks_word (suc count) word s reports = ticks_word count (tick_word (tick_of s reports).answer) (tick_of s reports).state reports

@@ -1,6 +1,6 @@
 -- S8.7: a tick's answer as a number.
-use Rattle.std.specs.Prelude.{ℕ, ◌+◌, ◌*◌}
-use Rattle.sheet.specs.Answers.{no_task}
+use Rattle.std.specs.Prelude.{ℕ, ◌+◌, ◌*◌, Err}
+use Rattle.sheet.specs.Refusal.{no_task, answer_word}
 use Rattle.dispatcher.specs.declared.tick.TickAnswer.{TickAnswer}
 use Rattle.dispatcher.specs.declared.tick.TickAnswer.TheVariants.{Ran, Switched, Returned, Refused}
 
@@ -13,4 +13,4 @@ unfoldable pub tick_word : TickAnswer → ℕ
 tick_word Ran = accepted_word
 tick_word (Switched task) = 65536 + 256 * task
 tick_word Returned = 131072 + accepted_word
-tick_word (Refused number task) = number + 256 * task
+tick_word (Refused r) = answer_word (Err r)

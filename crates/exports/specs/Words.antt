@@ -1,4 +1,5 @@
--- S13.1, S13.2: a state (S7.1) as a line of words, one for each field in the order of the struct, and which lines are states.
+-- S13.1, S13.2: a state (S7.1) as a line of words, one for each field in the order of the struct, and which lines are
+-- states.
 use Rattle.std.specs.Prelude.{ℕ, ◌+◌, ◌*◌, ◌<◌, Bool, true, not, ◌&&◌, List, [], ◌∷◌, ◌++◌, map, ◌≡◌, ltb, eqb, length, get_or, take, drop}
 use Rattle.basics.specs.Lists.{range, all_below, bit}
 use Rattle.entries.specs.declared.state.TaskState.{TaskState}

@@ -1,65 +1,84 @@
-// S13.1: a state out of its line.
-ghost use Rattle.std.specs.Prelude.{◌≡◌, true, ◌+◌, ◌≤◌, length, take, drop};
-ghost use Rattle.exports.specs.Words.{entry_size, entry_from, state_from, entry_fits, is_state};
+//! S13.1, S13.2: which lines are states, and a state out of its line. An `Option<State>` says both in one step, and was
+//! tried: it costs a call 5,000 instructions more, since the slot of such a value is filled before each call that
+//! returns one.
+ghost use Rattle.std.specs.Prelude.{◌≡◌, ◌≤◌, true, length, drop};
+ghost use Rattle.basics.specs.Lists.{all_below};
+ghost use Rattle.exports.specs.Words.{entry_size, entry_start, state_size, entry_from, state_from, entry_fits, is_state};
 
-use crate::checking::ENTRY_WORDS;
+use crate::words::{ENTRY_WORDS, STATE_WORDS};
 use dispatcher::state::State;
 use entries::state::{Job, TaskState};
 use shares::share::Share;
 use start::fresh::zero_entry;
 
-fn masks_from(line: &[u32], at: usize) -> [u32; 32]
-    requires { at + 32 ≤ length line.now }
-    ensures { result ≡ take 32 (drop at line.now) }
+/// S13.2: whether the first of these words fit the fields of an entry.
+#[tactic(auto, unfolding(crate::specs::Words::entry_fits))]
+fn entry_fits(words: &[u32]) -> bool
+    requires { entry_size ≤ length words.now }
+    ensures { result ≡ entry_fits words.now }
 {
-    let mut masks = [0u32; 32];
-    let mut v: usize = 0;
-    while v < 32 {
-        masks[v] = line[at + v];
-        v += 1;
-    }
-    masks
+    words[0] < 256 && words[1] < 256 && words[36] < 256 && words[37] < 256 && words[40] < 2
 }
 
-// The entry that begins at a place.
-fn entry_from(line: &[u32], at: usize) -> TaskState
-    requires { (at + entry_size ≤ length line.now) × (entry_fits (drop at line.now) ≡ true) }
-    ensures { result ≡ entry_from (drop at line.now) }
+/// S13.2: whether the words of each entry fit its fields.
+fn entries_fit(line: &[u32]) -> bool
+    requires { length line.now ≡ state_size }
+    ensures { result ≡ all_below 16 (λ i. entry_fits (drop (entry_start i) line.now)) }
+{
+    (0..16).all(|i| entry_fits(&line[3 + ENTRY_WORDS * i..]))
+}
+
+/// S13.2: whether a line is a state.
+/// C hands in slices of any length: so the lengths of a line and of an entry's words are clauses and no types.
+#[tactic(auto, unfolding(crate::specs::Words::is_state))]
+pub fn is_state(line: &[u32]) -> bool
+    ensures { result ≡ is_state line.now }
+{
+    line.len() == STATE_WORDS && line[0] < 256 && line[1] < 256 && line[2] < 2 && entries_fit(line)
+}
+
+/// S13.1: the entry that the first of these words say. The casts lose nothing: each word fits its field.
+fn entry_from(words: &[u32]) -> TaskState
+    requires room { entry_size ≤ length words.now }
+    requires fits { entry_fits words.now ≡ true }
+    ensures { result ≡ entry_from words.now }
 {
     let share = Share {
-        typical: line[at + 36] as u8,
-        critical: line[at + 37] as u8,
+        typical: words[36] as u8,
+        critical: words[37] as u8,
     };
+    let mut predecessors = [0; 32];
+    predecessors.copy_from_slice(&words[2..34]);
     TaskState {
-        level: line[at] as u8,
-        nodes: line[at + 1] as u8,
-        predecessors: masks_from(line, at + 2),
-        deadline: line[at + 34],
-        virtual_deadline: line[at + 35],
+        level: words[0] as u8,
+        nodes: words[1] as u8,
+        predecessors,
+        deadline: words[34],
+        virtual_deadline: words[35],
         share,
-        age: line[at + 38],
+        age: words[38],
         job: Job {
-            ended: line[at + 39],
-            alive: line[at + 40] != 0,
+            ended: words[39],
+            alive: words[40] != 0,
         },
     }
 }
 
-// S13.1: the state that a line says.
+/// S13.1: the state that a line says.
 pub fn state_from(line: &[u32]) -> State
     requires { is_state line.now ≡ true }
     ensures { result ≡ state_from line.now }
 {
+    // `is_state`: M and n are below 256.
     let mut state = State {
         processors: line[0] as u8,
         count: line[1] as u8,
         critical: line[2] != 0,
         entries: [zero_entry(); 16],
     };
-    let mut i: usize = 0;
-    while i < 16 {
-        state.entries[i] = entry_from(line, 3 + ENTRY_WORDS * i);
-        i += 1;
+    // By index: the turn needs the entry's place in the line and in the array.
+    for i in 0..16 {
+        state.entries[i] = entry_from(&line[3 + ENTRY_WORDS * i..]);
     }
     state
 }

@@ -1,63 +1,48 @@
-// S13.1: a state into its line.
-ghost use Rattle.std.specs.Prelude.{◌≡◌, ◌+◌, ◌≤◌, length};
+//! S13.1: a state into its line.
+ghost use Rattle.std.specs.Prelude.{◌≡◌, ◌≤◌, length};
 ghost use Rattle.std.proofs.lemmas.List.Edits.{sets};
-ghost use Rattle.basics.specs.Lists.{bit};
 ghost use Rattle.exports.specs.Words.{entry_size, state_size, entry_words, state_words, EntryHeld, StateHeld};
 
-use crate::checking::ENTRY_WORDS;
+use crate::words::ENTRY_WORDS;
 use dispatcher::state::State;
 use entries::state::TaskState;
+use shares::share::Share;
 
-fn mark(b: bool) -> u32
-    ensures { result ≡ bit b }
+/// S13.1: writes an entry over the first of these words.
+fn write_entry(words: &mut [u32], e: &TaskState)
+    requires { entry_size ≤ length words.old }
+    ensures held { EntryHeld e.now }
+    ensures written { words.new ≡ sets words.old 0 (entry_words e.now) }
 {
-    if b { 1 } else { 0 }
+    let TaskState {
+        level,
+        nodes,
+        share: Share { typical, critical },
+        ..
+    } = *e;
+    words[0] = u32::from(level);
+    words[1] = u32::from(nodes);
+    words[2..34].copy_from_slice(&e.predecessors);
+    words[34] = e.deadline;
+    words[35] = e.virtual_deadline;
+    words[36] = u32::from(typical);
+    words[37] = u32::from(critical);
+    words[38] = e.age;
+    words[39] = e.job.ended;
+    words[40] = u32::from(e.job.alive);
 }
 
-fn put_masks(line: &mut [u32], at: usize, masks: [u32; 32])
-    requires { at + 32 ≤ length line.old }
-    ensures { line.new ≡ sets line.old at masks }
-{
-    let mut v: usize = 0;
-    while v < 32 {
-        line[at + v] = masks[v];
-        v += 1;
-    }
-}
-
-// Writes an entry's words from a place on.
-fn put_entry(line: &mut [u32], at: usize, e: TaskState)
-    requires { at + entry_size ≤ length line.old }
-    ensures held { EntryHeld e }
-    ensures written { line.new ≡ sets line.old at (entry_words e) }
-{
-    let masks = e.predecessors;
-    let share = e.share;
-    line[at] = e.level as u32;
-    line[at + 1] = e.nodes as u32;
-    put_masks(line, at + 2, masks);
-    line[at + 34] = e.deadline;
-    line[at + 35] = e.virtual_deadline;
-    line[at + 36] = share.typical as u32;
-    line[at + 37] = share.critical as u32;
-    line[at + 38] = e.age;
-    line[at + 39] = e.job.ended;
-    line[at + 40] = mark(e.job.alive);
-}
-
-// S13.1: writes a state over a line.
-pub fn write_state(line: &mut [u32], state: State)
+/// S13.1: writes a state over a line.
+pub fn write_state(line: &mut [u32], state: &State)
     requires { length line.old ≡ state_size }
-    ensures held { StateHeld state }
-    ensures written { line.new ≡ state_words state }
+    ensures held { StateHeld state.now }
+    ensures written { line.new ≡ state_words state.now }
 {
-    line[0] = state.processors as u32;
-    line[1] = state.count as u32;
-    line[2] = mark(state.critical);
-    let mut i: usize = 0;
-    while i < 16 {
-        let e = state.entries[i];
-        put_entry(line, 3 + ENTRY_WORDS * i, e);
-        i += 1;
+    line[0] = u32::from(state.processors);
+    line[1] = u32::from(state.count);
+    line[2] = u32::from(state.critical);
+    // By index: of what is written behind an adapter of `iter_mut` nothing is known.
+    for i in 0..16 {
+        write_entry(&mut line[3 + ENTRY_WORDS * i..], &state.entries[i]);
     }
 }

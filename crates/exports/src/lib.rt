@@ -1,12 +1,13 @@
-// What a controller's C or Rust code links: the calls on lines of words, buffers and numbers (S13). Beside them what the tests and the
-// benchmarks call.
+//! What a controller's C or Rust code links: the calls on lines of words, buffers and numbers (S13). Beside them
+//! what the tests and the benchmarks call.
 #![tactic(auto)]
 
-mod checking;
 mod decoding;
 pub mod dispatching;
 mod encoding;
 mod fields;
 pub mod planning;
+pub mod promise;
 pub mod reading;
 pub mod repeating;
+mod words;

@@ -1,13 +1,13 @@
-// Calls of the dispatcher made a number of times, with the line read once, for the benchmarks.
+//! Calls of the dispatcher made a number of times, with the line read once, for the benchmarks. Three loops of two
+//! lines: one over a closure that keeps the state, or not, would read no plainer.
 ghost use Rattle.std.specs.Prelude.{◌≡◌};
 ghost use Rattle.exports.specs.Repeats.{ticks_call, releases_call, boards_call};
 
-use crate::checking::is_state;
-use crate::decoding::state_from;
-use crate::dispatching::{ACCEPTED, NOT_STATE, tick_word};
-use sheet::answer::answer_word;
+use crate::decoding::{is_state, state_from};
+use crate::dispatching::{NOT_STATE, tick_word};
+use sheet::refusal::answer_word;
 
-// The answer of the last of `count` ticks with the same reports, each on the state that the one before returned.
+/// The answer of the last of `count` ticks with the same reports, each on the state that the one before returned.
 #[unsafe(no_mangle)]
 pub extern "C" fn dibwunek_tick_many(state: &[u32], reports: &[u32], count: u32) -> u32
     ensures { result ≡ (ticks_call count state.now reports.now).word }
@@ -16,19 +16,16 @@ pub extern "C" fn dibwunek_tick_many(state: &[u32], reports: &[u32], count: u32)
         return NOT_STATE;
     }
     let mut s = state_from(state);
-    let mut word = ACCEPTED;
-    let mut i: u32 = 0;
-    while i < count {
+    let mut word = answer_word(Ok(()));
+    for i in 0..count {
         let ticked = dispatcher::tick::tick(s, reports);
-        let answer = ticked.answer;
-        word = tick_word(answer);
+        word = tick_word(ticked.answer);
         s = ticked.state;
-        i += 1;
     }
     word
 }
 
-// The answer of the last of `count` releases of a task, each on the state of the line.
+/// The answer of the last of `count` releases of a task, each on the state of the line.
 #[unsafe(no_mangle)]
 pub extern "C" fn dibwunek_release_many(state: &[u32], task: usize, count: u32) -> u32
     ensures { result ≡ (releases_call count state.now task).word }
@@ -37,18 +34,15 @@ pub extern "C" fn dibwunek_release_many(state: &[u32], task: usize, count: u32) 
         return NOT_STATE;
     }
     let before = state_from(state);
-    let mut word = ACCEPTED;
-    let mut i: u32 = 0;
-    while i < count {
+    let mut word = answer_word(Ok(()));
+    for i in 0..count {
         let released = dispatcher::release::release(before, task);
-        let answer = released.answer;
-        word = answer_word(answer);
-        i += 1;
+        word = answer_word(released.answer);
     }
     word
 }
 
-// The answer of the last of `count` boards of the line's state, all in the same buffer.
+/// The answer of the last of `count` boards of the line's state, all in the same buffer.
 #[unsafe(no_mangle)]
 pub extern "C" fn dibwunek_board_many(state: &[u32], buffer: &mut [u8], count: u32) -> u32
     ensures answered { result ≡ (boards_call count state.now buffer.old).word }
@@ -57,14 +51,11 @@ pub extern "C" fn dibwunek_board_many(state: &[u32], buffer: &mut [u8], count: u
     if !is_state(state) {
         return NOT_STATE;
     }
-    let before = state_from(state);
-    let mut word = ACCEPTED;
-    let mut i: u32 = 0;
-    while i < count {
-        let boarded = dispatcher::board::board(before, buffer);
-        let answer = boarded.answer;
-        word = answer_word(answer);
-        i += 1;
+    let shown = state_from(state);
+    let mut word = answer_word(Ok(()));
+    for i in 0..count {
+        let boarded = dispatcher::board::board(shown, buffer);
+        word = answer_word(boarded.answer);
     }
     word
 }

@@ -3,7 +3,7 @@ use Prim.Native.Nat.{ℕ}
 use mathlib.Core.List.{List}
 use mathlib.Core.Path.{◌≡◌, sym, subst₂}
 use native.Mathlib.Omega.{arith}
-use Rattle.sheet.specs.declared.answer.Answer.TheVariants.{Accepted}
+use Rattle.std.specs.Prelude.{Ok}
 use Rattle.model.specs.Step.{Model, Call}
 use Rattle.model.specs.Run.{after}
 use Rattle.model.specs.Isolation.{until_in, before_in, Isolated, IsolatedTypical, Alike, AlikeUntil}
@@ -13,7 +13,7 @@ use Rattle.guarantee.specs.Guarantee.{model_for, Guarantee}
 use Rattle.guarantee.specs.Isolation.{task_run, held_after, IsolationGuarantee, UnswitchedGuarantee, CommissioningGuarantee}
 use Rattle.guarantee.proofs.Theorem.{sheet_planned, guarantee}
 
-module _ (sheet other : List ℕ) (accepted : (start_of sheet).answer ≡ Accepted) (other_accepted : (start_of other).answer ≡ Accepted) where
+module _ (sheet other : List ℕ) (accepted : (start_of sheet).answer ≡ Ok tt) (other_accepted : (start_of other).answer ≡ Ok tt) where
   held_alike : (i j : ℕ) (calls others : List Call) → Alike (after (model_for sheet) calls) i (after (model_for other) others) j →
       Alike (held_after sheet calls) i (held_after other others) j
   unfolding Guarantee

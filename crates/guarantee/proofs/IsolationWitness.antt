@@ -20,7 +20,7 @@ use Rattle.shares.specs.Deadline.{virtual_deadline_of}
 use Rattle.nodes.specs.Sets.{has}
 use Rattle.allocation.specs.Blocks.{offset_in}
 use Rattle.model.specs.Row.{is_subset, all_ended, predecessors_of, is_ready, ready, running, running_set, released_row, joined, ticked_row, has_high_job, is_late, survives, switched_row}
-use Rattle.model.specs.Step.{Model, Call, step, row_at, granted, running_at, unknown_task, low_in_critical, too_early, wrong_count, not_running, release_refusal, tick_refusal, released, ticked}
+use Rattle.model.specs.Step.{Model, Call, step, row_at, granted, running_at, release_refusal, tick_refusal, released, ticked}
 use Rattle.model.specs.Run.{after, is_accepted, ticks_in}
 use Rattle.model.specs.Plan.{fresh_row, fresh}
 use Rattle.model.specs.Isolation.{TaskRun, start, share_of, mode_at, releases_at, report_at, SameRecord, SameGiven, SameModes, Unswitched, AlikeUntil}
@@ -99,7 +99,7 @@ record Runs : Type 0 where
   pub other_unswitched : Unswitched 4 low_among_lem
 
 runs : Runs
-unfolding fresh fresh_row virtual_deadline_of is_low division_of virtual_deadline has range is_high is_kept is_subset all_ended predecessors_of is_ready ready running running_set released_row joined ticked_row has_high_job is_late survives switched_row step row_at granted running_at unknown_task low_in_critical too_early wrong_count not_running release_refusal tick_refusal released ticked is_accepted all_below Unswitched
+unfolding fresh fresh_row virtual_deadline_of is_low division_of virtual_deadline has range is_high is_kept is_subset all_ended predecessors_of is_ready ready running running_set released_row joined ticked_row has_high_job is_late survives switched_row step row_at granted running_at release_refusal tick_refusal released ticked is_accepted all_below Unswitched
 runs =
     record {
       ticks = refl;
@@ -265,7 +265,7 @@ record Parted (r q : TaskRun) : Type 0 where
   pub other_running : running_at (after (start q) q.calls) 0 ≡ 0 ∷ 1 ∷ []
 
 parted : Parted late_run late_beside
-unfolding fresh fresh_row virtual_deadline_of is_low division_of virtual_deadline has range is_high is_kept is_subset all_ended predecessors_of is_ready ready running running_set released_row joined ticked_row has_high_job is_late survives switched_row step row_at granted running_at unknown_task low_in_critical too_early wrong_count not_running release_refusal tick_refusal released ticked is_accepted all_below task_in share_at
+unfolding fresh fresh_row virtual_deadline_of is_low division_of virtual_deadline has range is_high is_kept is_subset all_ended predecessors_of is_ready ready running running_set released_row joined ticked_row has_high_job is_late survives switched_row step row_at granted running_at release_refusal tick_refusal released ticked is_accepted all_below task_in share_at
 parted =
     record {
       same = record { known = omega arith; other_known = omega arith; says = refl };

@@ -1,7 +1,9 @@
 -- Laws of the records (S12.2): stores one behind the other, lengths, and the tasks of a state one at a time.
-use Prim.Native.Nat.{ℕ, suc, ◌+◌, ◌-◌, ◌*◌, ◌≤◌, ◌<◌}
+use Prim.Native.Nat.{ℕ, suc, ◌+◌, ◌*◌, ◌≤◌, ◌<◌}
 use mathlib.Core.Path.{◌≡◌, refl, sym, ap, ◌∙◌}
 use mathlib.Core.List.{List, [], ◌∷◌, ◌++◌, map}
+use mathlib.Core.Bool.{Bool, true, false}
+use mir.Val.{bool_byte}
 use native.Mathlib.Numerals.{add-one}
 use native.Mathlib.Omega.{arith}
 use lib.ListN.{length, drop, set, length-append, length-map}
@@ -9,22 +11,19 @@ use lib.Seq.{sets, length-sets}
 use Rattle.basics.specs.Lists.{bit}
 use Rattle.basics.proofs.Bytes.{sets-append}
 use Rattle.model.specs.Row.{Row}
-use Rattle.model.specs.Step.{Model, release, tick}
+use Rattle.model.specs.Step.{Model, release}
 use Rattle.dispatcher.specs.declared.state.State.{State}
 use Rattle.entries.specs.Entry.{row_of}
 use Rattle.dispatcher.specs.Holds.{entries_of, model_of}
 use Rattle.dispatcher.proofs.Entries.{entry_at, entries_length, left_next, left_none}
-use Rattle.sheet.specs.declared.answer.Answer.{Answer}
-use Rattle.sheet.specs.Answers.{number_of, task_of}
-use Rattle.dispatcher.specs.declared.release.Released.{Released}
-use Rattle.dispatcher.specs.declared.tick.Ticked.{Ticked}
-use Rattle.dispatcher.specs.declared.tick.TickAnswer.{TickAnswer}
-use Rattle.dispatcher.specs.Answers.{tick_number, tick_task}
-use Rattle.dispatcher.specs.Calls.{release_of, tick_of}
-use Rattle.guarantee.specs.declared.turn.Turn.{Turn}
+use Rattle.std.specs.Prelude.{Ok, Err}
+use Rattle.dispatcher.specs.Answers.{Released}
+use Rattle.dispatcher.specs.declared.tick.TickAnswer.TheVariants.{Ran, Switched, Returned, Refused as TickRefused}
+use Rattle.dispatcher.specs.Calls.{release_of}
+use Rattle.guarantee.specs.Record.{Turn}
 use Rattle.guarantee.specs.Runs.{Said, released, ticked}
 use Rattle.basics.specs.Numbers.{u32_bytes}
-use Rattle.guarantee.specs.Record.{outcome_of, task_bytes, rows_bytes, model_bytes, record_of, turn_of, turn_bytes}
+use Rattle.guarantee.specs.Record.{outcome_of, outcome_number, outcome_refusal, outcome_task, said_number, said_task, task_bytes, rows_bytes, model_bytes, record_of, turn_of, turn_bytes}
 
 pub u32_length : (x : ℕ) → length (u32_bytes x) ≡ 4
 unfolding u32_bytes
@@ -44,6 +43,11 @@ pub record_length : (said : Said) (m : Model) → length (record_of said m) ≡ 
 unfolding record_of model_bytes
 record_length said m = omega (arith, rows_length m.rows)
 
+-- A mark as a byte.
+pub bit_of : (b : Bool) {x : ℕ} → x ≡ bool_byte b → x ≡ bit b
+bit_of true e = e
+bit_of false e = e
+
 -- A task's 9 bytes.
 pub task_stored : (out : List ℕ) (at alive : ℕ) (r : Row) → alive ≡ bit r.job.alive →
     sets (sets (set out at alive) (at + 1) (u32_bytes r.age)) (at + 5) (u32_bytes r.job.ended) ≡ sets out at (task_bytes r)
@@ -60,60 +64,63 @@ unfolding model_bytes
 state_stored out at mode m e = rw (e, add-one at)
 
 -- The record of a turn.
-pub turn_stored : (out : List ℕ) (at : ℕ) (t : Turn) →
-    sets (set (set (set out at t.outcome) (at + 1) t.number) (at + 2) t.task) (at + 3) (model_bytes (model_of t.state)) ≡ sets out at (turn_bytes t)
+pub turn_stored : (out : List ℕ) (at : ℕ) (t : Turn) {number refusal task : ℕ} → number ≡ outcome_number t.answer →
+    refusal ≡ outcome_refusal t.answer → task ≡ outcome_task t.answer →
+    sets (set (set (set out at number) (at + 1) refusal) (at + 2) task) (at + 3) (model_bytes (model_of t.state)) ≡ sets out at (turn_bytes t)
 unfolding turn_bytes
-turn_stored out at t =
+turn_stored out at t number_is refusal_is task_is =
     let one : at + 1 ≡ suc at = omega arith in
     let two : at + 2 ≡ suc (suc at) = omega arith in
     let three : at + 3 ≡ suc (suc (suc at)) = omega arith in
-    rw (one, two, three)
+    rw (number_is, refusal_is, task_is, one, two, three)
 
 -- On the way through a state's tasks: what is written, with what is left to write, is the whole.
-pub record Putting (whole : List ℕ) (bytes : ℕ) (s : State) (out : List ℕ) (place i : ℕ) : Type 0 where
+pub record Putting (whole : List ℕ) (bytes : ℕ) (s : State) (start : ℕ) (out : List ℕ) (i : ℕ) : Type 0 where
   pub size : length out ≡ bytes
   pub upto : i ≤ s.count
-  pub room : place + 9 * (s.count - i) ≤ bytes
-  pub left : sets out place (rows_bytes (map row_of (drop i (entries_of s)))) ≡ whole
+  pub room : start + 9 * s.count ≤ bytes
+  pub left : sets out (start + 9 * i) (rows_bytes (map row_of (drop i (entries_of s)))) ≡ whole
 
 module _ (s : State) (long : s.count ≤ length s.entries) where
   pub model_rows : length (model_of s).rows ≡ s.count
   unfolding model_of
   model_rows = length-map (entries_of s) row_of ∙ entries_length s long
 
-  pub putting_none : (out : List ℕ) (place : ℕ) → place + 9 * s.count ≤ length out →
-      Putting (sets out place (rows_bytes (model_of s).rows)) (length out) s out place 0
+  pub putting_none : (start : ℕ) (out : List ℕ) → start + 9 * s.count ≤ length out →
+      Putting (sets out start (rows_bytes (model_of s).rows)) (length out) s start out 0
   unfolding model_of
-  putting_none out place room = record { size = refl; upto = omega arith; room = omega arith; left = refl }
+  putting_none start out room =
+      let none : start + 9 * 0 ≡ start = omega arith in
+      record { size = refl; upto = omega arith; room = room; left = rw none refl }
 
-  pub putting_more : (whole : List ℕ) (bytes : ℕ) (out : List ℕ) (place i : ℕ) → i < s.count → Putting whole bytes s out place i →
-      Putting whole bytes s (sets out place (task_bytes (row_of (entry_at s i)))) (place + 9) (i + 1)
-  putting_more whole bytes out place i h p =
+  pub putting_more : (whole : List ℕ) (bytes start : ℕ) (out : List ℕ) (i : ℕ) → i < s.count → Putting whole bytes s start out i →
+      Putting whole bytes s start (sets out (start + 9 * i) (task_bytes (row_of (entry_at s i)))) (i + 1)
+  putting_more whole bytes start out i h p =
       let r = row_of (entry_at s i) in
       let rest = rows_bytes (map row_of (drop (suc i) (entries_of s))) in
-      let nine : place + 9 ≡ place + length (task_bytes r) = omega (arith, task_length r) in
-      let left : sets out place (task_bytes r ++ rest) ≡ whole = rw (left_next s long i h) at p.left in
+      let next : start + 9 * (i + 1) ≡ start + 9 * i + length (task_bytes r) = omega (arith, task_length r) in
+      let left : sets out (start + 9 * i) (task_bytes r ++ rest) ≡ whole = rw (left_next s long i h) at p.left in
       record {
-        size = length-sets out place (task_bytes r) ∙ p.size;
+        size = length-sets out (start + 9 * i) (task_bytes r) ∙ p.size;
         upto = omega arith;
-        room = omega (arith, p.room);
-        left = rw (add-one i, nine) (sym (sets-append out place (task_bytes r) rest) ∙ left);
+        room = p.room;
+        left = rw (next, add-one i) (sym (sets-append out (start + 9 * i) (task_bytes r) rest) ∙ left);
       }
 
-  pub putting_all : (whole : List ℕ) (bytes : ℕ) (out : List ℕ) (place i : ℕ) → s.count ≤ i → Putting whole bytes s out place i → out ≡ whole
-  putting_all whole bytes out place i h p = rw (left_none s long i h) at p.left
+  pub putting_all : (whole : List ℕ) (bytes start : ℕ) (out : List ℕ) (i : ℕ) → s.count ≤ i → Putting whole bytes s start out i → out ≡ whole
+  putting_all whole bytes start out i h p = rw (left_none s long i h) at p.left
 
--- A turn from the answer to a Release or a Tick.
-pub turn_released : (s : State) (i : ℕ) (r : Released) (a : Answer) → r ≡ release_of s i → r.answer ≡ a →
-    ◌≡◌ {A = Turn} (record { state = r.state; outcome = outcome_of (released a); number = number_of a; task = task_of a }) (turn_of s (release i))
+-- A turn from what a Release or a Tick returned.
+pub turn_released : (s : State) (i : ℕ) (r : Released) → r ≡ release_of s i →
+    ◌≡◌ {A = Turn} (record { state = r.state; answer = outcome_of (released r.answer) }) (turn_of s (release i))
 unfolding turn_of
-turn_released s i r a e h =
-    ap (λ (x : Answer). record { state = r.state; outcome = outcome_of (released x); number = number_of x; task = task_of x }) (sym h)
-    ∙ ap (λ (x : Released). record { state = x.state; outcome = outcome_of (released x.answer); number = number_of x.answer; task = task_of x.answer }) e
+turn_released s i r e = ap (λ (x : Released). record { state = x.state; answer = outcome_of (released x.answer) }) e
 
-pub turn_ticked : (s : State) (reports : List ℕ) (r : Ticked) (a : TickAnswer) → r ≡ tick_of s reports → r.answer ≡ a →
-    ◌≡◌ {A = Turn} (record { state = r.state; outcome = outcome_of (ticked a); number = tick_number a; task = tick_task a }) (turn_of s (tick reports))
-unfolding turn_of
-turn_ticked s reports r a e h =
-    ap (λ (x : TickAnswer). record { state = r.state; outcome = outcome_of (ticked x); number = tick_number x; task = tick_task x }) (sym h)
-    ∙ ap (λ (x : Ticked). record { state = x.state; outcome = outcome_of (ticked x.answer); number = tick_number x.answer; task = tick_task x.answer }) e
+-- An outcome says the number and the task of the answer.
+pub outcome_said : (said : Said) → (outcome_refusal (outcome_of said) ≡ said_number said) × (outcome_task (outcome_of said) ≡ said_task said)
+outcome_said (released (Ok x)) = (refl, refl)
+outcome_said (released (Err r)) = (refl, refl)
+outcome_said (ticked Ran) = (refl, refl)
+outcome_said (ticked (Switched i)) = (refl, refl)
+outcome_said (ticked Returned) = (refl, refl)
+outcome_said (ticked (TickRefused r)) = (refl, refl)

@@ -4,8 +4,8 @@ use mathlib.Core.Bool.{true}
 use mathlib.Core.List.{List, [], ◌∷◌, ◌++◌, append_assoc}
 use mathlib.Core.Path.{◌≡◌, refl, sym, ap, ap₂, ◌∙◌}
 use Prim.Native.Nat.{ℕ}
-use Rattle.sheet.specs.declared.answer.Answer.{Answer}
-use Rattle.sheet.specs.declared.answer.Answer.TheVariants.{Accepted}
+use Rattle.sheet.specs.Refusal.{Answer}
+use Rattle.std.specs.Prelude.{Ok}
 use Rattle.model.specs.Step.{Model, Call, step}
 use Rattle.model.specs.Run.{after}
 use Rattle.dispatcher.specs.declared.state.State.{State}
@@ -27,12 +27,12 @@ records_model s sound (c ∷ calls) =
     ap₂ ◌++◌ (ap (λ (a : Said). record_of a (model_of (state_of s c))) (call_said s sound c)) (records_model (state_of s c) (call_sound s sound c) calls)
     ∙ ap (λ (m : Model). record_of said m ++ model_records m calls) (call_model s sound c)
 
-replayed_model : (sheet calls : List ℕ) → (start_of sheet).answer ≡ Accepted →
-    replay_bytes sheet calls ≡ answer_bytes Accepted ++ model_records (model_for sheet) (calls_of calls)
+replayed_model : (sheet calls : List ℕ) → (start_of sheet).answer ≡ Ok tt →
+    replay_bytes sheet calls ≡ answer_bytes (Ok tt) ++ model_records (model_for sheet) (calls_of calls)
 unfolding replay_bytes start_state
 replayed_model sheet calls accepted =
     ap (λ (a : Answer). answer_bytes a ++ records_of (start_of sheet).state (calls_run a (calls_of calls))) accepted
-    ∙ ap (λ (records : List ℕ). answer_bytes Accepted ++ records)
+    ∙ ap (λ (records : List ℕ). answer_bytes (Ok tt) ++ records)
     (records_model (start_state sheet) (state_sound sheet accepted) (calls_of calls)
     ∙ ap (λ (m : Model). model_records m (calls_of calls)) (state_model sheet accepted))
 

@@ -1,6 +1,6 @@
 -- Laws of a replay (S12.2, S12.3): its records one call at a time, its length, the room for it, and the state that Start hands to it.
 use Prim.Native.Nat.{ℕ, suc, ◌+◌, ◌-◌, ◌*◌, ◌/◌, ◌≤◌, ◌<◌}
-use mathlib.Core.Path.{◌≡◌, refl, sym, ap, subst, ◌∙◌}
+use mathlib.Core.Path.{◌≡◌, refl, sym, ap, ap₂, subst, ◌∙◌}
 use mathlib.Core.Bool.{Bool, true, false, cond}
 use mathlib.Core.List.{List, [], ◌∷◌, ◌++◌}
 use native.Mathlib.Decide.{dec_le}
@@ -10,37 +10,35 @@ use lib.Dec.{leb}
 use lib.ListN.{length, drop, length-append, length-replicate}
 use lib.Seq.{sets, sets-eq, length-sets}
 use borrow.Author.Tests.{le-leb, lt-leb}
-use Rattle.sheet.specs.declared.answer.Answer.{Answer}
-use Rattle.sheet.specs.declared.answer.Answer.TheVariants.{Accepted, Refused}
-use Rattle.sheet.specs.Answers.{no_task}
+use Rattle.sheet.specs.Refusal.{Answer}
+use Rattle.std.specs.Prelude.{Ok, Err, Some, None}
+use Rattle.sheet.specs.Refusal.{◌or_else◌}
 use Rattle.sheet.specs.Format.{task_in}
-use Rattle.reader.specs.Reading.{read_of}
+use Rattle.sheet.specs.Format.{task_set_of}
 use Rattle.basics.proofs.Cells.{cells-length}
-use Rattle.allocation.specs.Allocation.{allocation_at, allocation_answer, allocated_of}
+use Rattle.allocation.specs.Allocation.{allocation_at, allocation_answer, allocations_for}
 use Rattle.allocation.proofs.Allocations.{read_lawful}
 use Rattle.model.specs.Row.{Row}
 use Rattle.model.specs.Step.{Call, release, tick, step}
 use Rattle.dispatcher.specs.declared.state.State.{State}
 use Rattle.entries.specs.declared.state.TaskState.{TaskState}
-use Rattle.dispatcher.specs.declared.release.Released.{Released}
-use Rattle.start.specs.declared.Started.{Started}
-use Rattle.dispatcher.specs.declared.tick.Ticked.{Ticked}
+use Rattle.dispatcher.specs.Answers.{Released}
+use Rattle.start.specs.Start.{Started}
+use Rattle.dispatcher.specs.Answers.{Ticked}
 use Rattle.dispatcher.specs.declared.tick.TickAnswer.TheVariants.{Refused as TickRefused}
-use Rattle.dispatcher.specs.Answers.{not_sound}
+use Rattle.sheet.specs.declared.refusal.Refusal.TheVariants.{NotSound}
 use Rattle.dispatcher.specs.Holds.{model_of, with_rows, with_model}
 use Rattle.dispatcher.specs.Sound.{is_sound}
 use Rattle.dispatcher.specs.Calls.{released_by, ticked_by, release_of, tick_of}
 use Rattle.start.specs.Fresh.{fresh_entry, zero_entry}
-use Rattle.start.specs.Start.{entries_below, fresh_state, zero_state, started_with, start_of}
-use Rattle.guarantee.specs.declared.turn.Turn.{Turn}
-use Rattle.guarantee.specs.declared.replay.Replayed.TheVariants.{Written, Short}
+use Rattle.start.specs.Start.{entries_below, fresh_state, zero_state, started_with, prepared_of, start_of}
+use Rattle.guarantee.specs.Record.{Turn}
 use Rattle.guarantee.specs.Runs.{state_of, said_of}
-use Rattle.guarantee.specs.Encoding.{size_at, call_at, calls_from, calls_of}
-use Rattle.guarantee.specs.Record.{answer_bytes, record_of, turn_of, turn_bytes}
+use Rattle.guarantee.specs.Encoding.{calls_of}
+use Rattle.guarantee.specs.Record.{answer_bytes, outcome_of, outcome_number, record_of, model_bytes, turn_of, turn_bytes}
 use Rattle.guarantee.specs.Replay.{records_of, calls_run, replay_bytes, replayed_of, replay_over}
-use Rattle.guarantee.proofs.Encodings.{call_left, calls_next, calls_exact}
 use Rattle.basics.proofs.Bytes.{sets-append}
-use Rattle.guarantee.proofs.Records.{record_length, model_rows}
+use Rattle.guarantee.proofs.Records.{record_length, model_rows, outcome_said}
 
 -- A product is compared by a quotient.
 pub room_quotient : (room count size : ℕ) → 1 ≤ size → 2 ≤ room → leb count ((room - 2) / size) ≡ leb (2 + count * size) room
@@ -70,10 +68,10 @@ module _ (s : State) where
   pub state_kept : (c : Call) → ((state_of s c).count ≡ s.count) × (length (state_of s c).entries ≡ length s.entries)
   unfolding release_of tick_of with_model
   state_kept (release i) =
-      either_kept (λ (r : Released). r.state) (is_sound s) (released_by s (step (model_of s) (release i))) (record { state = s; answer = Refused not_sound no_task })
+      either_kept (λ (r : Released). r.state) (is_sound s) (released_by s (step (model_of s) (release i))) (record { state = s; answer = Err NotSound })
       (refl, entries_kept s.entries (step (model_of s) (release i)).model.rows) (refl, refl)
   state_kept (tick reports) =
-      either_kept (λ (r : Ticked). r.state) (is_sound s) (ticked_by s (step (model_of s) (tick reports))) (record { state = s; answer = TickRefused not_sound no_task })
+      either_kept (λ (r : Ticked). r.state) (is_sound s) (ticked_by s (step (model_of s) (tick reports))) (record { state = s; answer = TickRefused NotSound })
       (refl, entries_kept s.entries (step (model_of s) (tick reports)).model.rows) (refl, refl)
 
 -- The record of a call has 4 + 9n bytes.
@@ -98,124 +96,99 @@ records_length s long (c ∷ calls) =
     )
 
 -- On the way through the calls: what is written, with the records of the calls left, is the whole, and there is room for them.
-pub record Replaying (whole : List ℕ) (bytes : ℕ) (calls : List ℕ) (tasks rest : ℕ) (s : State) (out : List ℕ) (at place : ℕ) : Type 0 where
+pub record Replaying (whole : List ℕ) (bytes tasks : ℕ) (calls : List Call) (s : State) (out : List ℕ) (place : ℕ) : Type 0 where
   pub size : length out ≡ bytes
   pub tasks_kept : s.count ≡ tasks
   pub line : length s.entries ≡ 16
-  pub inside : at ≤ length calls
-  pub all : length (calls_from rest calls at) ≡ rest
-  pub room : place + length (records_of s (calls_from rest calls at)) ≤ bytes
-  pub left : sets out place (records_of s (calls_from rest calls at)) ≡ whole
+  pub room : place + length (records_of s calls) ≤ bytes
+  pub left : sets out place (records_of s calls) ≡ whole
 
-pub replaying_none : (calls : List ℕ) (count : ℕ) (s : State) (out : List ℕ) (place : ℕ) → length s.entries ≡ 16 →
-    length (calls_from count calls 0) ≡ count → place + length (records_of s (calls_from count calls 0)) ≤ length out →
-    Replaying (sets out place (records_of s (calls_from count calls 0))) (length out) calls s.count (count - 0) s out 0 place
-replaying_none calls count s out place line all room =
-    let e : count - 0 ≡ count = omega arith in
-    rw e (record { size = refl; tasks_kept = refl; line = line; inside = omega arith; all = all; room = room; left = refl })
+pub replaying_none : (calls : List Call) (s : State) (out : List ℕ) (place : ℕ) → length s.entries ≡ 16 →
+    place + length (records_of s calls) ≤ length out →
+    Replaying (sets out place (records_of s calls)) (length out) s.count calls s out place
+replaying_none calls s out place line room = record { size = refl; tasks_kept = refl; line = line; room = room; left = refl }
 
--- One of the calls left.
-pub replaying_next : (whole : List ℕ) (bytes : ℕ) (calls : List ℕ) (tasks count i : ℕ) (s : State) (out : List ℕ) (at place : ℕ) → i < count →
-    Replaying whole bytes calls tasks (count - i) s out at place → Replaying whole bytes calls tasks (suc (count - (i + 1))) s out at place
-replaying_next whole bytes calls tasks count i s out at place h p =
-    let e : count - i ≡ suc (count - (i + 1)) = omega arith in
-    subst (λ (n : ℕ). Replaying whole bytes calls tasks n s out at place) e p
-
-module _ (whole : List ℕ) (bytes : ℕ) (calls : List ℕ) (tasks rest : ℕ) (s : State) (out : List ℕ) (at place : ℕ)
-    (few : tasks ≤ 16) (p : Replaying whole bytes calls tasks (suc rest) s out at place) where
-  pub replaying_call : 1 ≤ size_at calls at
-  replaying_call = call_left calls at rest p.all
-
+module _ (whole : List ℕ) (bytes tasks : ℕ) (call : Call) (rest : List Call) (s : State) (out : List ℕ) (place : ℕ) (few : tasks ≤ 16)
+    (p : Replaying whole bytes tasks (call ∷ rest) s out place) where
   long : s.count ≤ length s.entries
   long = omega (arith, p.tasks_kept, p.line)
 
-  call : Call
-  call = call_at calls at
-
   record_here : List ℕ
   record_here = record_of (said_of s call) (model_of (state_of s call))
-
-  calls_here : calls_from (suc rest) calls at ≡ call ∷ calls_from rest calls (at + size_at calls at)
-  unfolding call
-  calls_here = calls_next calls at rest (λ z. omega (arith, replaying_call))
 
   here_length : length record_here ≡ 4 + 9 * tasks
   unfolding record_here
   here_length = omega (arith, call_length s long call, p.tasks_kept)
 
   after_here : List ℕ
-  after_here = records_of (state_of s call) (calls_from rest calls (at + size_at calls at))
+  after_here = records_of (state_of s call) rest
 
-  records_here : records_of s (calls_from (suc rest) calls at) ≡ record_here ++ after_here
+  records_here : records_of s (call ∷ rest) ≡ record_here ++ after_here
   unfolding record_here after_here
-  records_here = ap (records_of s) calls_here
+  records_here = refl
 
   records_room : place + (4 + 9 * tasks) + length after_here ≤ bytes
   records_room = omega (arith, p.room, ap length records_here, length-append record_here after_here, here_length)
 
-  -- The record ends within the buffer.
-  pub replaying_end : place + (4 + 9 * tasks) ≤ bytes
-  replaying_end = omega (arith, records_room)
-
-  module _ (turn : Turn) (e : turn ≡ turn_of s (call_at calls at)) where
+  module _ (turn : Turn) (e : turn ≡ turn_of s call) where
     state_here : turn.state ≡ state_of s call
-    unfolding turn_of call
+    unfolding turn_of
     state_here = ap (λ (t : Turn). t.state) e
 
     bytes_here : turn_bytes turn ≡ record_here
-    unfolding turn_of turn_bytes record_of record_here call
-    bytes_here = ap turn_bytes e
+    unfolding turn_of turn_bytes record_of record_here
+    bytes_here =
+        let said = said_of s call in
+        let both = outcome_said said in
+        ap turn_bytes e
+        ∙ ap₂ (λ (n i : ℕ). outcome_number (outcome_of said) ∷ n ∷ i ∷ model_bytes (model_of (state_of s call))) both.0 both.1
+
+    tasks_here : turn.state.count ≡ tasks
+    tasks_here = ap (λ (t : State). t.count) state_here ∙ (state_kept s call).0 ∙ p.tasks_kept
+
+    pub replaying_line : turn.state.count ≤ length turn.state.entries
+    replaying_line =
+        let same : length turn.state.entries ≡ 16 = ap (λ (t : State). length t.entries) state_here ∙ (state_kept s call).1 ∙ p.line in
+        omega (arith, tasks_here)
 
     pub replaying_room : (turn.state.count ≤ 16) × (place + 4 + 9 * turn.state.count ≤ length out)
-    replaying_room =
-        let same : turn.state.count ≡ tasks = ap (λ (t : State). t.count) state_here ∙ (state_kept s call).0 ∙ p.tasks_kept in
-        (omega arith, omega (arith, records_room, p.size))
+    replaying_room = (omega (arith, tasks_here), omega (arith, tasks_here, records_room, p.size))
 
-    pub replaying_more : at + size_at calls at ≤ length calls →
-        Replaying whole bytes calls tasks rest turn.state (sets out place (turn_bytes turn)) (at + size_at calls at) (place + (4 + 9 * tasks))
+    pub replaying_more : Replaying whole bytes tasks rest turn.state (sets out place (turn_bytes turn)) (place + (4 + 9 * tasks))
     unfolding after_here
-    replaying_more inside =
+    replaying_more =
         let here : place + (4 + 9 * tasks) ≡ place + length record_here = omega (arith, here_length) in
-        subst (λ (t : State). Replaying whole bytes calls tasks rest t (sets out place (turn_bytes turn)) (at + size_at calls at) (place + (4 + 9 * tasks))) (sym state_here)
-        (subst (λ (b : List ℕ). Replaying whole bytes calls tasks rest (state_of s call) (sets out place b) (at + size_at calls at) (place + (4 + 9 * tasks))) (sym bytes_here)
+        subst (λ (t : State). Replaying whole bytes tasks rest t (sets out place (turn_bytes turn)) (place + (4 + 9 * tasks))) (sym state_here)
+        (subst (λ (b : List ℕ). Replaying whole bytes tasks rest (state_of s call) (sets out place b) (place + (4 + 9 * tasks))) (sym bytes_here)
         (record {
           size = length-sets out place record_here ∙ p.size;
           tasks_kept = (state_kept s call).0 ∙ p.tasks_kept;
           line = (state_kept s call).1 ∙ p.line;
-          inside = inside;
-          all = omega (arith, p.all, ap length calls_here);
           room = records_room;
           left = rw here (sym (sets-append out place record_here after_here) ∙ ap (sets out place) (sym records_here) ∙ p.left);
         }))
 
-pub replaying_all : (whole : List ℕ) (bytes : ℕ) (calls : List ℕ) (tasks : ℕ) (s : State) (out : List ℕ) (at place : ℕ) →
-    (rest : ℕ) → rest ≡ 0 → Replaying whole bytes calls tasks rest s out at place → out ≡ whole
-unfolding calls_from
-replaying_all whole bytes calls tasks s out at place rest e p =
-    let done : sets out place (records_of s (calls_from 0 calls at)) ≡ whole = rw e at p.left in done
+pub replaying_all : (whole : List ℕ) (bytes tasks : ℕ) (calls : List Call) (s : State) (out : List ℕ) (place : ℕ) →
+    calls ≡ [] → Replaying whole bytes tasks calls s out place → out ≡ whole
+replaying_all whole bytes tasks calls s out place none p =
+    let done : sets out place (records_of s []) ≡ whole = rw none at p.left in done
 
 -- S7.1: the state that Start returns has sixteen entries and at most as many tasks.
 pub start_few : (sheet : List ℕ) → (start_of sheet).state.count ≤ 16
-unfolding start_of fresh_state zero_state
+unfolding start_of prepared_of fresh_state zero_state
 start_few sheet = go (allocation_answer sheet) refl
   where
-    go : (a : Answer) → allocation_answer sheet ≡ a → (started_with a (fresh_state (read_of sheet).set (allocated_of sheet).allocations)).state.count ≤ 16
-    go Accepted e = (read_lawful sheet e).few_tasks
-    go (Refused number task) e = omega arith
+    go : (a : Answer) → allocation_answer sheet ≡ a → (started_with (a or_else Ok (fresh_state (task_set_of sheet) (allocations_for sheet)))).state.count ≤ 16
+    go (Ok x) e = (read_lawful sheet e).few_tasks
+    go (Err r) e = omega arith
 
 pub start-line : (sheet : List ℕ) → length (start_of sheet).state.entries ≡ 16
-unfolding start_of fresh_state entries_below zero_state
+unfolding start_of prepared_of fresh_state entries_below zero_state
 start-line sheet = go (allocation_answer sheet)
   where
-    go : (a : Answer) → length (started_with a (fresh_state (read_of sheet).set (allocated_of sheet).allocations)).state.entries ≡ 16
-    go Accepted = cells-length (λ i. fresh_entry (task_in (read_of sheet).set i) (allocation_at (allocated_of sheet).allocations i)) zero_entry 0 16 (read_of sheet).set.count
-    go (Refused number task) = length-replicate 16 zero_entry
-
--- The calls that are run are the first of the log, as many as they are.
-pub run_exact : (a : Answer) (calls : List ℕ) → calls_from (length (calls_run a (calls_of calls))) calls 0 ≡ calls_run a (calls_of calls)
-unfolding calls_of calls_from
-run_exact Accepted calls = calls_exact (length calls) calls 0
-run_exact (Refused number task) calls = refl
+    go : (a : Answer) → length (started_with (a or_else Ok (fresh_state (task_set_of sheet) (allocations_for sheet)))).state.entries ≡ 16
+    go (Ok x) = cells-length (λ i. fresh_entry (task_in (task_set_of sheet) i) (allocation_at (allocations_for sheet) i)) zero_entry 0 16 (task_set_of sheet).count
+    go (Err r) = length-replicate 16 zero_entry
 
 module _ (sheet calls : List ℕ) where
   pub replay_length : length (replay_bytes sheet calls) ≡ 2 + length (calls_run (start_of sheet).answer (calls_of calls)) * (4 + 9 * (start_of sheet).state.count)
@@ -225,25 +198,26 @@ module _ (sheet calls : List ℕ) where
       omega (arith, records_length s (omega (arith, start_few sheet, start-line sheet)) (calls_run (start_of sheet).answer (calls_of calls)))
 
   -- A buffer that is too short, and one that is not.
-  pub replay_short : (out : List ℕ) → length out < length (replay_bytes sheet calls) → (Short ≡ replayed_of sheet calls (length out)) × (out ≡ replay_over sheet calls out)
+  pub replay_short : (out : List ℕ) → length out < length (replay_bytes sheet calls) → (None ≡ replayed_of sheet calls (length out)) × (out ≡ replay_over sheet calls out)
   unfolding replayed_of replay_over
   replay_short out h = (rw (lt-leb (length (replay_bytes sheet calls)) (length out) h), rw (lt-leb (length (replay_bytes sheet calls)) (length out) h))
 
   pub replay_written : (out : List ℕ) → length (replay_bytes sheet calls) ≤ length out →
-      (Written (length (replay_bytes sheet calls)) ≡ replayed_of sheet calls (length out)) × (sets out 0 (replay_bytes sheet calls) ≡ replay_over sheet calls out)
+      (Some (length (replay_bytes sheet calls)) ≡ replayed_of sheet calls (length out)) × (sets out 0 (replay_bytes sheet calls) ≡ replay_over sheet calls out)
   unfolding replayed_of replay_over
   replay_written out h =
       let e : 0 + length (replay_bytes sheet calls) ≡ length (replay_bytes sheet calls) = omega arith in
       let t = le-leb (length (replay_bytes sheet calls)) (length out) h in
       (rw t, rw t (sets-eq (replay_bytes sheet calls) out 0 (omega arith) ∙ ap (λ (n : ℕ). replay_bytes sheet calls ++ drop n out) e))
 
--- What the code makes of a sheet and its calls: Start's answer and state, and the number of calls that are run.
-module _ (sheet calls : List ℕ) (count : ℕ) (st : Started) (e : st ≡ start_of sheet) (n : count ≡ length (calls_run st.answer (calls_of calls))) where
-  number : count ≡ length (calls_run (start_of sheet).answer (calls_of calls))
-  number = n ∙ ap (λ (t : Started). length (calls_run t.answer (calls_of calls))) e
+-- What the code makes of a sheet and its calls: Start's answer and state, the log that is run, and the number of its calls.
+module _ (sheet calls log : List ℕ) (count : ℕ) (st : Started) (e : st ≡ start_of sheet)
+    (run : calls_of log ≡ calls_run st.answer (calls_of calls)) (n : count ≡ length (calls_of log)) where
+  calls_are : calls_of log ≡ calls_run (start_of sheet).answer (calls_of calls)
+  calls_are = run ∙ ap (λ (t : Started). calls_run t.answer (calls_of calls)) e
 
-  calls_are : calls_from count calls 0 ≡ calls_run (start_of sheet).answer (calls_of calls)
-  calls_are = ap (λ (k : ℕ). calls_from k calls 0) number ∙ run_exact (start_of sheet).answer calls
+  number : count ≡ length (calls_run (start_of sheet).answer (calls_of calls))
+  number = n ∙ ap length calls_are
 
   pub replay_size : 2 + count * (4 + 9 * st.state.count) ≡ length (replay_bytes sheet calls)
   replay_size =
@@ -251,24 +225,22 @@ module _ (sheet calls : List ℕ) (count : ℕ) (st : Started) (e : st ≡ start
       ∙ ap (λ (k : ℕ). 2 + k * (4 + 9 * (start_of sheet).state.count)) number
       ∙ sym (replay_length sheet calls)
 
-  abbrev Ready : ℕ → Started → Type 0
-  Ready bytes t = (t.state.count ≤ 16) × (length (calls_from count calls 0) ≡ count) × (2 + length (records_of t.state (calls_from count calls 0)) ≤ bytes)
+  pub replay_few : st.state.count ≤ 16
+  replay_few = subst (λ (t : Started). t.state.count ≤ 16) (sym e) (start_few sheet)
 
-  -- The calls are all there, and there is room for their records.
-  pub replay_ready : (bytes : ℕ) → length (replay_bytes sheet calls) ≤ bytes →
-      (st.state.count ≤ 16) × (length (calls_from count calls 0) ≡ count) × (2 + length (records_of st.state (calls_from count calls 0)) ≤ bytes)
+  -- There is room for the records.
+  pub replay_room : (bytes : ℕ) → length (replay_bytes sheet calls) ≤ bytes → 2 + length (records_of st.state (calls_of log)) ≤ bytes
   unfolding replay_bytes
-  replay_ready bytes fits =
-      let room : 2 + length (records_of (start_of sheet).state (calls_from count calls 0)) ≤ bytes =
+  replay_room bytes fits =
+      let room : 2 + length (records_of (start_of sheet).state (calls_of log)) ≤ bytes =
       omega (arith, ap (λ (l : List Call). length (records_of (start_of sheet).state l)) calls_are) in
-      subst (Ready bytes) (sym e) (start_few sheet, ap length calls_are ∙ sym number, room)
+      subst (λ (t : Started). 2 + length (records_of t.state (calls_of log)) ≤ bytes) (sym e) room
 
   -- The answer and the records, one behind the other.
-  pub replay_put : (out : List ℕ) →
-      sets (sets out 0 (answer_bytes st.answer)) 2 (records_of st.state (calls_from count calls 0)) ≡ sets out 0 (replay_bytes sheet calls)
+  pub replay_put : (out : List ℕ) → sets (sets out 0 (answer_bytes st.answer)) 2 (records_of st.state (calls_of log)) ≡ sets out 0 (replay_bytes sheet calls)
   unfolding replay_bytes
   replay_put out =
       let a = (start_of sheet).answer in
-      ap (λ (t : Started). sets (sets out 0 (answer_bytes t.answer)) 2 (records_of t.state (calls_from count calls 0))) e
+      ap (λ (t : Started). sets (sets out 0 (answer_bytes t.answer)) 2 (records_of t.state (calls_of log))) e
       ∙ ap (λ (l : List Call). sets (sets out 0 (answer_bytes a)) 2 (records_of (start_of sheet).state l)) calls_are
       ∙ sym (sets-append out 0 (answer_bytes a) (records_of (start_of sheet).state (calls_run a (calls_of calls))))

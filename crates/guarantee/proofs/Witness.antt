@@ -8,7 +8,7 @@ use native.Mathlib.Omega.{arith}
 use borrow.Author.Tests.{eqb-true}
 use lib.Dec.{lit≤}
 use lib.ListN.{get_or, take, drop, replicate}
-use Rattle.sheet.specs.declared.answer.Answer.TheVariants.{Accepted}
+use Rattle.std.specs.Prelude.{Ok}
 use Rattle.sheet.specs.declared.task.Budget.{Budget}
 use Rattle.sheet.specs.declared.task.Task.{Task}
 use Rattle.sheet.specs.declared.task.TaskSet.{TaskSet}
@@ -24,7 +24,7 @@ use Rattle.nodes.specs.Sets.{has}
 use Rattle.nodes.proofs.Bits.{has_zero, has_power}
 use Rattle.model.specs.Budget.{sum_below, Chain, alone, link, along}
 use Rattle.model.specs.Row.{is_subset, all_ended, predecessors_of, precedes, is_ready, ready, running, running_set, released_row, joined, ticked_row, has_high_job, is_late, survives, switched_row}
-use Rattle.model.specs.Step.{Model, Call, release, tick, switched, step, row_at, granted, running_at, unknown_task, low_in_critical, too_early, wrong_count, not_running, release_refusal, tick_refusal, released, ticked}
+use Rattle.model.specs.Step.{Model, Call, release, tick, switched, step, row_at, granted, running_at, release_refusal, tick_refusal, released, ticked}
 use Rattle.model.specs.Run.{after, is_accepted, ticks_in, releases_in, is_running, is_due}
 use Rattle.model.specs.Plan.{fresh_row, fresh}
 use Rattle.model.specs.Claim.{begun, KeepsBudget, JobWithin, HighJobsWithin, Ended, StaysTypical, Deadline, EndInTime, Nominal, KeptDeadline}
@@ -38,10 +38,10 @@ use Rattle.guarantee.proofs.Theorem.{guarantee, beside_guarantee}
 use Rattle.guarantee.proofs.WitnessSheets.{high, low, kept, both, pairs, with_one_kept, kept_pairs, set_of_lem, shares_of_lem, model_of, start_accepts, sheets}
 use Rattle.guarantee.proofs.Truths.{all_true, true_reports, all_typical, typical_until, at_releases}
 
-pub started : (start_of two_tasks).answer ≡ Accepted
+pub started : (start_of two_tasks).answer ≡ Ok tt
 started = start_accepts sheets.two
 
-kept_started : (start_of one_kept).answer ≡ Accepted
+kept_started : (start_of one_kept).answer ≡ Ok tt
 kept_started = start_accepts sheets.one_task_kept
 
 read_set : tasks_for two_tasks ≡ both
@@ -210,7 +210,7 @@ record Runs : Type 0 where
   pub kept_alive : (row_at (after kept_start (take 7 over_switch)) 1).job.alive ≡ true
 
 runs : Runs
-unfolding fresh fresh_row virtual_deadline_of is_low division_of virtual_deadline has range is_high is_kept is_subset all_ended predecessors_of is_ready ready running running_set released_row joined ticked_row has_high_job is_late survives switched_row step row_at granted running_at unknown_task low_in_critical too_early wrong_count not_running release_refusal tick_refusal released ticked is_accepted is_running is_due
+unfolding fresh fresh_row virtual_deadline_of is_low division_of virtual_deadline has range is_high is_kept is_subset all_ended predecessors_of is_ready ready running running_set released_row joined ticked_row has_high_job is_late survives switched_row step row_at granted running_at release_refusal tick_refusal released ticked is_accepted is_running is_due
 runs =
     record {
       begins = refl;

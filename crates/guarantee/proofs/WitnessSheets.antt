@@ -1,18 +1,19 @@
 -- The sheets of the witnesses, read and planned by computation: their tasks, their shares, and the model that Start begins with.
 use Prim.Native.Nat.{ℕ}
 use mathlib.Core.List.{List, [], ◌∷◌}
-use mathlib.Core.Path.{◌≡◌, refl, ap, ap₂, ◌∙◌}
+use mathlib.Core.Path.{◌≡◌, refl, sym, ap, ap₂, ◌∙◌}
 use lib.ListN.{replicate}
-use Rattle.sheet.specs.declared.answer.Answer.TheVariants.{Accepted}
+use Rattle.std.specs.Prelude.{Ok}
 use Rattle.sheet.specs.declared.task.Task.{Task}
 use Rattle.sheet.specs.declared.task.TaskSet.{TaskSet}
-use Rattle.sheet.specs.Answers.{◌or_else◌, first_over}
+use Rattle.sheet.specs.Refusal.{first_over}
 use Rattle.basics.specs.Numbers.{byte_at, u16_at, u32_at}
 use Rattle.basics.specs.Lists.{cells_from, all_below, range}
 use Rattle.sheet.specs.Format.{processors_of, count_of, offset_of, length_of, level_at, nodes_at, figure_at, figures_at, masks_at, task_at, zero_task, tasks_below, task_set_of, task_in, place_of}
 use Rattle.sheet.specs.Level.{level_lawful, is_low, is_high, bytes_before_masks, figure_limit, is_wide}
 use Rattle.sheet.specs.Rules.{shape_lawful, in_range, in_order, low_lawful, figures_lawful, mask_lawful, masks_lawful, is_heavy, task_answer}
-use Rattle.reader.specs.declared.Reading.{Reading}
+use Rattle.reader.proofs.Readings.{read_ok}
+use Rattle.allocation.proofs.Allocations.{answer_choice}
 use Rattle.reader.specs.Reading.{header_lawful, header_answer, place_answer, end_answer, shape_answer, record_answer, read_of, read_answer}
 use Rattle.shares.specs.declared.share.Share.{Share}
 use Rattle.shares.specs.Test.{excess, demand, passes}
@@ -21,13 +22,13 @@ use Rattle.shares.specs.Totals.{share_at}
 use Rattle.basics.specs.Order.{least_by}
 use Rattle.allocation.specs.Choice.{low_options, pairs_within, high_options, options_of, fits, fitting, chosen}
 use Rattle.keeping.specs.Kept.{low_numbers, holdable, first_held, typical_share_at, left_over, kept_tasks, kept_share, with_kept}
-use Rattle.allocation.specs.Allocation.{chosen_for, share_answer, choice_answer, shares_with, shares_of, allocation_answer}
+use Rattle.allocation.specs.Allocation.{chosen_for, share_answer, choice_answer, shares_with, shares_of}
 use Rattle.model.specs.Plan.{fresh}
 use Rattle.start.specs.Start.{start_of}
 use Rattle.guarantee.specs.Guarantee.{shares_for, model_for, tasks_for}
 use Rattle.guarantee.specs.Witness.{two_tasks, one_kept}
 use Rattle.guarantee.specs.IsolationWitness.{high_only, low_only, three_tasks, two_high}
-use Rattle.guarantee.proofs.Theorem.{answer_returned}
+use Rattle.guarantee.proofs.Theorem.{start_answered}
 
 -- A high task.
 abbrev pub high : Task
@@ -103,22 +104,20 @@ twice_pairs = pair 1 2 ∷ pair 1 2 ∷ []
 
 -- S2, S5: a sheet gives these tasks and shares.
 pub record Gives (sheet : List ℕ) (ts : TaskSet) (shares : List Share) : Type 0 where
-  pub read : read_of sheet ≡ record { answer = Accepted; set = ts }
-  pub chosen : choice_answer ts ≡ Accepted
+  pub read : read_of sheet ≡ Ok ts
+  pub chosen : choice_answer ts ≡ Ok tt
   pub shared : shares_of ts ≡ shares
 
 module _ {sheet : List ℕ} {ts : TaskSet} {shares : List Share} (gives : Gives sheet ts shares) where
   -- Start accepts a sheet that is read and whose choice is accepted.
-  pub start_accepts : (start_of sheet).answer ≡ Accepted
-  unfolding start_of allocation_answer
+  pub start_accepts : (start_of sheet).answer ≡ Ok tt
   start_accepts =
-      answer_returned (allocation_answer sheet) _
-      ∙ ap (λ (r : Reading). r.answer or_else choice_answer r.set) gives.read
-      ∙ gives.chosen
+      let told = read_ok sheet gives.read in
+      start_answered sheet (answer_choice sheet told.0 ∙ ap choice_answer (sym told.1) ∙ gives.chosen)
 
   pub set_of_lem : tasks_for sheet ≡ ts
   unfolding tasks_for
-  set_of_lem = ap (λ (r : Reading). r.set) gives.read
+  set_of_lem = sym (read_ok sheet gives.read).1
 
   pub shares_of_lem : shares_for sheet ≡ shares
   unfolding shares_for

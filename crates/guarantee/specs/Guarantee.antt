@@ -1,8 +1,8 @@
 -- S10: what is promised of runs, as one claim about every sheet that Start accepts and every list of calls.
 use Rattle.std.specs.Prelude.{ℕ, List, ◌≡◌}
-use Rattle.sheet.specs.declared.answer.Answer.TheVariants.{Accepted}
+use Rattle.std.specs.Prelude.{Ok}
 use Rattle.sheet.specs.declared.task.TaskSet.{TaskSet}
-use Rattle.reader.specs.Reading.{read_of}
+use Rattle.sheet.specs.Format.{task_set_of}
 use Rattle.shares.specs.declared.share.Share.{Share}
 use Rattle.allocation.specs.Allocation.{shares_of}
 use Rattle.model.specs.Step.{Model, Call}
@@ -18,7 +18,7 @@ use Rattle.guarantee.specs.Runs.{state_after, all_said, all_model_said}
 
 -- S2: the tasks that a sheet tells of.
 unfoldable pub tasks_for : List ℕ → TaskSet
-tasks_for sheet = (read_of sheet).set
+tasks_for sheet = task_set_of sheet
 
 -- S5.3 and S5.6: the shares of these tasks: those chosen, and those kept in the critical mode.
 unfoldable pub shares_for : List ℕ → List Share
@@ -57,9 +57,9 @@ pub record Guaranteed (sheet : List ℕ) (calls : List Call) : Type 0 where
 
 -- S10.1: it holds of every sheet that Start accepts and of every list of calls, whatever their arguments and answers.
 unfoldable pub Guarantee : Type 0
-Guarantee = (sheet : List ℕ) → (start_of sheet).answer ≡ Accepted → (calls : List Call) → Guaranteed sheet calls
+Guarantee = (sheet : List ℕ) → (start_of sheet).answer ≡ Ok tt → (calls : List Call) → Guaranteed sheet calls
 
 -- S10.10: what holds of the same runs beside it.
 unfoldable pub BesideGuarantee : Type 0
 BesideGuarantee =
-    (sheet : List ℕ) → (start_of sheet).answer ≡ Accepted → (calls : List Call) → Beside (tasks_for sheet) (shares_for sheet) calls
+    (sheet : List ℕ) → (start_of sheet).answer ≡ Ok tt → (calls : List Call) → Beside (tasks_for sheet) (shares_for sheet) calls

@@ -1,6 +1,6 @@
 -- S10.14 and S10.15, of the states that Start, Release and Tick return: a task alone and in a full sheet.
 use Rattle.std.specs.Prelude.{ℕ, ◌<◌, List, ◌≡◌}
-use Rattle.sheet.specs.declared.answer.Answer.TheVariants.{Accepted}
+use Rattle.std.specs.Prelude.{Ok}
 use Rattle.sheet.specs.Format.{task_in}
 use Rattle.shares.specs.Totals.{share_at}
 use Rattle.model.specs.Step.{Model, Call}
@@ -24,7 +24,7 @@ held_after sheet calls = model_of (state_after (start_state sheet) calls)
 -- tasks, of blocks, of refused calls and of how many calls there are.
 unfoldable pub IsolationGuarantee : Type 0
 IsolationGuarantee =
-    (sheet other : List ℕ) → (start_of sheet).answer ≡ Accepted → (start_of other).answer ≡ Accepted →
+    (sheet other : List ℕ) → (start_of sheet).answer ≡ Ok tt → (start_of other).answer ≡ Ok tt →
     (calls others : List Call) (i j t : ℕ) →
     SameRecord (task_run sheet calls i) (task_run other others j) →
     share_of (task_run sheet calls i) ≡ share_of (task_run other others j) →
@@ -35,7 +35,7 @@ IsolationGuarantee =
 -- S10.15: where no tick up to the t-th switches in either run, the same typical share is enough. The critical shares play no part.
 unfoldable pub UnswitchedGuarantee : Type 0
 UnswitchedGuarantee =
-    (sheet other : List ℕ) → (start_of sheet).answer ≡ Accepted → (start_of other).answer ≡ Accepted →
+    (sheet other : List ℕ) → (start_of sheet).answer ≡ Ok tt → (start_of other).answer ≡ Ok tt →
     (calls others : List Call) (i j t : ℕ) →
     SameRecord (task_run sheet calls i) (task_run other others j) →
     (share_of (task_run sheet calls i)).typical ≡ (share_of (task_run other others j)).typical →
@@ -48,7 +48,7 @@ UnswitchedGuarantee =
 -- typical share.
 unfoldable pub CommissioningGuarantee : Type 0
 CommissioningGuarantee =
-    (alone full : List ℕ) → (start_of alone).answer ≡ Accepted → (start_of full).answer ≡ Accepted →
+    (alone full : List ℕ) → (start_of alone).answer ≡ Ok tt → (start_of full).answer ≡ Ok tt →
     (tasks_for alone).count ≡ 1 →
     (j : ℕ) → j < (tasks_for full).count →
     task_in (tasks_for alone) 0 ≡ task_in (tasks_for full) j →

@@ -1,7 +1,8 @@
 -- What S10.14 and S10.15 ask can be met: a high task alone and among others, over a switch and a return; and a low task alone, where it is
 -- kept, and among others, where it is not. And without the modes S10.14 would be false.
 use Rattle.std.specs.Prelude.{ℕ, ◌<◌, Bool, true, false, List, [], ◌∷◌, ◌++◌, ◌≡◌}
-use Rattle.sheet.specs.declared.answer.Answer.TheVariants.{Accepted, Refused}
+use Rattle.std.specs.Prelude.{Ok, Err}
+use Rattle.sheet.specs.declared.refusal.Refusal.TheVariants.{LowInCritical, NotRunning, TooEarly, UnknownTask, WrongCount}
 use Rattle.sheet.specs.Format.{task_in}
 use Rattle.shares.specs.Totals.{share_at}
 use Rattle.allocation.specs.Blocks.{offset_in}
@@ -49,17 +50,17 @@ high_tested =
 -- S3.1, S8.7: what its calls answer.
 abbrev pub high_tested_said : List Said
 high_tested_said =
-    released Accepted
+    released (Ok tt)
     ∷ ticked Ran
     ∷ ticked Ran
-    ∷ released (Refused 13 0)
+    ∷ released (Err (TooEarly 0))
     ∷ ticked Ran
     ∷ ticked (Switched 0)
     ∷ ticked Ran
     ∷ ticked Ran
     ∷ ticked Returned
     ∷ ticked Ran
-    ∷ released Accepted
+    ∷ released (Ok tt)
     ∷ ticked Ran
     ∷ []
 
@@ -91,24 +92,24 @@ high_among_three =
 -- S3.1, S8.7: what its calls answer.
 abbrev pub high_among_three_said : List Said
 high_among_three_said =
-    released Accepted
-    ∷ released Accepted
+    released (Ok tt)
+    ∷ released (Ok tt)
     ∷ ticked Ran
-    ∷ released Accepted
-    ∷ ticked (TickRefused 14 255)
+    ∷ released (Ok tt)
+    ∷ ticked (TickRefused WrongCount)
     ∷ ticked Ran
     ∷ ticked Ran
-    ∷ released (Refused 13 2)
+    ∷ released (Err (TooEarly 2))
     ∷ ticked (Switched 1)
-    ∷ released (Refused 12 2)
-    ∷ released Accepted
-    ∷ ticked (TickRefused 15 1)
+    ∷ released (Err (LowInCritical 2))
+    ∷ released (Ok tt)
+    ∷ ticked (TickRefused (NotRunning 1))
     ∷ ticked Ran
     ∷ ticked Ran
     ∷ ticked Returned
-    ∷ released (Refused 11 255)
+    ∷ released (Err UnknownTask)
     ∷ ticked Ran
-    ∷ released Accepted
+    ∷ released (Ok tt)
     ∷ ticked Ran
     ∷ []
 
@@ -148,8 +149,8 @@ low_among = task_run three_tasks low_among_three 2
 -- S10.14 is met until the eighth tick, over a switch and a return.
 pub record IsolationMet : Type 0 where
   -- Start accepts both sheets.
-  pub started : (start_of high_only).answer ≡ Accepted
-  pub other_started : (start_of three_tasks).answer ≡ Accepted
+  pub started : (start_of high_only).answer ≡ Ok tt
+  pub other_started : (start_of three_tasks).answer ≡ Ok tt
   -- All that the clause asks holds.
   pub same : SameRecord high_run high_among
   pub shares : share_of high_run ≡ share_of high_among
@@ -168,8 +169,8 @@ pub record IsolationMet : Type 0 where
 -- S10.15 is met by a low task whose critical shares differ.
 pub record CommissioningMet : Type 0 where
   -- Start accepts both sheets, and one has a task alone.
-  pub started : (start_of low_only).answer ≡ Accepted
-  pub other_started : (start_of three_tasks).answer ≡ Accepted
+  pub started : (start_of low_only).answer ≡ Ok tt
+  pub other_started : (start_of three_tasks).answer ≡ Ok tt
   pub single : (tasks_for low_only).count ≡ 1
   -- All that the clause asks holds.
   pub known : 2 < (tasks_for three_tasks).count
@@ -204,8 +205,8 @@ beside_overrun =
 -- S10.14 asks for the modes with a reason: two runs that meet all else that it asks, and in which other nodes run.
 pub record ModesMatter : Type 0 where
   -- Start accepts both sheets.
-  pub started : (start_of high_only).answer ≡ Accepted
-  pub other_started : (start_of two_high).answer ≡ Accepted
+  pub started : (start_of high_only).answer ≡ Ok tt
+  pub other_started : (start_of two_high).answer ≡ Ok tt
   -- All but the modes is alike.
   pub same : SameRecord (task_run high_only released_late 0) (task_run two_high beside_overrun 0)
   pub shares : share_of (task_run high_only released_late 0) ≡ share_of (task_run two_high beside_overrun 0)

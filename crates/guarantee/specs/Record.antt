@@ -1,43 +1,51 @@
 -- S12.2: what Replay writes for a call: its answer, and what the state then holds, in 4 + 9n bytes.
-use Rattle.std.specs.Prelude.{ℕ, List, [], ◌∷◌, ◌++◌}
+use Rattle.std.specs.Prelude.{ℕ, List, [], ◌∷◌, ◌++◌, Ok, Err, Option, Some, None, unwrap_or}
 use Rattle.basics.specs.Lists.{bit}
-use Rattle.sheet.specs.declared.answer.Answer.{Answer}
-use Rattle.sheet.specs.declared.answer.Answer.TheVariants.{Accepted, Refused}
 use Rattle.basics.specs.Numbers.{u32_bytes}
-use Rattle.sheet.specs.Answers.{no_task, number_of, task_of}
+use Rattle.sheet.specs.Refusal.{Answer, no_task, number, task, number_of, task_of}
 use Rattle.model.specs.Row.{Row}
 use Rattle.model.specs.Step.{Model, Call}
 use Rattle.dispatcher.specs.declared.state.State.{State}
-use Rattle.dispatcher.specs.declared.tick.TickAnswer.TheVariants.{Ran, Switched, Returned, Refused as TickRefused}
-use Rattle.dispatcher.specs.Answers.{tick_number, tick_task}
+use Rattle.dispatcher.specs.declared.tick.TickAnswer.{TickAnswer}
+use Rattle.dispatcher.specs.declared.tick.TickAnswer.TheVariants.{Ran, Switched, Returned, Refused}
+use Rattle.dispatcher.specs.Answers.{Ticked, tick_number, tick_task}
 use Rattle.dispatcher.specs.Holds.{model_of}
-use Rattle.guarantee.specs.declared.turn.Turn.{Turn}
 use Rattle.guarantee.specs.Runs.{Said, released, ticked, state_of, said_of}
 
--- S12.2: the outcome of a call that was accepted or ran.
-abbrev pub done_outcome : ℕ
-done_outcome = 0
+-- S12.2: the number of an outcome: 0 where a call was accepted or ran, 1 where a tick switched, 2 where a call was refused, 3 where a tick
+-- returned.
+abbrev pub outcome_number : TickAnswer → ℕ
+outcome_number Ran = 0
+outcome_number (Switched task) = 1
+outcome_number (Refused r) = 2
+outcome_number Returned = 3
 
--- S12.2: the outcome of a tick that switched.
-abbrev pub switched_outcome : ℕ
-switched_outcome = 1
+-- S3.1, S8.7: the number of the refusal of an outcome, if it is one.
+abbrev pub refusal_number : TickAnswer → Option ℕ
+refusal_number Ran = None
+refusal_number (Switched task) = None
+refusal_number (Refused r) = Some (number r)
+refusal_number Returned = None
 
--- S12.2: the outcome of a refused call.
-abbrev pub refused_outcome : ℕ
-refused_outcome = 2
+-- S3.1, S8.7: the task that an outcome names, that of a switch or of a refusal.
+abbrev pub named_task : TickAnswer → Option ℕ
+named_task Ran = None
+named_task (Switched i) = Some i
+named_task (Refused r) = task r
+named_task Returned = None
 
--- S12.2: the outcome of a tick that returned.
-abbrev pub returned_outcome : ℕ
-returned_outcome = 3
+-- S12.2: as bytes: 0 where there is no refusal, and 255 where there is no task.
+abbrev pub outcome_refusal : TickAnswer → ℕ
+outcome_refusal outcome = unwrap_or (refusal_number outcome) 0
 
--- S12.2: the outcome of a call, by its answer.
-abbrev pub outcome_of : Said → ℕ
-outcome_of (released Accepted) = done_outcome
-outcome_of (released (Refused number task)) = refused_outcome
-outcome_of (ticked Ran) = done_outcome
-outcome_of (ticked (Switched task)) = switched_outcome
-outcome_of (ticked Returned) = returned_outcome
-outcome_of (ticked (TickRefused number task)) = refused_outcome
+abbrev pub outcome_task : TickAnswer → ℕ
+outcome_task outcome = unwrap_or (named_task outcome) no_task
+
+-- S12.2: the outcome of a call, by its answer. A Release ends as a tick that ran, or that was refused.
+abbrev pub outcome_of : Said → TickAnswer
+outcome_of (released (Ok x)) = Ran
+outcome_of (released (Err r)) = Refused r
+outcome_of (ticked a) = a
 
 -- S3.1, S8.7: the number of the answer to a call: 0 unless it was refused.
 abbrev pub said_number : Said → ℕ
@@ -68,26 +76,16 @@ model_bytes m = bit m.critical ∷ rows_bytes m.rows
 
 -- S12.2: the record of a call: outcome, number and task, and what is held after it.
 unfoldable pub record_of : Said → Model → List ℕ
-record_of said m = outcome_of said ∷ said_number said ∷ said_task said ∷ model_bytes m
+record_of said m = outcome_number (outcome_of said) ∷ said_number said ∷ said_task said ∷ model_bytes m
 
--- S12.2: a call that was accepted or ran, before its record is written: the state that it returned, beside its answer's numbers.
-abbrev pub done_turn : State → Turn
-done_turn s = record { state = s; outcome = done_outcome; number = 0; task = no_task }
+-- S12.2: a call before its record is written: its outcome beside the state that it returned.
+abbrev pub Turn : Type 0
+Turn = Ticked
 
--- S12.2: the same of a refused call.
-abbrev pub refused_turn : State → ℕ → ℕ → Turn
-refused_turn s number task = record { state = s; outcome = refused_outcome; number = number; task = task }
-
--- S12.2: the same of any call, by its answer.
+-- S12.2: what becomes of a call that a state is put to.
 unfoldable pub turn_of : State → Call → Turn
-turn_of s c =
-    record {
-      state = state_of s c;
-      outcome = outcome_of (said_of s c);
-      number = said_number (said_of s c);
-      task = said_task (said_of s c);
-    }
+turn_of s c = record { state = state_of s c; answer = outcome_of (said_of s c) }
 
 -- S12.2: the record that is then written.
 unfoldable pub turn_bytes : Turn → List ℕ
-turn_bytes t = t.outcome ∷ t.number ∷ t.task ∷ model_bytes (model_of t.state)
+turn_bytes t = outcome_number t.answer ∷ outcome_refusal t.answer ∷ outcome_task t.answer ∷ model_bytes (model_of t.state)

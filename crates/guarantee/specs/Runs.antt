@@ -1,6 +1,6 @@
 -- S10.1: runs. A run is a list of Release and Tick calls; each hands its state on to the next.
 use Rattle.std.specs.Prelude.{List, [], ◌∷◌}
-use Rattle.sheet.specs.declared.answer.Answer.{Answer}
+use Rattle.sheet.specs.Refusal.{Answer}
 use Rattle.model.specs.Step.{Model, Call, release, tick, Answer as ModelAnswer, step}
 use Rattle.dispatcher.specs.declared.state.State.{State}
 use Rattle.dispatcher.specs.declared.tick.TickAnswer.{TickAnswer}

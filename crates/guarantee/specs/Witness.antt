@@ -1,9 +1,10 @@
 -- What the deadline (S10.7), the nominal clause (S10.9), the clause of low jobs (S10.10) and that of the return (S10.13) ask can be met: one
 -- sheet, and a run for each of the four clauses. So can what the clause of kept tasks (S10.11) asks, by a sheet and a run of its own.
 use Rattle.std.specs.Prelude.{ℕ, ◌+◌, ◌≤◌, true, Bool, List, [], ◌∷◌, ◌++◌, ◌≡◌, get_or, take}
-use Rattle.sheet.specs.declared.answer.Answer.TheVariants.{Accepted, Refused}
+use Rattle.std.specs.Prelude.{Ok, Err}
 use Rattle.sheet.specs.declared.task.Budget.{Budget}
 use Rattle.sheet.specs.declared.task.Task.{Task}
+use Rattle.sheet.specs.declared.refusal.Refusal.TheVariants.{LowInCritical, NotRunning}
 use Rattle.sheet.specs.Format.{task_in}
 use Rattle.sheet.specs.Level.{is_high, is_low}
 use Rattle.shares.specs.Low.{is_kept}
@@ -75,11 +76,11 @@ overrun =
 -- S3.1, S8.7: what the calls of that run answer.
 abbrev pub overrun_said : List Said
 overrun_said =
-    released Accepted
-    ∷ released Accepted
+    released (Ok tt)
+    ∷ released (Ok tt)
     ∷ (switch_said
-    ++ released (Refused 12 1)
-    ∷ ticked (TickRefused 15 0)
+    ++ released (Err (LowInCritical 1))
+    ∷ ticked (TickRefused (NotRunning 0))
     ∷ (return_said ++ ticked Ran ∷ ticked Ran ∷ []))
 
 -- S10.1: a run with two such jobs, one behind the other. Each switches with its fourth tick and returns with its seventh. The first switch drops
@@ -100,14 +101,14 @@ there_and_back =
 -- S3.1, S8.7: what the calls of that run answer.
 abbrev pub there_and_back_said : List Said
 there_and_back_said =
-    released Accepted
-    ∷ released Accepted
+    released (Ok tt)
+    ∷ released (Ok tt)
     ∷ (switch_said
-    ++ released (Refused 12 1)
+    ++ released (Err (LowInCritical 1))
     ∷ (return_said
-    ++ released Accepted
+    ++ released (Ok tt)
     ∷ ticked Ran
-    ∷ released Accepted
+    ∷ released (Ok tt)
     ∷ (switch_said ++ return_said ++ ticked Ran ∷ [])))
 
 -- S10.6: lengths of a tick each. Those of task 0's nodes use up the nominal budget: together 4, and 2 along the chain.
@@ -177,15 +178,15 @@ kept_again = take 8 over_switch ++ release 1 ∷ tick (8 ∷ 0 ∷ []) ∷ []
 -- S3.1, S8.7, S9.12: what its calls answer.
 abbrev pub kept_again_said : List Said
 kept_again_said =
-    released Accepted
+    released (Ok tt)
     ∷ ticked Ran
     ∷ ticked Ran
-    ∷ released Accepted
+    ∷ released (Ok tt)
     ∷ ticked Ran
     ∷ ticked (Switched 0)
     ∷ ticked Ran
     ∷ ticked Ran
-    ∷ released Accepted
+    ∷ released (Ok tt)
     ∷ ticked Returned
     ∷ []
 
@@ -200,7 +201,7 @@ pub record InTimeAsked (is_such : ℕ → Bool) (budget : Budget) (start : Model
 -- S10.7 is met by a job that overruns its nominal budget.
 pub record DeadlineMet : Type 0 where
   -- Start accepts the sheet.
-  pub started : (start_of two_tasks).answer ≡ Accepted
+  pub started : (start_of two_tasks).answer ≡ Ok tt
   -- The run switches and returns, and two of its calls are refused.
   pub said : all_said (start_state two_tasks) overrun ≡ overrun_said
   -- The job's lengths do not keep the nominal budget.
@@ -211,7 +212,7 @@ pub record DeadlineMet : Type 0 where
 -- S10.9 is met by a run with two accepted releases of the high task.
 pub record NominalMet : Type 0 where
   -- Start accepts the sheet.
-  pub started : (start_of two_tasks).answer ≡ Accepted
+  pub started : (start_of two_tasks).answer ≡ Ok tt
   -- The run has jobs of a high task.
   pub high : is_high high_task.level ≡ true
   pub jobs : releases_in 0 (model_for two_tasks) usual ≡ 2
@@ -221,7 +222,7 @@ pub record NominalMet : Type 0 where
 -- S10.10 is met by a low job in typical mode, and by its task's next release.
 pub record LowMet : Type 0 where
   -- Start accepts the sheet.
-  pub started : (start_of two_tasks).answer ≡ Accepted
+  pub started : (start_of two_tasks).answer ≡ Ok tt
   -- What is asked of a low job, as of any other, holds of it.
   pub asked : InTimeAsked is_low low_task.figures.nominal (model_for two_tasks) low_task 1 low_alone short_lengths
   -- The mode is typical until its D-th tick.
@@ -232,7 +233,7 @@ pub record LowMet : Type 0 where
 -- S10.11 is met by a job of a kept low task that is released in the typical mode and goes on over the switch.
 pub record KeptMet : Type 0 where
   -- Start accepts the sheet.
-  pub started : (start_of one_kept).answer ≡ Accepted
+  pub started : (start_of one_kept).answer ≡ Ok tt
   -- The run switches and returns, and in the critical mode the kept task can be released again.
   pub said : all_said (start_state one_kept) kept_again ≡ kept_again_said
   -- Just before its D-th tick, in the critical mode, the job is alive.
@@ -245,7 +246,7 @@ pub record KeptMet : Type 0 where
 -- S10.13 is met by a run that switches and returns twice, and S10.7 by a job that is released in it after a return.
 pub record BackMet : Type 0 where
   -- Start accepts the sheet.
-  pub started : (start_of two_tasks).answer ≡ Accepted
+  pub started : (start_of two_tasks).answer ≡ Ok tt
   -- The run switches twice, and returns each time.
   pub said : all_said (start_state two_tasks) there_and_back ≡ there_and_back_said
   -- All that the clause of the return asks holds of its first switch.

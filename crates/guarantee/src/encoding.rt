@@ -1,67 +1,100 @@
-// S12.1: a log of calls, read in place.
-ghost use Rattle.std.specs.Prelude.{◌≡◌, ◌+◌, ◌*◌, ◌≤◌, ◌<◌, length, take};
-ghost use Rattle.guarantee.specs.Encoding.{asked_at, size_at, reports_at, calls_of};
+//! S12.1: a log of calls, read in place.
+ghost use Rattle.std.specs.Prelude.{◌≡◌, ◌+◌, ◌*◌, ◌≤◌, length, take};
+ghost use Rattle.std.specs.Iterator.{YieldsFirstBy, item_count};
+ghost use Rattle.basics.specs.Numbers.{byte_at};
+ghost use Rattle.guarantee.specs.Encoding.{asked_by, Decodes, reports_at, call_in, calls_of};
 
-use basics::numbers::{byte_at, u32_at};
+use basics::numbers::{byte_at, u32s_at};
 
-pub const RELEASE: u8 = 0;
-
-const TICK: u8 = 1;
-
-// How many bytes the call at a place asks for, by its kind; 0 for an unknown one.
-fn asked_at(calls: &[u8], at: usize) -> usize
-    requires { at ≤ length calls.now }
-    ensures value { result ≡ asked_at calls.now at }
-    ensures bound { result < 2048 }
-{
-    let kind = byte_at(calls, at);
-    if kind == RELEASE {
-        return 5;
-    }
-    if kind == TICK {
-        let count = byte_at(calls, at + 1);
-        return 2 + 4 * (count as usize);
-    }
-    0
+/// S12.1: the kind of a call.
+#[derive(Clone, Copy, Debug, PartialEq, Eq)]
+pub enum Kind {
+    Release,
+    Tick,
 }
 
-// How many bytes the call at a place has if it stands there whole; 0 where the log ends.
-pub fn size_at(calls: &[u8], at: usize) -> usize
-    requires { at ≤ length calls.now }
-    ensures value { result ≡ size_at calls.now at }
-    ensures inside { at + result ≤ length calls.now }
-{
-    let size = asked_at(calls, at);
-    if at + size <= calls.len() { size } else { 0 }
+/// S12.1: a byte that is no call's kind.
+#[derive(Clone, Copy, Debug, PartialEq, Eq)]
+pub struct UnknownKind(pub u8);
+
+impl TryFrom<u8> for Kind {
+    type Error = UnknownKind;
+
+    ghost try_from_gives = { Decodes };
+
+    #[tactic(auto, unfolding(crate::specs::Encoding::kind_of))]
+    fn try_from(byte: u8) -> Result<Self, UnknownKind> {
+        match byte {
+            0 => Ok(Kind::Release),
+            1 => Ok(Kind::Tick),
+            _ => Err(UnknownKind(byte)),
+        }
+    }
 }
 
-// How many calls the log has.
+/// S12.1: how many bytes a call of this kind asks for; its second byte is the number of a tick's reports.
+#[tactic(auto, unfolding(crate::specs::Encoding::asked_by))]
+fn asked_by(kind: Kind, second: u8) -> usize
+    ensures value { result ≡ asked_by kind second }
+    ensures some { 1 ≤ result }
+{
+    match kind {
+        Kind::Release => 5,
+        Kind::Tick => 2 + 4 * usize::from(second),
+    }
+}
+
+/// S12.1: a call that stands whole in a log: its kind, and its bytes.
+#[derive(Clone, Copy, Debug, PartialEq, Eq)]
+pub struct LoggedCall<'a> {
+    pub kind: Kind,
+    pub bytes: &'a [u8],
+    ghost whole: { asked_by kind (byte_at bytes.now 1) ≤ length bytes.now },
+}
+
+/// S12.1: the calls of a log, one after the other.
+#[derive(Drop)]
+pub struct LoggedCalls<'a> {
+    rest: &'a [u8],
+}
+
+impl<'a> LoggedCalls<'a> {
+    /// All calls of a log.
+    pub fn new(log: &'a [u8]) -> LoggedCalls<'a>
+        ensures { result.rest.now ≡ log.now }
+    {
+        LoggedCalls { rest: log }
+    }
+}
+
+impl<'a> Iterator for LoggedCalls<'a> {
+    type Item = LoggedCall<'a>;
+
+    ghost next_gives = { YieldsFirstBy (λ c. call_in c.kind c.bytes.now) (λ s. calls_of s.rest.now) };
+
+    ghost remaining = { item_count (λ s. calls_of s.rest.now) };
+
+    fn next(&mut self) -> Option<LoggedCall<'a>> {
+        let kind = Kind::try_from(byte_at(self.rest, 0)).ok()?;
+        let size = asked_by(kind, byte_at(self.rest, 1));
+        let (bytes, rest) = self.rest.split_at_checked(size)?;
+        self.rest = rest;
+        Some(LoggedCall { kind, bytes })
+    }
+}
+
+/// How many calls the log has.
 pub fn count_calls(calls: &[u8]) -> usize
     ensures { result ≡ length (calls_of calls.now) }
 {
-    let mut at: usize = 0;
-    let mut count: usize = 0;
-    let mut size = size_at(calls, 0);
-    while size != 0 {
-        at += size;
-        count += 1;
-        size = size_at(calls, at);
-    }
-    count
+    LoggedCalls::new(calls).count()
 }
 
-// The reports of a tick, at the front of the line.
-pub fn reports_at(calls: &[u8], at: usize, count: u8) -> [u32; 255]
-    requires { at + 4 * count ≤ length calls.now }
-    ensures value { take count result ≡ reports_at calls.now at count }
+/// The reports of a tick.
+pub fn reports_of(call: &[u8], count: u8) -> [u32; 255]
+    requires { 2 + 4 * count ≤ length call.now }
+    ensures value { take count result ≡ reports_at call.now 2 count }
     ensures long { length result ≡ 255 }
 {
-    let n = count as usize;
-    let mut reports = [0u32; 255];
-    let mut i: usize = 0;
-    while i < n {
-        reports[i] = u32_at(calls, at + 4 * i);
-        i += 1;
-    }
-    reports
+    u32s_at(call, 2, usize::from(count))
 }

@@ -1,102 +1,69 @@
-// S10.1, S12.2: one call of a log, put to Release or Tick.
-ghost use Rattle.std.specs.Prelude.{◌≡◌, ◌≤◌, length};
+//! S10.1, S12.2: one call of a log, put to Release or Tick.
+ghost use Rattle.std.specs.Prelude.{◌≡◌, ◌≤◌, ◌+◌, ◌*◌, length};
+ghost use Rattle.basics.specs.Numbers.{byte_at};
 ghost use Rattle.model.specs.Step.{release, tick};
-ghost use Rattle.guarantee.specs.Encoding.{size_at, call_at};
-ghost use Rattle.guarantee.specs.Record.{done_turn, refused_turn, turn_of};
+ghost use Rattle.guarantee.specs.Encoding.{reports_at, call_in};
+ghost use Rattle.guarantee.specs.Runs.{released};
+ghost use Rattle.guarantee.specs.Record.{outcome_of, turn_of};
 
-use crate::encoding::{RELEASE, reports_at};
+use crate::encoding::{Kind, LoggedCall, reports_of};
 use basics::numbers::{byte_at, u32_at};
 use dispatcher::release::release;
 use dispatcher::state::State;
-use dispatcher::tick::{TickAnswer, tick};
-use sheet::answer::{Answer, NO_TASK};
+use dispatcher::tick::{TickAnswer, Ticked, tick};
+use sheet::refusal::Refusal;
 
-const DONE: u8 = 0;
+/// S12.2: a call's outcome beside the state that it returned. A Release ends as a tick that ran, or that was refused.
+pub type Turn = Ticked;
 
-const SWITCHED: u8 = 1;
-
-const REFUSED: u8 = 2;
-
-const RETURNED: u8 = 3;
-
-// A call's answer as three numbers, beside the state that it returned.
-#[derive(Clone, Copy)]
-pub struct Turn {
-    pub state: State,
-    pub outcome: u8,
-    pub number: u8,
-    pub task: u8,
-}
-
-fn done(state: State) -> Turn
-    ensures { result ≡ done_turn state }
+/// S12.2: the outcome of a Release.
+/// No `From`: neither type is of this crate.
+fn released_outcome(answer: Result<(), Refusal>) -> TickAnswer
+    ensures { result ≡ outcome_of (released answer) }
 {
-    Turn {
-        state,
-        outcome: DONE,
-        number: 0,
-        task: NO_TASK,
-    }
-}
-
-fn refused(state: State, number: u8, task: u8) -> Turn
-    ensures { result ≡ refused_turn state number task }
-{
-    Turn {
-        state,
-        outcome: REFUSED,
-        number,
-        task,
-    }
-}
-
-fn by_release(state: State, task: usize) -> Turn
-    ensures { result ≡ turn_of state (release task) }
-{
-    let released = release(state, task);
-    let next = released.state;
-    let answer = released.answer;
     match answer {
-        Answer::Accepted => done(next),
-        Answer::Refused(number, task) => refused(next, number, task),
+        Ok(()) => TickAnswer::Ran,
+        Err(refusal) => TickAnswer::Refused(refusal),
     }
 }
 
-fn by_tick(state: State, reports: &[u32]) -> Turn
-    ensures { result ≡ turn_of state (tick reports.now) }
+/// A Release of a task, put to a state.
+fn by_release(state: &State, task: usize) -> Turn
+    ensures { result ≡ turn_of state.now (release task) }
 {
-    let ticked = tick(state, reports);
-    let next = ticked.state;
-    let answer = ticked.answer;
-    match answer {
-        TickAnswer::Ran => done(next),
-        TickAnswer::Switched(task) => Turn {
-            state: next,
-            outcome: SWITCHED,
-            number: 0,
-            task,
-        },
-        TickAnswer::Returned => Turn {
-            state: next,
-            outcome: RETURNED,
-            number: 0,
-            task: NO_TASK,
-        },
-        TickAnswer::Refused(number, task) => refused(next, number, task),
+    let released = release(*state, task);
+    Turn {
+        state: released.state,
+        answer: released_outcome(released.answer),
     }
 }
 
-// The call that stands whole at a place, put to a state.
-pub fn turn_at(state: State, calls: &[u8], at: usize) -> Turn
-    requires { (at ≤ length calls.now) × (1 ≤ size_at calls.now at) }
-    ensures { result ≡ turn_of state (call_at calls.now at) }
+/// A Tick with these reports, put to a state.
+#[tactic(auto, unfolding(crate::specs::Record::turn_of))]
+fn by_tick(state: &State, reports: &[u32]) -> Turn
+    ensures { result ≡ turn_of state.now (tick reports.now) }
 {
-    if byte_at(calls, at) == RELEASE {
-        let task = u32_at(calls, at + 1);
-        return by_release(state, task as usize);
+    tick(*state, reports)
+}
+
+/// A logged Tick, put to a state.
+fn by_logged_tick(state: &State, call: &[u8]) -> Turn
+    requires { 2 + 4 * byte_at call.now 1 ≤ length call.now }
+    ensures { result ≡ turn_of state.now (tick (reports_at call.now 2 (byte_at call.now 1))) }
+{
+    let count = byte_at(call, 1);
+    let reports = reports_of(call, count);
+    by_tick(state, &reports[..usize::from(count)])
+}
+
+/// A logged call, put to a state.
+#[tactic(auto, unfolding(crate::specs::Encoding::call_in, crate::specs::Encoding::asked_by))]
+pub fn turn_of(state: &State, call: LoggedCall) -> Turn
+    ensures { result ≡ turn_of state.now (call_in call.entry.kind call.entry.bytes.now) }
+{
+    match call.kind {
+        // `u32` has no `From` to `usize`.
+        Kind::Release => by_release(state, u32_at(call.bytes, 1) as usize),
+        Kind::Tick => by_logged_tick(state, call.bytes),
     }
-    let count = byte_at(calls, at + 1);
-    let n = count as usize;
-    let reports = reports_at(calls, at + 2, count);
-    by_tick(state, &reports[..n])
 }

@@ -6,10 +6,9 @@ use mathlib.Core.List.{List, ◌++◌}
 use native.Mathlib.Omega.{arith}
 use lib.Dec.{leb}
 use lib.ListN.{length, drop}
-use Rattle.sheet.specs.declared.answer.Answer.{Answer}
-use Rattle.sheet.specs.declared.answer.Answer.TheVariants.{Accepted, Refused}
+use Rattle.sheet.specs.Refusal.{Answer}
+use Rattle.std.specs.Prelude.{Ok, Err, Some, None}
 use Rattle.start.specs.Start.{start_of}
-use Rattle.guarantee.specs.declared.replay.Replayed.TheVariants.{Written, Short}
 use Rattle.guarantee.specs.Encoding.{calls_of}
 use Rattle.guarantee.specs.Record.{answer_bytes}
 use Rattle.guarantee.specs.Replay.{records_of, calls_run, replay_bytes, replayed_of, replay_over}
@@ -21,14 +20,14 @@ unfolding replay_bytes
 some_bytes sheet calls = go (start_of sheet).answer
   where
     go : (a : Answer) → 2 ≤ length (answer_bytes a ++ records_of (start_of sheet).state (calls_run a (calls_of calls)))
-    go Accepted = omega arith
-    go (Refused number task) = omega arith
+    go (Ok x) = omega arith
+    go (Err r) = omega arith
 
 pub short_leaves : ShortLeaves
 unfolding ShortLeaves replayed_of replay_over
 short_leaves sheet calls out = go (leb (length (replay_bytes sheet calls)) (length out))
   where
-    go : (t : Bool) → bytes_written (cond t (Written (length (replay_bytes sheet calls))) Short) ≡ 0 →
+    go : (t : Bool) → bytes_written (cond t (Some (length (replay_bytes sheet calls))) None) ≡ 0 →
         cond t (replay_bytes sheet calls ++ drop (length (replay_bytes sheet calls)) out) out ≡ out
     go true none = absurd (omega (arith, some_bytes sheet calls))
     go false none = refl

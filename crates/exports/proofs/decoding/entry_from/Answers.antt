@@ -1,21 +1,21 @@
--- `exports::decoding::entry_from` meets its contract: each word behind the place is a field. Assumes nothing.
+-- `exports::decoding::entry_from`: each word is a field, and fits it.
 use native.Mathlib.Omega.{arith}
-use Rattle.exports.proofs.Lines.{fitting_at}
-use Rattle.exports.proofs.Decoded.{entry_in_place}
+use Rattle.exports.specs.Words.{entry_from, is_set}
+use Rattle.exports.proofs.Lines.{entry_fitting}
 use Rattle.exports.proofs.decoding.entry_from.Goals as goal
 
 pub overflow_cast-share : goal.overflow_cast-share
-overflow_cast-share c = omega (arith, (fitting_at c.args.line.now c.args.at c.requires.1).typical)
+overflow_cast-share c = omega (arith, (entry_fitting c.args.words.now c.requires.fits).typical)
 
 pub overflow_cast-share-2 : goal.overflow_cast-share-2
-overflow_cast-share-2 c = omega (arith, (fitting_at c.args.line.now c.args.at c.requires.1).critical)
+overflow_cast-share-2 c = omega (arith, (entry_fitting c.args.words.now c.requires.fits).critical)
 
 pub overflow_cast-result : goal.overflow_cast-result
-overflow_cast-result c = omega (arith, (fitting_at c.args.line.now c.args.at c.requires.1).level)
+overflow_cast-result c = omega (arith, (entry_fitting c.args.words.now c.requires.fits).level)
 
 pub overflow_cast-result-2 : goal.overflow_cast-result-2
-overflow_cast-result-2 c = omega (arith, (fitting_at c.args.line.now c.args.at c.requires.1).nodes)
+overflow_cast-result-2 c = omega (arith, (entry_fitting c.args.words.now c.requires.fits).nodes)
 
 pub returns : goal.returns
-returns c =
-    entry_in_place c.args.line.now c.args.at _ c.masks_from.ensures
+unfolding entry_from is_set
+returns c = rw c.copy_from_slice.ensures.after

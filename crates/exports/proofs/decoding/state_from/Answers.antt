@@ -1,8 +1,10 @@
--- `exports::decoding::state_from`: the goals that the check leaves.
+-- `exports::decoding::state_from`: the line is a state, so that its words are there and fit, entry by entry.
 use mathlib.Core.Path.{◌≡◌, ap, ◌∙◌}
 use native.Mathlib.Omega.{arith}
 use Rattle.exports.proofs.Lines.{StateLine, state_line}
-use Rattle.exports.proofs.Decoded.{state_below, state_none, state_store, state_whole}
+use Rattle.exports.specs.Words.{entry_start, entry_from, entry_fits}
+use lib.ListN.{length-drop}
+use Rattle.exports.proofs.Decoded.{rest_whole, state_below, state_none, state_store, state_whole}
 use Rattle.exports.proofs.decoding.state_from.Goals.{Start}
 use Rattle.exports.proofs.decoding.state_from.Goals as goal
 
@@ -26,17 +28,30 @@ pub bounds-line-2 : goal.bounds-line-2
 bounds-line-2 c = omega (arith, (facts (goal.at.bounds-line-2 c).Start).long)
 
 pub loop-i-init : goal.loop-i-init
-loop-i-init c = (omega arith, state_none c.args.line.now _ c.zero_entry.ensures)
+loop-i-init c = state_none c.args.line.now _ c.zero_entry.ensures
 
-pub entry_from-requires : goal.entry_from-requires
-entry_from-requires c =
-    let f = facts (goal.at.entry_from-requires c).Start in (omega (arith, f.long), f.entries c.loop-i.i (omega arith))
+pub slice_bounds-entry_from-count : goal.slice_bounds-entry_from-count
+slice_bounds-entry_from-count c = omega (arith, (facts (goal.at.slice_bounds-entry_from-count c).Start).long)
+
+pub slice_bounds-entry_from-start : goal.slice_bounds-entry_from-start
+slice_bounds-entry_from-start c = omega (arith, (facts (goal.at.slice_bounds-entry_from-start c).Start).long)
+
+pub entry_from-requires-clause-room : goal.entry_from-requires-clause-room
+entry_from-requires-clause-room c =
+    rw (rest_whole c.args.line.now (entry_start c.loop-i.i))
+    (omega (arith, (facts (goal.at.entry_from-requires-clause-room c).Start).long, length-drop (entry_start c.loop-i.i) c.args.line.now))
+
+pub entry_from-requires-clause-fits : goal.entry_from-requires-clause-fits
+entry_from-requires-clause-fits c =
+    ap entry_fits (rest_whole c.args.line.now (entry_start c.loop-i.i))
+    ∙ (facts (goal.at.entry_from-requires-clause-fits c).Start).entries c.loop-i.i (omega arith)
 
 pub loop-i-preserved : goal.loop-i-preserved
 loop-i-preserved c =
-    (omega arith, state_store c.args.line.now c.loop-i.i c.loop-i.state _ (omega arith) c.loop-i.invariant.1 c.entry_from.ensures)
+    state_store c.args.line.now c.loop-i.i c.loop-i.state _ (omega arith) c.loop-i.invariant
+    (c.entry_from.ensures ∙ ap entry_from (rest_whole c.args.line.now (entry_start c.loop-i.i)))
 
 pub returns : goal.returns
 returns c =
     let all : c.loop-i.i ≡ 16 = omega arith in
-    c.loop-i.invariant.1 ∙ ap (state_below c.args.line.now) all ∙ state_whole c.args.line.now
+    c.loop-i.invariant ∙ ap (state_below c.args.line.now) all ∙ state_whole c.args.line.now

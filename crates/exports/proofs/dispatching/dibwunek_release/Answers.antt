@@ -1,4 +1,4 @@
--- `exports::dispatching::dibwunek_release` meets its contract: no state, a refused release, an accepted one. Assumes nothing.
+-- `exports::dispatching::dibwunek_release`: no state, a refused release, an accepted one.
 use mathlib.Core.Path.{◌≡◌, sym, ◌∙◌}
 use mathlib.Core.Bool.{true}
 use Rattle.exports.specs.Words.{is_state}
@@ -9,20 +9,19 @@ use Rattle.exports.proofs.dispatching.dibwunek_release.Goals as goal
 
 pub returns-then-not-is_state : goal.returns-then-not-is_state
 returns-then-not-is_state c =
-    let none = sym c.is_state.ensures ∙ c.if-not-is_state.true in
-    let both = says_none c.args.state.now (release_none c.args.state.now c.args.task none) in
+    let both = says_none c.args.state.now (release_none c.args.state.now c.args.task (sym c.is_state.ensures ∙ c.if-not-is_state.true)) in
     record { answered = both.0; written = both.1 }
 
 -- Past the first test the line is a state.
 is : (c : Else-not-is_state) → is_state c.args.state.now ≡ true
 is c = sym c.is_state.ensures ∙ c.if-not-is_state.false
 
-pub state_from-requires : goal.state_from-requires
-state_from-requires c = is c
+pub state_from-before-requires : goal.state_from-before-requires
+state_from-before-requires c = is c
 
-pub returns-in_default : goal.returns-in_default
-returns-in_default c =
-    let both = release_refused c.args.state.now c.args.task (is (goal.at.returns-in_default c).Else-not-is_state) _ c.state_from.ensures _ c.release-released.ensures.whole _ c.answer_word.ensures c.in_default.is in
+pub returns-in-Err : goal.returns-in-Err
+returns-in-Err c =
+    let both = release_refused c.args.state.now c.args.task (is (goal.at.returns-in-Err c).Else-not-is_state) _ c.state_from-before.ensures _ c.release-released.ensures.whole _ c.answer_word.ensures c.in-Err.is in
     record { answered = both.0; written = both.1 }
 
 pub write_state-requires : goal.write_state-requires
@@ -30,5 +29,5 @@ write_state-requires c = (state_line _ (is (goal.at.write_state-requires c).Else
 
 pub returns : goal.returns
 returns c =
-    let both = release_accepted c.args.state.now c.args.task (is (goal.at.returns c).Else-not-is_state) _ c.state_from.ensures _ c.release-released.ensures.whole _ c.write_state.ensures.written c.in-Accepted.is in
+    let both = release_accepted c.args.state.now c.args.task (is (goal.at.returns c).Else-not-is_state) _ c.state_from-before.ensures _ c.release-released.ensures.whole _ _ c.answer_word-2.ensures c.write_state.ensures.written in
     record { answered = both.0; written = both.1 }

@@ -1,6 +1,4 @@
--- `exports::encoding::write_state` meets its contract. The loop's invariant: what is written, with the entries left, is the whole. The
--- measure is the entries left. Assumes nothing.
-use Prim.Native.Nat.{◌-◌}
+-- `exports::encoding::write_state`. The loop's invariant: what is written, with the entries left, is the whole.
 use lib.Seq.{sets}
 use Rattle.exports.specs.Words.{entries_words}
 use Rattle.exports.proofs.Stored.{Storing}
@@ -8,6 +6,3 @@ use Rattle.exports.proofs.encoding.write_state.Given as goal
 
 abbrev pub invariant-loop-i : goal.invariant-loop-i
 invariant-loop-i l = Storing l.state.entries (sets l.initial.line 3 (entries_words l.state.entries)) l.line l.i
-
-abbrev pub decreases-loop-i : goal.decreases-loop-i
-decreases-loop-i l = 16 - l.i

@@ -1,13 +1,13 @@
 -- `exports::repeating::dibwunek_board_many`: the goals that the check leaves.
 use Prim.Native.Nat.{ℕ}
-use mathlib.Core.Path.{◌≡◌, refl, sym, ap, ◌∙◌}
+use mathlib.Core.Path.{◌≡◌, refl, ap, ◌∙◌, sym}
 use mathlib.Core.Bool.{true}
 use native.Mathlib.Omega.{arith}
 use lib.ListN.{length}
 use Rattle.dispatcher.specs.declared.state.State.{State}
-use Rattle.dispatcher.specs.declared.board.Boarded.{Boarded}
+use Rattle.dispatcher.specs.Answers.{Boarded}
 use Rattle.dispatcher.specs.Board.{boarded_of, board_of}
-use Rattle.sheet.specs.Answers.{answer_word}
+use Rattle.sheet.specs.Refusal.{answer_word}
 use Rattle.exports.specs.Words.{state_from, is_state}
 use Rattle.exports.specs.Repeats.{last_word, boards_of}
 use Rattle.exports.proofs.Repeated.{last_next, boards_next, boards_no_state, boards_of_state}
@@ -23,24 +23,24 @@ returns-then-not-is_state c =
 is : (c : Else-not-is_state) → is_state c.args.state.now ≡ true
 is c = sym c.is_state.ensures ∙ c.if-not-is_state.false
 
-pub state_from-before-requires : goal.state_from-before-requires
-state_from-before-requires c = is c
+pub state_from-shown-requires : goal.state_from-shown-requires
+state_from-shown-requires c = is c
 
 pub loop-i-init : goal.loop-i-init
-unfolding last_word boards_of
-loop-i-init c = (omega arith, refl, refl, refl)
+unfolding last_word boards_of answer_word
+loop-i-init c = (omega arith, refl, c.answer_word-word.ensures, refl)
 
 pub loop-i-preserved : goal.loop-i-preserved
 loop-i-preserved c =
     let boarded =
     c.board-boarded.ensures.answered
-    ∙ ap (λ (s : State). boarded_of s (length c.loop-i.buffer)) c.state_from-before.ensures
+    ∙ ap (λ (s : State). boarded_of s (length c.loop-i.buffer)) c.state_from-shown.ensures
     ∙ ap (boarded_of (state_from c.args.state.now)) c.loop-i.invariant.1 in (
       omega arith,
       c.board-boarded.auto.buffer ∙ c.loop-i.invariant.1,
-      last_next c.loop-i.i _ _ (c.answer_word-word.ensures ∙ ap (λ (r : Boarded). answer_word r.answer) boarded),
+      last_next c.loop-i.i _ _ (c.answer_word-word-in-loop-i.ensures ∙ ap (λ (r : Boarded). answer_word r.answer) boarded),
       boards_next c.loop-i.i (state_from c.args.state.now) c.args.buffer.now c.loop-i.buffer _ c.loop-i.invariant.3
-          (c.board-boarded.ensures.written ∙ ap (λ (s : State). board_of s c.loop-i.buffer) c.state_from-before.ensures),
+          (c.board-boarded.ensures.written ∙ ap (λ (s : State). board_of s c.loop-i.buffer) c.state_from-shown.ensures),
     )
 
 pub shape_of-buffer : goal.shape_of-buffer

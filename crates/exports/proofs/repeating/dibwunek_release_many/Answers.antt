@@ -1,12 +1,12 @@
 -- `exports::repeating::dibwunek_release_many`: the goals that the check leaves.
 use Prim.Native.Nat.{ℕ}
-use mathlib.Core.Path.{◌≡◌, refl, sym, ap, ◌∙◌}
+use mathlib.Core.Path.{◌≡◌, ap, ◌∙◌, sym}
 use mathlib.Core.Bool.{true}
 use native.Mathlib.Omega.{arith}
 use Rattle.dispatcher.specs.declared.state.State.{State}
-use Rattle.dispatcher.specs.declared.release.Released.{Released}
+use Rattle.dispatcher.specs.Answers.{Released}
 use Rattle.dispatcher.specs.Calls.{release_of}
-use Rattle.sheet.specs.Answers.{answer_word}
+use Rattle.sheet.specs.Refusal.{answer_word}
 use Rattle.exports.specs.Words.{state_from, is_state}
 use Rattle.exports.specs.Repeats.{last_word}
 use Rattle.exports.proofs.Repeated.{last_next, releases_no_state, releases_of_state}
@@ -25,13 +25,13 @@ pub state_from-before-requires : goal.state_from-before-requires
 state_from-before-requires c = is c
 
 pub loop-i-init : goal.loop-i-init
-unfolding last_word
-loop-i-init c = (omega arith, refl)
+unfolding last_word answer_word
+loop-i-init c = (omega arith, c.answer_word-word.ensures)
 
 pub loop-i-preserved : goal.loop-i-preserved
 loop-i-preserved c =
     let released = c.release-released.ensures.whole ∙ ap (λ (s : State). release_of s c.args.task) c.state_from-before.ensures in
-    (omega arith, last_next c.loop-i.i _ _ (c.answer_word-word.ensures ∙ ap (λ (r : Released). answer_word r.answer) released))
+    (omega arith, last_next c.loop-i.i _ _ (c.answer_word-word-in-loop-i.ensures ∙ ap (λ (r : Released). answer_word r.answer) released))
 
 pub returns : goal.returns
 returns c =

@@ -1,10 +1,11 @@
 -- `exports::repeating::dibwunek_tick_many`: the goals that the check leaves.
 use Prim.Native.Nat.{ℕ, ◌-◌}
-use mathlib.Core.Path.{◌≡◌, sym, ap₂, ◌∙◌}
+use mathlib.Core.Path.{◌≡◌, ap₂, ◌∙◌, sym}
 use mathlib.Core.Bool.{true}
 use native.Mathlib.Omega.{arith}
 use Rattle.dispatcher.specs.declared.state.State.{State}
 use Rattle.exports.specs.Words.{is_state}
+use Rattle.sheet.specs.Refusal.{answer_word}
 use Rattle.exports.specs.Ticks.{accepted_word}
 use Rattle.exports.specs.Repeats.{ticks_word}
 use Rattle.exports.proofs.Repeated.{ticks_next, ticks_none, ticks_no_state, ticks_of_state}
@@ -23,9 +24,10 @@ pub state_from-s-requires : goal.state_from-s-requires
 state_from-s-requires c = is c
 
 pub loop-i-init : goal.loop-i-init
+unfolding answer_word
 loop-i-init c =
     let all : c.args.count - 0 ≡ c.args.count = omega arith in
-    (omega arith, ap₂ (λ (n : ℕ) (s : State). ticks_word n accepted_word s c.args.reports.now) all c.state_from-s.ensures)
+    (omega arith, rw c.answer_word-word.ensures (ap₂ (λ (n : ℕ) (s : State). ticks_word n accepted_word s c.args.reports.now) all c.state_from-s.ensures))
 
 pub loop-i-preserved : goal.loop-i-preserved
 loop-i-preserved c = (

