@@ -6,6 +6,10 @@ use native.Mathlib.Omega.{arith}
 use native.Mathlib.Decide.{dec_le}
 use lib.ListN.{get_or}
 use Rattle.basics.proofs.Members.{map-has, greatest-has}
+use Rattle.std.specs.Prelude.{fold}
+use Rattle.std.specs.List.{reduce}
+use Rattle.std.specs.Option.{unwrap_or}
+use Rattle.basics.specs.Lists.{greatest}
 use Rattle.chains.specs.Chains.{longest_among}
 
 -- One of the nodes, where the longest of their chains ends.
@@ -55,3 +59,12 @@ pub longest_same : (chains others nodes : List ℕ) → ((j : ℕ) → get_or ch
 unfolding longest_among
 longest_same chains others [] same = refl
 longest_same chains others (i ∷ nodes) same = ap₂ max (same i) (longest_same chains others nodes same)
+
+-- The greatest of some numbers, as the library takes it.
+folded : (x : ℕ) (xs : List ℕ) → fold max x xs ≡ max x (greatest xs)
+folded x [] = omega arith
+folded x (y ∷ xs) = omega (arith, folded (max x y) xs)
+
+pub greatest_reduced : (xs : List ℕ) → unwrap_or (reduce max xs) 0 ≡ greatest xs
+greatest_reduced [] = refl
+greatest_reduced (x ∷ xs) = folded x xs

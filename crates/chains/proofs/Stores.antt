@@ -1,48 +1,22 @@
--- What the functions keep: the longest chain found so far while nodes are left, and the chains below v in an array of 32, with 0
--- from v on.
-use Prim.Native.Nat.{ℕ, zero, suc, ◌+◌, ◌-◌, ◌*◌, ◌^◌, ◌≤◌, ◌<◌, min, max}
+-- What the functions keep: the chains below v in an array of 32, with 0 from v on.
+use Prim.Native.Nat.{ℕ, zero, suc, ◌+◌, ◌-◌, ◌*◌, ◌≤◌, ◌<◌, min}
 use mathlib.Core.Path.{◌≡◌, refl, sym, ap, ap₂, ◌∙◌}
 use mathlib.Core.List.{List, [], ◌∷◌, ◌++◌}
 use native.Mathlib.Omega.{arith}
 use native.Mathlib.Nat.{mul-le-mul_right, min-eq_left}
-use lib.Count.{count_trailing_zeros}
 use lib.ListN.{get_or, set, replicate}
 use lib.Seq.{append_snoc, set_at}
 use Rattle.basics.specs.Lists.{range}
 use Rattle.nodes.specs.Sets.{members, set_of}
-use Rattle.nodes.proofs.Members.{members_zero}
 use Rattle.nodes.proofs.Rising.{rising_range, members-set_of}
-use Rattle.nodes.proofs.Trailing.{members_trailing}
 use Rattle.model.specs.Row.{predecessors_of}
 use Rattle.model.specs.Budget.{sum_below}
 use Rattle.chains.specs.Chains.{longest_among, chain_at, chains_below, span_of}
 use Rattle.chains.specs.means.Bounds.{time_at, time_limit, Small}
-use Rattle.chains.proofs.Greatest.{longest_none, longest_first, longest_same}
+use Rattle.chains.proofs.Greatest.{longest_same}
 use Rattle.chains.proofs.Sums.{sum_bound}
 use Rattle.chains.proofs.Ends.{chain_of, chains_length}
 use Rattle.chains.proofs.Spans.{span_at, span_sum}
-
--- On the way to a total: the nodes left are a word, and the longest so far with that of the nodes left comes to the total.
-pub record Scanned (chains : List ℕ) (total longest rest : ℕ) : Type 0 where
-  pub below : rest < 2 ^ 32
-  pub whole : max longest (longest_among chains (members 32 rest)) ≡ total
-
-pub scanned_none : (chains : List ℕ) (nodes : ℕ) → nodes < 2 ^ 32 → Scanned chains (longest_among chains (members 32 nodes)) 0 nodes
-scanned_none chains nodes h = record { below = h; whole = omega arith }
-
--- The lowest node left, with the chain that ends at it.
-pub scanned_again : (chains : List ℕ) (total longest rest next : ℕ) → Scanned chains total longest rest → 0 < rest →
-    next ≡ max longest (get_or chains (count_trailing_zeros 32 rest) 0) → Scanned chains total next (rest - 2 ^ count_trailing_zeros 32 rest)
-scanned_again chains total longest rest next now some e =
-    let lowest = count_trailing_zeros 32 rest in
-    let others = members 32 (rest - 2 ^ lowest) in
-    let first = ap (longest_among chains) (members_trailing 32 rest some now.below) ∙ longest_first chains lowest others in
-    record { below = omega (arith, now.below); whole = omega (arith, now.whole, first, e) }
-
-pub scanned_all : (chains : List ℕ) (total longest rest : ℕ) → Scanned chains total longest rest → rest ≡ 0 → longest ≡ total
-scanned_all chains total longest rest now e =
-    let empty : members 32 rest ≡ [] = ap (members 32) e ∙ members_zero 32 in
-    omega (arith, now.whole, ap (longest_among chains) empty, longest_none chains)
 
 -- Zeros behind a list read as what lies past its end.
 padded : (xs : List ℕ) (n j : ℕ) → get_or (xs ++ replicate n 0) j 0 ≡ get_or xs j 0

@@ -1,11 +1,16 @@
 -- Sums of times: they grow with their bound, by no less for times that are no less, and k times of at most b come to at most k * b.
 -- By induction on the bound.
 use Prim.Native.Nat.{ℕ, zero, suc, ◌+◌, ◌-◌, ◌*◌, ◌≤◌, ◌<◌}
-use mathlib.Core.Path.{◌≡◌, refl}
+use mathlib.Core.Path.{◌≡◌, refl, sym, ap, ◌∙◌}
 use native.Mathlib.Omega.{arith}
 use native.Mathlib.Nat.{suc-mul}
+use mathlib.Core.List.{List, [], ◌∷◌}
+use lib.ListN.{length}
+use Rattle.std.specs.Prelude.{sum}
+use Rattle.std.proofs.lemmas.List.Sums.{sum_by-cons}
+use Rattle.chains.specs.means.Bounds.{time_at}
 use Rattle.model.specs.Budget.{sum_below}
-use Rattle.model.proofs.Sums.{sum_zero}
+use Rattle.model.proofs.Sums.{sum_zero, sum_first}
 
 -- No nodes, and one node more.
 pub sum_none : (f : ℕ → ℕ) → sum_below 0 f ≡ 0
@@ -39,3 +44,11 @@ pub sum_bound : (k : ℕ) (f : ℕ → ℕ) (b : ℕ) → ((v : ℕ) → v < k �
 unfolding sum_below
 sum_bound zero f b h = omega arith
 sum_bound (suc k) f b h = omega (arith, sum_bound k f b (λ v l. h v (omega arith)), h k (omega arith), suc-mul k b)
+
+-- The sum of the numbers of a list.
+pub sum_all : (times : List ℕ) → sum times ≡ sum_below (length times) (time_at times)
+sum_all [] = sym (sum_none (time_at []))
+sum_all (x ∷ times) =
+    sum_by-cons (λ (y : ℕ). y) x times
+    ∙ ap (λ (n : ℕ). x + n) (sum_all times)
+    ∙ sym (sum_first (length times) (time_at (x ∷ times)))

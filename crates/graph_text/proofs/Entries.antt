@@ -8,67 +8,24 @@ use mathlib.Core.Path.{◌≡◌, refl, sym, ap, ap₂, ◌∙◌}
 use native.Mathlib.Omega.{arith}
 use lib.Bits.{bit_or, or_zero_r, or_zero_l, or_lt}
 use lib.Dec.{eqb, leb, ltb}
-use lib.ListN.{length, take, drop, set}
-use borrow.Author.Tests.{eqb-true, eq-eqb, ltb-true, leb-true, le-leb, lt-leb, lt-ltb, le-ltb, ne_eqb}
+use lib.ListN.{length, take, drop}
+use borrow.Author.Tests.{eqb-true, eq-eqb, le-leb, lt-leb, lt-ltb, ne_eqb}
 use Rattle.basics.specs.Lists.{range, all, is_in}
 use Rattle.basics.specs.Numbers.{within}
-use Rattle.basics.proofs.Logic.{left_true, right_true, within_bounds, test_same, leb_same, bool_ext}
+use Rattle.basics.proofs.Logic.{within_bounds, leb_same, bool_ext}
 use Rattle.basics.proofs.Lists.{keep_none}
 use Rattle.nodes.specs.Sets.{has, set_of}
 use Rattle.nodes.proofs.Bits.{has_or, has_power, has_zero, has_ext, below_of_has, within_antisymm}
 use Rattle.nodes.proofs.Members.{set_of-keep_lt, has-set_of-keep}
 use Rattle.graph_text.specs.declared.graph.Node.{Node}
+use Rattle.graph_text.specs.declared.graph.NodeGraph.{NodeGraph}
 use Rattle.graph_text.specs.Graph.{Entry, time_lawful, entry_before, entries_from, mask_of}
-use Rattle.graph_text.specs.means.Entries.{after_taken, bit_named, with_named, named_from, node_with, Held, is_node, stored_at, held_with, held_from}
-
--- A test that says whether a number is below another or at most it, however it is written.
-below_is : (t : Bool) (a b : ℕ) → (t ≡ true → a < b) → (t ≡ false → b ≤ a) → t ≡ ltb a b
-below_is t a b passes fails = test_same t (ltb a b) (λ e. lt-ltb a b (passes e)) (λ e. le-ltb a b (fails e))
-
-pub at_most_is : (t : Bool) (a b : ℕ) → (t ≡ true → a ≤ b) → (t ≡ false → b < a) → t ≡ leb a b
-at_most_is t a b passes fails = test_same t (leb a b) (λ e. le-leb a b (passes e)) (λ e. lt-leb a b (fails e))
-
--- Below the last entry is up to the count.
-up_to_count : (last v : ℕ) → 1 ≤ last → (leb 1 v && ltb v last && leb v 32) ≡ is_node (last - 1) v
-unfolding is_node
-up_to_count last v h =
-    and_assoc (leb 1 v) (ltb v last) (leb v 32)
-    ∙ ap (λ (t : Bool). leb 1 v && t) (bool_ext (ltb v last && leb v 32) (leb v (min (last - 1) 32)) to from)
-  where
-    to : (ltb v last && leb v 32) ≡ true → leb v (min (last - 1) 32) ≡ true
-    to e =
-        let below = ltb-true v last (left_true (ltb v last) (leb v 32) e) in
-        let most = leb-true v 32 (right_true (ltb v last) (leb v 32) e) in
-        le-leb v (min (last - 1) 32) (omega arith)
-
-    from : leb v (min (last - 1) 32) ≡ true → (ltb v last && leb v 32) ≡ true
-    from e =
-        let most = leb-true v (min (last - 1) 32) e in
-        rw (lt-ltb v last (omega arith), le-leb v 32 (omega arith))
-
-pub is_node_lem : (last v : ℕ) (below : Bool) → 1 ≤ last → (below ≡ true → v < last) → (below ≡ false → last ≤ v) →
-    (leb 1 v && below && leb v 32) ≡ is_node (last - 1) v
-is_node_lem last v below h passes fails = rw (below_is below v last passes fails) (up_to_count last v h)
-
--- A node with one predecessor more, by its parts.
-pub named_with : (v p bit : ℕ) (node : Node) (below : Bool) → bit ≡ bit_named p → (below ≡ true → p < v) → (below ≡ false → v ≤ p) →
-    record { time = node.time; mask = bit_or node.mask bit; rising = node.rising && below } ≡ with_named v node p
-unfolding with_named
-named_with v p bit node below named passes fails = rw (named, below_is below p v passes fails)
+use Rattle.graph_text.specs.means.Entries.{after_taken, bit_named, with_named, named_from, node_with, is_node, held_with, held_from}
 
 -- A node is none of the dummies, and one of the first 32.
 pub node_bounds : (count v : ℕ) → is_node count v ≡ true → (1 ≤ v) × (v ≤ 32)
 unfolding is_node
 node_bounds count v h = let b = within_bounds 1 (min count 32) v h in (b.0, omega (arith, b.1))
-
--- A number that was stored for a node, and one that was not.
-pub stored_in : (count v x : ℕ) (before held : List ℕ) → is_node count v ≡ true → held ≡ set before (v - 1) x → held ≡ stored_at count v x before
-unfolding stored_at
-stored_in count v x before held h e = rw h e
-
-pub stored_out : (count v x : ℕ) (before held : List ℕ) → is_node count v ≡ false → held ≡ before → held ≡ stored_at count v x before
-unfolding stored_at
-stored_out count v x before held h e = rw h e
 
 -- The mask of one predecessor more.
 bit-has : (p v : ℕ) → v < 32 → has (bit_named p) v ≡ eqb (suc v) p
@@ -150,21 +107,21 @@ node_begun : (v time : ℕ) (ps : List ℕ) → node_named v (node_with time) ps
 node_begun v time ps = rw (or_zero_l (mask_of ps))
 
 -- What is held of some entries, from number v on.
-abbrev pub held_all : ℕ → ℕ → Held → List Entry → Held
+abbrev pub held_all : ℕ → ℕ → NodeGraph → List Entry → NodeGraph
 held_all count v held [] = held
 held_all count v held (e ∷ entries) = held_all count (suc v) (held_with count v (node_as v e) held) entries
 
-abbrev pub held_for : ℕ → ℕ → Held → Option (List Entry) → Option Held
+abbrev pub held_for : ℕ → ℕ → NodeGraph → Option (List Entry) → Option NodeGraph
 held_for count v held none = none
 held_for count v held (some entries) = some (held_all count v held entries)
 
-held_before : (count v : ℕ) (held : Held) (e : Entry) (entries : Option (List Entry)) →
+held_before : (count v : ℕ) (held : NodeGraph) (e : Entry) (entries : Option (List Entry)) →
     held_for count (suc v) (held_with count v (node_as v e) held) entries ≡ held_for count v held (entry_before e entries)
 held_before count v held e none = refl
 held_before count v held e (some entries) = refl
 
 -- Entries read one after the other are those of the definition.
-pub held_entries : (count v more : ℕ) (held : Held) (numerals : List ℕ) →
+pub held_entries : (count v more : ℕ) (held : NodeGraph) (numerals : List ℕ) →
     held_from count v more held numerals ≡ held_for count v held (entries_from count v more numerals)
 unfolding held_from entries_from
 held_entries count v zero held [] = refl

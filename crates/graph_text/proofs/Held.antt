@@ -11,12 +11,11 @@ use lib.ListN.{length, take, drop, get_or, set, replicate}
 use borrow.Author.Tests.{leb-true, leb-false, le-leb}
 use Rattle.basics.specs.Lists.{all, cells}
 use Rattle.basics.proofs.Cells.{cells_none, cells_store, cells_full}
-use Rattle.graph_text.specs.declared.text.Next.{Next}
-use Rattle.graph_text.specs.declared.text.Next.TheVariants.{Numeral, Nothing, Fault}
+use Rattle.graph_text.specs.declared.graph.NodeGraph.{NodeGraph}
 use Rattle.graph_text.specs.Graph.{Entry, Graph, time_lawful, entry_before, entries_from, graph_with, graph_from, rising_from, is_rising, no_entry, node_of, mask_of, masks_of, times_of}
 use Rattle.graph_text.specs.Read.{node_graph}
-use Rattle.graph_text.specs.means.Scan.{numerals_at, number_before, Told}
-use Rattle.graph_text.specs.means.Entries.{Held, none_held, is_node, stored_at, held_with, held_of, held_graph}
+use Rattle.graph_text.specs.means.Scan.{number_before, has_first}
+use Rattle.graph_text.specs.means.Entries.{none_held, is_node, stored_at, held_with, held_of, held_graph}
 use Rattle.graph_text.proofs.Entries.{node_as, held_all, held_for, held_entries}
 
 -- As many entries are read as were asked for.
@@ -105,25 +104,30 @@ module _ (count : ℕ) (x : Entry → ℕ) where
         ∙ ap (λ (n : ℕ). cells 32 number_of 0 (min n count)) places
 
 -- The three parts of what is held.
-held_times : (count v : ℕ) (held : Held) (entries : List Entry) →
+held_times : (count v : ℕ) (held : NodeGraph) (entries : List Entry) →
     (held_all count v held entries).times ≡ stored_all count (λ e. e.time) v held.times entries
 unfolding held_with
 held_times count v held [] = refl
 held_times count v held (e ∷ entries) = held_times count (suc v) (held_with count v (node_as v e) held) entries
 
-held_masks : (count v : ℕ) (held : Held) (entries : List Entry) →
+held_masks : (count v : ℕ) (held : NodeGraph) (entries : List Entry) →
     (held_all count v held entries).masks ≡ stored_all count (λ e. mask_of e.predecessors) v held.masks entries
 unfolding held_with
 held_masks count v held [] = refl
 held_masks count v held (e ∷ entries) = held_masks count (suc v) (held_with count v (node_as v e) held) entries
 
-held_rising : (count v : ℕ) (held : Held) (entries : List Entry) →
+held_rising : (count v : ℕ) (held : NodeGraph) (entries : List Entry) →
     (held_all count v held entries).rising ≡ (held.rising && rising_from v entries)
 unfolding held_with
 held_rising count v held [] = sym (and-true held.rising)
 held_rising count v held (e ∷ entries) =
     held_rising count (suc v) (held_with count v (node_as v e) held) entries
     ∙ and_assoc held.rising (all (λ p. ltb p v) e.predecessors) (rising_from (suc v) entries)
+
+held_count : (count v : ℕ) (held : NodeGraph) (entries : List Entry) → held.count ≡ count → (held_all count v held entries).count ≡ count
+unfolding held_with
+held_count count v held [] e = e
+held_count count v held (e ∷ entries) _ = held_count count (suc v) (held_with count v (node_as v e) held) entries refl
 
 -- A number of each node, of all entries of a graph.
 stored_whole : (count : ℕ) (x : Entry → ℕ) (entries : List Entry) → length entries ≡ suc (suc count) →
@@ -138,31 +142,31 @@ stored_whole count x entries long =
 
 -- What is held of the numerals behind the count is the graph that they say.
 held_whole : (count : ℕ) (entries : Option (List Entry)) → OfLength (suc (suc count)) entries →
-    held_graph count (held_for count 0 none_held entries) ≡ node_graph (graph_with count entries)
+    held_graph (held_for count 0 (none_held count) entries) ≡ node_graph (graph_with count entries)
 unfolding times_of masks_of node_of is_rising
 held_whole count none long = refl
 held_whole count (some entries) long =
-    fields (held_times count 0 none_held entries ∙ stored_whole count (λ e. e.time) entries long)
-    (held_masks count 0 none_held entries ∙ stored_whole count (λ e. mask_of e.predecessors) entries long)
-    (held_rising count 0 none_held entries)
+    fields (held_times count 0 (none_held count) entries ∙ stored_whole count (λ e. e.time) entries long)
+    (held_masks count 0 (none_held count) entries ∙ stored_whole count (λ e. mask_of e.predecessors) entries long)
+    (held_rising count 0 (none_held count) entries)
+    (held_count count 0 (none_held count) entries refl)
   where
     g : Graph
     g = record { count = count; entries = entries }
 
-    fields : {times masks : List ℕ} {rising : Bool} → times ≡ times_of g → masks ≡ masks_of g → rising ≡ is_rising g →
-        held_graph count (some (record { times = times; masks = masks; rising = rising })) ≡ node_graph (some g)
-    fields a b c = rw (a, b, c)
+    fields : {times masks : List ℕ} {rising : Bool} {n : ℕ} → times ≡ times_of g → masks ≡ masks_of g → rising ≡ is_rising g → n ≡ count →
+        held_graph (some (record { times = times; masks = masks; rising = rising; count = n })) ≡ node_graph (some g)
+    fields a b c d = rw (a, b, c, d)
 
 pub graph_held : (count : ℕ) (numerals : Option (List ℕ)) →
-    held_graph count (held_of count 0 (suc (suc count)) none_held numerals) ≡ node_graph (graph_from (number_before count numerals))
+    held_graph (held_of count 0 (suc (suc count)) (none_held count) numerals) ≡ node_graph (graph_from (number_before count numerals))
 graph_held count none = refl
 graph_held count (some numerals) =
-    ap (held_graph count) (held_entries count 0 (suc (suc count)) none_held numerals)
+    ap held_graph (held_entries count 0 (suc (suc count)) (none_held count) numerals)
     ∙ held_whole count (entries_from count 0 (suc (suc count)) numerals) (entries_length count 0 (suc (suc count)) numerals)
 
 -- A text with no numeral in front says no graph.
-pub graph_none : (text : List ℕ) (at : ℕ) (r : Next) → ((n behind : ℕ) → r ≡ Numeral n behind → ⊥) → Told text at r →
-    graph_from (numerals_at text at) ≡ none
-graph_none text at (Numeral n behind) other told = absurd (other n behind refl)
-graph_none text at Nothing other told = rw told
-graph_none text at Fault other told = rw told
+pub graph_none : (numerals : Option (List ℕ)) → has_first numerals ≡ false → graph_from numerals ≡ none
+graph_none none none-first = refl
+graph_none (some []) none-first = refl
+graph_none (some (n ∷ numerals)) none-first = absurd (cc)

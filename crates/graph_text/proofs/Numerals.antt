@@ -5,26 +5,20 @@ use mathlib.Core.Bool.{Bool, true, false, cond, ◌&&◌, and-false, true≢fals
 use mathlib.Core.List.{List, [], ◌∷◌, ◌++◌, map}
 use mathlib.Core.Option.{Option, none, some}
 use mathlib.Core.Path.{◌≡◌, refl, sym, ap, ◌∙◌}
-use native.Mathlib.Numerals.{add-one}
 use native.Mathlib.Omega.{arith}
 use lib.Dec.{eqb, leb}
-use lib.ListN.{length, drop}
-use lib.Seq.{drop-cons, drop-length}
+use lib.ListN.{length}
+use Rattle.std.specs.Char.{is_ascii_digit}
+use Rattle.std.specs.Prelude.{Option as Maybe, Some, None, Ok, Err}
+use Rattle.std.specs.Option.{SomeIff, ok_or}
+use Rattle.graph_text.specs.declared.text.BadFormat.{BadFormat}
 use borrow.Author.Tests.{eqb-true, leb-true, le-leb, lt-leb}
 use Rattle.basics.specs.Lists.{all}
-use Rattle.basics.specs.Numbers.{byte_at}
 use Rattle.basics.specs.Digits.{digit, is_digit, value_of}
 use Rattle.basics.proofs.Digits.{value_both, digits_both}
 use Rattle.basics.proofs.Logic.{left_true, right_true}
 use Rattle.graph_text.specs.Text.{end_mark, before_mark, is_blank, word_before, words_after, words_of, numeral_limit, is_numeral, numbers_of, numerals_of}
-use Rattle.graph_text.specs.declared.text.Next.{Next}
-use Rattle.graph_text.specs.declared.text.Next.TheVariants.{Numeral, Nothing, Fault}
-use Rattle.graph_text.specs.means.Scan.{numerals_at, number_before, numeral_before, numerals_after, Told, ToldAfter}
-
--- The byte at a place, and those behind it.
-pub bytes_from : (text : List ℕ) (at : ℕ) → at < length text → drop at text ≡ byte_at text at ∷ drop (at + 1) text
-unfolding byte_at
-bytes_from text at h = rw (add-one at) (drop-cons text at 0 h)
+use Rattle.graph_text.specs.means.Scan.{number_before, numeral_before, numerals_after, BeginsFull}
 
 -- A test that one value fails.
 unlike : (test : ℕ → Bool) (b x : ℕ) → test x ≡ false → test b ≡ true → eqb b x ≡ false
@@ -127,75 +121,85 @@ too_great v (b ∷ bytes) h = rw (lt-leb v numeral_limit h, too_great (10 * v + 
     go false true = refl
     go false false = refl
 
--- At a place of a text.
-module _ (text : List ℕ) (at : ℕ) (inside : at < length text) where
-  before_from : eqb (byte_at text at) end_mark ≡ false → before_mark (drop at text) ≡ byte_at text at ∷ before_mark (drop (at + 1) text)
-  before_from e = rw (bytes_from text at inside, e)
+-- A byte in front of others.
+module _ (b : ℕ) (rest : List ℕ) where
+  before_from : eqb b end_mark ≡ false → before_mark (b ∷ rest) ≡ b ∷ before_mark rest
+  before_from e = rw e
 
   -- A blank changes nothing.
-  pub blank_passed : is_blank (byte_at text at) ≡ true → numerals_at text (at + 1) ≡ numerals_at text at
-  unfolding numerals_at numerals_of
-  blank_passed h = sym (rw (before_from (blank_no_mark (byte_at text at) h), h))
+  pub blank_passed : is_blank b ≡ true → numerals_of (b ∷ rest) ≡ numerals_of rest
+  unfolding numerals_of
+  blank_passed h = rw (blank_no_mark b h, h)
 
   -- `#` ends the text.
-  pub mark_ends : byte_at text at ≡ end_mark → before_mark (drop at text) ≡ []
-  mark_ends e = rw (bytes_from text at inside, e)
+  mark_ends : b ≡ end_mark → before_mark (b ∷ rest) ≡ []
+  mark_ends e = rw e
 
-  pub none_at_mark : byte_at text at ≡ end_mark → numerals_at text at ≡ some []
-  unfolding numerals_at numerals_of numbers_of
+  pub none_at_mark : b ≡ end_mark → numerals_of (b ∷ rest) ≡ some []
+  unfolding numerals_of numbers_of
   none_at_mark e = rw (mark_ends e)
 
   -- What is no blank, no digit and no `#` is no numeral.
-  pub fault_at : is_blank (byte_at text at) ≡ false → is_digit (byte_at text at) ≡ false → eqb (byte_at text at) end_mark ≡ false →
-      numerals_at text at ≡ none
-  unfolding numerals_at numerals_of numbers_of
-  fault_at blank one mark =
-      rw (before_from mark, blank, bad_word (byte_at text at) [] (before_mark (drop (at + 1) text)) (rw one))
+  pub fault_at : is_blank b ≡ false → is_digit b ≡ false → eqb b end_mark ≡ false → numerals_of (b ∷ rest) ≡ none
+  unfolding numerals_of numbers_of
+  fault_at blank one mark = rw (before_from mark, blank, bad_word b [] (before_mark rest) (rw one))
 
   -- A digit begins a numeral.
-  pub digits_begin : is_digit (byte_at text at) ≡ true →
-      numerals_at text at ≡ numerals_after (byte_at text at - digit 0) (before_mark (drop (at + 1) text))
-  unfolding numerals_at numerals_of
+  pub digits_begin : is_digit b ≡ true → numerals_of (b ∷ rest) ≡ numerals_after (b - digit 0) (before_mark rest)
+  unfolding numerals_of
   digits_begin h =
-      let first : 10 * 0 + (byte_at text at - digit 0) ≡ byte_at text at - digit 0 = omega arith in
-      rw (before_from (digit_no_mark (byte_at text at) h), digit_no_blank (byte_at text at) h)
-      (word_numbers (byte_at text at) [] (before_mark (drop (at + 1) text)) (rw h)
-      ∙ ap (λ (n : ℕ). numerals_after n (before_mark (drop (at + 1) text))) first)
+      let first : 10 * 0 + (b - digit 0) ≡ b - digit 0 = omega arith in
+      rw (digit_no_mark b h, digit_no_blank b h)
+      (word_numbers b [] (before_mark rest) (rw h) ∙ ap (λ (n : ℕ). numerals_after n (before_mark rest)) first)
 
   -- One digit more.
-  pub digit_more : (v : ℕ) → is_digit (byte_at text at) ≡ true →
-      numerals_after (10 * v + (byte_at text at - digit 0)) (before_mark (drop (at + 1) text)) ≡ numerals_after v (before_mark (drop at text))
-  digit_more v h = rw (before_from (digit_no_mark (byte_at text at) h), digit_no_blank (byte_at text at) h, h)
+  pub digit_more : (v : ℕ) → is_digit b ≡ true →
+      numerals_after (10 * v + (b - digit 0)) (before_mark rest) ≡ numerals_after v (before_mark (b ∷ rest))
+  digit_more v h = rw (digit_no_mark b h, digit_no_blank b h, h)
 
   -- Behind the last digit stand the other numerals.
-  digits_end_blank : (v : ℕ) → v ≤ numeral_limit → is_blank (byte_at text at) ≡ true → eqb (byte_at text at) end_mark ≡ false →
-      numerals_after v (before_mark (drop at text)) ≡ number_before v (numerals_at text (at + 1))
-  unfolding numerals_at numerals_of
-  digits_end_blank v small b m = rw (before_from m, b, le-leb v numeral_limit small)
+  digits_end_blank : (v : ℕ) → v ≤ numeral_limit → is_blank b ≡ true → eqb b end_mark ≡ false →
+      numerals_after v (before_mark (b ∷ rest)) ≡ number_before v (numerals_of rest)
+  unfolding numerals_of
+  digits_end_blank v small bl m = rw (m, bl, le-leb v numeral_limit small)
 
-  pub digits_end : (v : ℕ) → v ≤ numeral_limit → is_digit (byte_at text at) ≡ false →
-      numerals_after v (before_mark (drop at text)) ≡ number_before v (numerals_at text at)
-  digits_end v small other = go (eqb (byte_at text at) end_mark) (is_blank (byte_at text at)) refl refl
+  pub digits_end : (v : ℕ) → v ≤ numeral_limit → is_digit b ≡ false →
+      numerals_after v (before_mark (b ∷ rest)) ≡ number_before v (numerals_of (b ∷ rest))
+  digits_end v small other = go (eqb b end_mark) (is_blank b) refl refl
     where
-      go : (mark blank : Bool) → eqb (byte_at text at) end_mark ≡ mark → is_blank (byte_at text at) ≡ blank →
-          numerals_after v (before_mark (drop at text)) ≡ number_before v (numerals_at text at)
-      go true blank m b =
-          rw (mark_ends (eqb-true (byte_at text at) end_mark m), none_at_mark (eqb-true (byte_at text at) end_mark m), le-leb v numeral_limit small)
-      go false true m b = digits_end_blank v small b m ∙ ap (number_before v) (blank_passed b)
-      go false false m b = rw (fault_at b other m, before_from m, b, other)
+      go : (mark blank : Bool) → eqb b end_mark ≡ mark → is_blank b ≡ blank →
+          numerals_after v (before_mark (b ∷ rest)) ≡ number_before v (numerals_of (b ∷ rest))
+      go true blank m bl = rw (none_at_mark (eqb-true b end_mark m), mark_ends (eqb-true b end_mark m), le-leb v numeral_limit small)
+      go false true m bl = digits_end_blank v small bl m ∙ ap (number_before v) (sym (blank_passed bl))
+      go false false m bl = rw (fault_at bl other m, m, bl, other)
 
 -- At the end there is none.
-pub none_at_end : (text : List ℕ) (at : ℕ) → at ≡ length text → numerals_at text at ≡ some []
-unfolding numerals_at numerals_of numbers_of
-none_at_end text at e = rw (e, drop-length text)
+pub none_at_end : numerals_of [] ≡ some []
+unfolding numerals_of numbers_of
+none_at_end = refl
 
-pub digits_to_end : (text : List ℕ) (at v : ℕ) → at ≡ length text → v ≤ numeral_limit →
-    numerals_after v (before_mark (drop at text)) ≡ number_before v (numerals_at text at)
-digits_to_end text at v e small = rw (none_at_end text at e, e, drop-length text, le-leb v numeral_limit small)
+pub digits_to_end : (v : ℕ) → v ≤ numeral_limit → numerals_after v [] ≡ number_before v (numerals_of [])
+digits_to_end v small = rw (none_at_end, le-leb v numeral_limit small)
 
--- What digits tell is what the place in front of them tells.
-pub told_from : (text : List ℕ) (from behind first : ℕ) (r : Next) →
-    numerals_at text from ≡ numerals_after first (before_mark (drop behind text)) → ToldAfter first text behind r → Told text from r
-told_from text from behind first (Numeral n next) begun (inside, small, told) = (inside, small, begun ∙ told)
-told_from text from behind first Nothing begun told = absurd told
-told_from text from behind first Fault begun told = begun ∙ told
+pub no_bytes : (text : List ℕ) → length text ≡ 0 → text ≡ []
+no_bytes [] e = refl
+no_bytes (b ∷ rest) e = absurd (omega arith)
+
+-- Std's test of a digit is the definition's.
+pub digit_is : (b : ℕ) → is_ascii_digit b ≡ is_digit b
+unfolding is_digit
+digit_is b = refl
+
+-- A value with one digit more that is a numeral's, and one that is too great.
+pub more_taken : (o : Maybe ℕ) (v n : ℕ) (e : BadFormat) → SomeIff o (v ≤ numeral_limit) v → ok_or o e ≡ Ok n →
+    (n ≡ v) × (v ≤ numeral_limit)
+more_taken None v n e h same = absurd (cc)
+more_taken (Some x) v n e (small, x-is) same = (cc, small)
+
+pub more_refused : (o : Maybe ℕ) (v : ℕ) (e f : BadFormat) → SomeIff o (v ≤ numeral_limit) v → ok_or o e ≡ Err f → numeral_limit < v
+more_refused None v e f h same = omega (arith, h)
+more_refused (Some x) v e f h same = absurd (cc)
+
+pub no_blank : (text : List ℕ) (b : ℕ) (rest : List ℕ) → BeginsFull text → text ≡ b ∷ rest → is_blank b ≡ false
+unfolding BeginsFull
+no_blank text b rest h e = rw e at h

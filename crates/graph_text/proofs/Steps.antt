@@ -6,25 +6,20 @@ use mathlib.Core.Option.{Option, none, some}
 use mathlib.Core.Path.{◌≡◌, refl, sym, ◌∙◌}
 use native.Mathlib.Omega.{arith}
 use lib.Dec.{eqb}
-use Rattle.graph_text.specs.declared.text.Next.{Next}
-use Rattle.graph_text.specs.declared.text.Next.TheVariants.{Numeral, Nothing, Fault}
+use Rattle.std.specs.Prelude.{Result, Ok, Err}
+use Rattle.graph_text.specs.declared.text.BadFormat.{BadFormat}
 use Rattle.graph_text.specs.declared.graph.Node.{Node}
-use Rattle.graph_text.specs.declared.graph.EntryRead.{EntryRead}
-use Rattle.graph_text.specs.declared.graph.EntryRead.TheVariants.{Read, Fault as Unread}
+use Rattle.graph_text.specs.declared.graph.NodeGraph.{NodeGraph}
 use Rattle.graph_text.specs.Graph.{time_lawful}
-use Rattle.graph_text.specs.means.Scan.{numerals_at, number_before, Told}
-use Rattle.graph_text.specs.means.Entries.{Taken, taken_from, taken_before, Reads, after_taken, with_named, named_from, node_with, entry_from, Held, held_with, held_from, held_of}
+use Rattle.graph_text.specs.means.Scan.{number_before, has_first}
+use Rattle.graph_text.specs.means.Entries.{Taken, taken_from, taken_before, Reads, after_taken, with_named, named_from, node_with, entry_from, held_with, held_from, held_of}
 
 -- Where no numeral was told, there is nothing to take for what needs one.
-pub no_numeral : {A : Type 0} (take : List ℕ → Option (Taken A)) (text : List ℕ) (at : ℕ) (r : Next) →
-    ((n behind : ℕ) → r ≡ Numeral n behind → ⊥) → Told text at r → take [] ≡ none → taken_from take (numerals_at text at) ≡ none
-no_numeral take text at (Numeral n behind) other told needed = absurd (other n behind refl)
-no_numeral take text at Nothing other told needed = rw told needed
-no_numeral take text at Fault other told needed = rw told
-
--- A numeral that was told stands in front of the others.
-pub numeral_told : (text : List ℕ) (at n behind : ℕ) (r : Next) → r ≡ Numeral n behind → Told text at r → Told text at (Numeral n behind)
-numeral_told text at n behind r e told = rw e at told
+pub no_numeral : {A : Type 0} (take : List ℕ → Option (Taken A)) (old : Option (List ℕ)) → has_first old ≡ false → take [] ≡ none →
+    taken_from take old ≡ none
+no_numeral take none none-first needed = refl
+no_numeral take (some []) none-first needed = needed
+no_numeral take (some (n ∷ numerals)) none-first needed = absurd (cc)
 
 -- One predecessor more.
 pub named_empty : (v left : ℕ) (node : Node) → 0 < left → named_from v left node [] ≡ none
@@ -63,22 +58,13 @@ entry_behind count v number time many none = sym (both (eqb number v && time_law
 entry_behind count v number time many (some rest) = refl
 
 -- What is told of a reading is told of another that takes the same.
-pub reads_same : (take other : List ℕ → Option (Taken Node)) (text : List ℕ) (from at : ℕ) (r : EntryRead) →
-    taken_from take (numerals_at text from) ≡ taken_from other (numerals_at text at) → Reads other text at r → Reads take text from r
-reads_same take other text from at (Read node behind) same (inside, told) = (inside, same ∙ told)
-reads_same take other text from at Unread same told = same ∙ told
-
--- An entry that was read, with the place behind it.
-pub entry_told : (take : List ℕ → Option (Taken Node)) (text : List ℕ) (at : ℕ) (node : Node) (behind : ℕ) (r : EntryRead) →
-    r ≡ Read node behind → Reads take text at r → Reads take text at (Read node behind)
-entry_told take text at node behind r e told = rw e at told
-
-pub entry_unread : (take : List ℕ → Option (Taken Node)) (text : List ℕ) (at : ℕ) (r : EntryRead) →
-    r ≡ Unread → Reads take text at r → taken_from take (numerals_at text at) ≡ none
-entry_unread take text at r e told = rw e at told
+pub reads_same : (take other : List ℕ → Option (Taken Node)) (old middle new : Option (List ℕ)) (r : Result Node BadFormat) →
+    taken_from take old ≡ taken_from other middle → Reads other middle new r → Reads take old new r
+reads_same take other old middle new (Ok node) same told = same ∙ told
+reads_same take other old middle new (Err e) same told = same ∙ told
 
 -- One entry more is held, or none could be.
-module _ (count v more : ℕ) (held : Held) where
+module _ (count v more : ℕ) (held : NodeGraph) where
   held_open : (numerals : Option (List ℕ)) → held_of count v (suc more) held numerals
       ≡ after_taken (taken_from (entry_from count v) numerals) (λ node rest. held_from count (suc v) more (held_with count v node held) rest)
   unfolding held_from
@@ -100,18 +86,14 @@ module _ (count v more : ℕ) (held : Held) where
   held_unread numerals told = held_open numerals ∙ rw told
 
 -- Behind the last entry stands no numeral.
-pub held_end : (count v : ℕ) (held : Held) (text : List ℕ) (at : ℕ) (r : Next) → r ≡ Nothing → Told text at r →
-    held_of count v 0 held (numerals_at text at) ≡ some held
+pub held_end : (count v : ℕ) (held : NodeGraph) (old : Option (List ℕ)) → old ≡ some [] → held_of count v 0 held old ≡ some held
 unfolding held_from
-held_end count v held text at r e told = let none = rw e at told in rw none
+held_end count v held old none-left = rw none-left
 
-pub held_past : (count v : ℕ) (held : Held) (text : List ℕ) (at : ℕ) (r : Next) → (r ≡ Nothing → ⊥) →
-    Told text at r → held_of count v 0 held (numerals_at text at) ≡ none
+pub held_past : (count v n : ℕ) (held : NodeGraph) (old rest : Option (List ℕ)) → old ≡ number_before n rest → held_of count v 0 held old ≡ none
 unfolding held_from
-held_past count v held text at (Numeral n behind) other (inside, small, told) = rw told (go (numerals_at text behind))
-  where
-    go : (others : Option (List ℕ)) → held_of count v 0 held (number_before n others) ≡ none
-    go none = refl
-    go (some others) = refl
-held_past count v held text at Nothing other told = absurd (other refl)
-held_past count v held text at Fault other told = rw told
+held_past count v n held old none e = rw e
+held_past count v n held old (some numerals) e = rw e
+
+pub held_bad : (count v : ℕ) (held : NodeGraph) (old : Option (List ℕ)) → old ≡ none → held_of count v 0 held old ≡ none
+held_bad count v held old e = rw e

@@ -1,188 +1,155 @@
-// S14.2 to S14.5: the graph that a text says.
-ghost use Rattle.std.specs.Prelude.{◌≡◌, suc, ◌-◌, ◌≤◌, length};
+//! S14.2 to S14.5: the graph that a text says.
+ghost use Rattle.std.specs.Prelude.{◌≡◌, suc};
 ghost use Rattle.graph_text.specs.Graph.{time_lawful};
-ghost use Rattle.graph_text.specs.Read.{no_nodes, read_of};
-ghost use Rattle.graph_text.specs.means.Scan.{numerals_at};
-ghost use Rattle.graph_text.specs.means.Entries.{bit_named, with_named, named_from, entry_from, Reads, is_node, none_held, held_of, held_graph};
+ghost use Rattle.graph_text.specs.Read.{read_of};
+ghost use Rattle.graph_text.specs.means.Entries.{bit_named, named_from, entry_from, Reads};
+ghost use Rattle.graph_text.specs.means.Entries.{none_held, held_of, held_graph};
 
-use crate::text::{Next, next_numeral};
-use basics::numbers::is_within;
+use crate::text::{BadFormat, Numerals};
 
-// S14.5: the most nodes that are held.
+/// S14.5: the most nodes that are held.
 const NODES: u32 = 32;
 
-// An entry as a node: its time, its mask, and whether it names lower numbers only (S14.4).
+/// An entry as a node: its time, its mask, and whether it names lower numbers only (S14.4).
 #[derive(Clone, Copy)]
 struct Node {
-    time: u32,
+    time: u16,
     mask: u32,
     rising: bool,
 }
 
-// An entry that was read, with the place behind it; or none of the format.
-#[derive(Clone, Copy)]
-enum EntryRead {
-    Read(Node, usize),
-    Fault,
+impl Node {
+    ghost use Rattle.std.specs.Prelude.{◌≡◌};
+    ghost use Rattle.graph_text.specs.means.Entries.{with_named};
+
+    /// Names one predecessor more, as entry v.
+    #[tactic(auto, unfolding(crate::specs::means::Entries::with_named))]
+    fn name(&mut self, v: u32, p: u16)
+        ensures { self.new ≡ with_named v self.old p }
+    {
+        self.mask |= bit_named(u32::from(p));
+        self.rising &= u32::from(p) < v;
+    }
 }
 
-// The graph of a text by its nodes. Where the text is not of the format, nothing else is told.
-#[derive(Clone, Copy)]
+/// A graph by its nodes, of which the first 32 are held: their times, their masks, their count, and whether
+/// every entry names lower numbers only.
+/// Two arrays of 32, since there is no heap, and apart, since an import scales the times alone.
+#[derive(Clone, Copy, Debug, PartialEq, Eq)]
 pub struct NodeGraph {
-    pub times: [u32; 32],
+    pub times: [u16; 32],
     pub masks: [u32; 32],
-    pub count: u32,
-    pub lawful: bool,
+    pub count: u16,
     pub rising: bool,
 }
 
-// S14.3: the time of entry v.
-fn time_lawful(count: u32, v: u32, time: u32) -> bool
-    requires { count ≤ 65535 }
+impl NodeGraph {
+    ghost use Rattle.std.specs.Prelude.{◌≡◌};
+    ghost use Rattle.graph_text.specs.means.Entries.{is_node, held_with, none_held};
+
+    /// A graph of which no entry is read.
+    fn new(count: u16) -> NodeGraph
+        ensures { result ≡ none_held count }
+    {
+        NodeGraph {
+            times: [0; 32],
+            masks: [0; 32],
+            count,
+            rising: true,
+        }
+    }
+
+    /// S14.5: whether entry v is one of the first 32 nodes: neither a dummy, 0 or the last, nor past them.
+    #[tactic(auto, unfolding(crate::specs::means::Entries::is_node))]
+    fn is_node(&self, v: u32) -> bool
+        ensures { result ≡ is_node self.now.count v }
+    {
+        (1..=u32::from(self.count).min(NODES)).contains(&v)
+    }
+
+    /// Holds entry v.
+    fn hold(&mut self, v: u32, node: Node)
+        ensures { self.new ≡ held_with self.old.count v node self.old }
+    {
+        if self.is_node(v) {
+            // `u32` has no `From` to `usize`.
+            let i = (v - 1) as usize;
+            self.times[i] = node.time;
+            self.masks[i] = node.mask;
+        }
+        self.rising &= node.rising;
+    }
+}
+
+/// S14.3: the time of entry v.
+#[tactic(auto, unfolding(crate::specs::Graph::time_lawful))]
+fn time_lawful(count: u16, v: u32, time: u16) -> bool
     ensures { result ≡ time_lawful count v time }
 {
-    if (v == 0) | (v == count + 1) {
+    if v == 0 || v == u32::from(count) + 1 {
         time == 0
     } else {
         1 <= time
     }
 }
 
-// The mask of the node that a predecessor names, if it names one.
+/// The mask of the node that a predecessor names, if it names one: the dummy 0 wraps past the 32 bits.
+#[tactic(auto, unfolding(crate::specs::means::Entries::bit_named))]
 fn bit_named(p: u32) -> u32
     ensures { result ≡ bit_named p }
 {
-    if is_within(1, NODES, p) {
-        1 << (p - 1)
-    } else {
-        0
-    }
+    1u32.checked_shl(p.wrapping_sub(1)).unwrap_or(0)
 }
 
-// A node with one predecessor more.
-fn with_named(v: u32, node: Node, p: u32) -> Node
-    ensures { result ≡ with_named v node p }
-{
-    Node {
-        time: node.time,
-        mask: node.mask | bit_named(p),
-        rising: node.rising & (p < v),
-    }
-}
-
-// The node of entry v with so many predecessors, whose numerals stand from a place on.
-fn read_named(text: &[u8], from: usize, v: u32, many: u32, begun: Node) -> EntryRead
-    requires { from ≤ length text.now }
-    ensures { Reads (named_from v many begun) text.now from result }
+/// The node of entry v with so many predecessors more. Inlined: a call costs an import a tenth more.
+#[inline(always)]
+fn read_named(numerals: &mut Numerals, v: u32, many: u16, begun: Node) -> Result<Node, BadFormat>
+    ensures { Reads (named_from v many begun) numerals.old numerals.new result }
 {
     let mut node = begun;
-    let mut at = from;
-    let mut left = many;
-    while 0 < left {
-        let next = next_numeral(text, at);
-        let Next::Numeral(p, behind) = next else {
-            return EntryRead::Fault;
-        };
-        node = with_named(v, node, p);
-        at = behind;
-        left -= 1;
+    for _ in 0..many {
+        node.name(v, numerals.take()?);
     }
-    EntryRead::Read(node, at)
+    Ok(node)
 }
 
-// S14.2, S14.3: entry v, whose numerals stand from a place on.
-fn read_entry(text: &[u8], from: usize, count: u32, v: u32) -> EntryRead
-    requires { (from ≤ length text.now) × (count ≤ 65535) }
-    ensures { Reads (entry_from count v) text.now from result }
+/// S14.2, S14.3: entry v.
+fn read_entry(numerals: &mut Numerals, count: u16, v: u32) -> Result<Node, BadFormat>
+    ensures { Reads (entry_from count v) numerals.old numerals.new result }
 {
-    let first = next_numeral(text, from);
-    let Next::Numeral(number, at_time) = first else {
-        return EntryRead::Fault;
+    let number = numerals.take()?;
+    let time = numerals.take()?;
+    let many = numerals.take()?;
+    if u32::from(number) != v || !time_lawful(count, v, time) {
+        return Err(BadFormat);
+    }
+    let begun = Node {
+        time,
+        mask: 0,
+        rising: true,
     };
-    let second = next_numeral(text, at_time);
-    let Next::Numeral(time, at_many) = second else {
-        return EntryRead::Fault;
-    };
-    let third = next_numeral(text, at_many);
-    let Next::Numeral(many, behind) = third else {
-        return EntryRead::Fault;
-    };
-    if (number == v) & time_lawful(count, v, time) {
-        let begun = Node {
-            time,
-            mask: 0,
-            rising: true,
-        };
-        return read_named(text, behind, v, many, begun);
-    }
-    EntryRead::Fault
+    read_named(numerals, v, many, begun)
 }
 
-// What is told of a text that is not of the format.
-fn no_graph() -> NodeGraph
-    ensures { result ≡ no_nodes }
+/// S14.2: the entries of a graph with this count, behind which nothing follows.
+fn read_entries(numerals: &mut Numerals, count: u16) -> Result<NodeGraph, BadFormat>
+    ensures { result ≡ held_graph (held_of count 0 (suc (suc count)) (none_held count) numerals.old) }
 {
-    NodeGraph {
-        times: [0u32; 32],
-        masks: [0u32; 32],
-        count: 0,
-        lawful: false,
-        rising: false,
+    let mut graph = NodeGraph::new(count);
+    for v in 0..u32::from(count) + 2 {
+        graph.hold(v, read_entry(numerals, count, v)?);
+    }
+    match numerals.next_numeral()? {
+        None => Ok(graph),
+        Some(_) => Err(BadFormat),
     }
 }
 
-// S14.5: whether entry v is one of the first 32 nodes: neither a dummy, 0 or the last, nor past them.
-fn is_node(last: u32, v: u32) -> bool
-    requires { 1 ≤ last }
-    ensures { result ≡ is_node (last - 1) v }
-{
-    (1 <= v) & (v < last) & (v <= NODES)
-}
-
-// S14.2: the graph with this count, whose entries stand from a place on.
-fn read_entries(text: &[u8], from: usize, count: u32) -> NodeGraph
-    requires { (from ≤ length text.now) × (count ≤ 65535) }
-    ensures { result ≡ held_graph count (held_of count 0 (suc (suc count)) none_held (numerals_at text.now from)) }
-{
-    let mut times = [0u32; 32];
-    let mut masks = [0u32; 32];
-    let mut rising = true;
-    let mut at = from;
-    let mut v: u32 = 0;
-    let last = count + 1;
-    while v <= last {
-        let entry = read_entry(text, at, count, v);
-        let EntryRead::Read(node, behind) = entry else {
-            return no_graph();
-        };
-        if is_node(last, v) {
-            times[(v - 1) as usize] = node.time;
-            masks[(v - 1) as usize] = node.mask;
-        }
-        rising = rising & node.rising;
-        at = behind;
-        v += 1;
-    }
-    let last = next_numeral(text, at);
-    match last {
-        Next::Nothing => NodeGraph {
-            times,
-            masks,
-            count,
-            lawful: true,
-            rising,
-        },
-        _ => no_graph(),
-    }
-}
-
-// S14.1 to S14.5: the graph that a text says.
-pub fn read_graph(text: &[u8]) -> NodeGraph
+/// S14.1 to S14.5: the graph that a text says.
+pub fn read_graph(text: &[u8]) -> Result<NodeGraph, BadFormat>
     ensures { result ≡ read_of text.now }
 {
-    let next = next_numeral(text, 0);
-    let Next::Numeral(count, at) = next else {
-        return no_graph();
-    };
-    read_entries(text, at, count)
+    let mut numerals = Numerals::new(text);
+    let count = numerals.take()?;
+    read_entries(&mut numerals, count)
 }

@@ -1,92 +1,135 @@
-// S14.1: the numerals of a text, read one after the other.
-ghost use Rattle.std.specs.Prelude.{◌≡◌, ◌≤◌, length};
-ghost use Rattle.basics.specs.Digits.{is_digit};
-ghost use Rattle.graph_text.specs.Text.{is_blank, numeral_limit};
-ghost use Rattle.graph_text.specs.means.Scan.{numerals_at, Told, ToldAfter, StopsAt};
+//! S14.1: the numerals of a text, read one after the other.
+ghost use Rattle.std.specs.Prelude.{◌≡◌, ◌≤◌, ◌+◌, ◌-◌, ◌*◌, true, [], Ok, None, MatchResult, OnErr};
+ghost use Rattle.std.specs.Option.{SomeIff};
+ghost use Rattle.std.proofs.Math.Option.{none, some};
+ghost use Rattle.graph_text.specs.Text.{before_mark, is_blank, numeral_limit, numerals_of};
+ghost use Rattle.graph_text.specs.means.Scan.{BeginsFull, number_before, numerals_after, Takes, TakesMaybe};
 
-const END_MARK: u8 = 35;
+use std::error::Error;
+use std::fmt;
+use std::marker::Model;
 
-const ZERO: u8 = 48;
+/// S14.1 to S14.3: the text is not of the format.
+#[derive(Clone, Copy, Debug, PartialEq, Eq)]
+pub struct BadFormat;
 
-const NINE: u8 = 57;
-
-// The greatest number of a numeral.
-const LIMIT: u32 = 65535;
-
-// What stands next in a text: a numeral, with the place behind it; nothing; or something that is no numeral.
-#[derive(Clone, Copy)]
-pub enum Next {
-    Numeral(u32, usize),
-    Nothing,
-    Fault,
+impl fmt::Display for BadFormat {
+    fn fmt<W: fmt::Write>(&self, f: &mut fmt::Formatter<W>) -> fmt::Result {
+        write!(f, "no graph in the Standard Task Graph format")
+    }
 }
 
+impl Error for BadFormat {}
+
+/// A text of which numerals are read. A clause sees the numerals that are left, or that something else stands
+/// among them.
+#[derive(Drop)]
+pub struct Numerals<'a> {
+    rest: &'a [u8],
+}
+
+impl<'a> Model for Numerals<'a> {
+    ghost use Rattle.std.specs.Prelude.{ℕ, List};
+    ghost use Rattle.std.proofs.Math.Option.{Option};
+    ghost use Rattle.graph_text.specs.Text.{numerals_of};
+
+    ghost Value = { Option (List ℕ) };
+
+    ghost view = { λ r. numerals_of r.rest.now };
+}
+
+impl<'a> Numerals<'a> {
+    /// The numerals of a text.
+    pub fn new(text: &'a [u8]) -> Numerals<'a>
+        ensures { result ≡ numerals_of text.now }
+    {
+        Numerals { rest: text }
+    }
+
+    /// Whether no byte is left.
+    pub fn is_empty(&self) -> bool
+        ensures { result ≡ true → self.now ≡ some [] }
+    {
+        self.rest.is_empty()
+    }
+
+    /// The next numeral, or none at the end. Where none is told, the same numerals are left.
+    pub fn next_numeral(&mut self) -> Result<Option<u16>, BadFormat>
+        ensures told { TakesMaybe self.old self.new result }
+        ensures kept_at_end { result ≡ Ok None → self.new ≡ self.old }
+        ensures kept_at_fault { OnErr result (self.new ≡ self.old) }
+    {
+        let text = after_blanks(self.rest);
+        let Some((b, rest)) = text.split_first() else {
+            return Ok(None);
+        };
+        if *b == b'#' {
+            return Ok(None);
+        }
+        if !b.is_ascii_digit() {
+            return Err(BadFormat);
+        }
+        let (value, rest) = read_digits(rest, u16::from(*b - b'0'))?;
+        self.rest = rest;
+        Ok(Some(value))
+    }
+
+    /// A numeral that has to be there. Where none is told, the same numerals are left.
+    pub fn take(&mut self) -> Result<u16, BadFormat>
+        ensures told { Takes self.old self.new result }
+        ensures kept { OnErr result (self.new ≡ self.old) }
+    {
+        self.next_numeral()?.ok_or(BadFormat)
+    }
+}
+
+/// A tab, a line feed, a carriage return or a space. By `matches!` an import takes a tenth more instructions.
+#[tactic(auto, unfolding(crate::specs::Text::is_blank))]
 fn is_blank(b: u8) -> bool
     ensures { result ≡ is_blank b }
 {
-    (b == 9) | (b == 10) | (b == 13) | (b == 32)
+    (b == b'\t') | (b == b'\n') | (b == b'\r') | (b == b' ')
 }
 
-fn is_digit(b: u8) -> bool
-    ensures { result ≡ is_digit b }
+/// What is left of a text from the first byte on that is no blank.
+fn after_blanks(text: &[u8]) -> &[u8]
+    ensures same { numerals_of result.now ≡ numerals_of text.now }
+    ensures stops { BeginsFull result.now }
 {
-    (ZERO <= b) & (b <= NINE)
-}
-
-// The first place from `from` on that has no blank, or the end.
-fn skip_blanks(text: &[u8], from: usize) -> usize
-    requires { from ≤ length text.now }
-    ensures within { result ≤ length text.now }
-    ensures kept { numerals_at text.now result ≡ numerals_at text.now from }
-    ensures stops { StopsAt text.now result }
-{
-    let mut at = from;
-    while at < text.len() {
-        if !is_blank(text[at]) {
-            return at;
+    let mut rest = text;
+    while let Some((b, behind)) = rest.split_first() {
+        if !is_blank(*b) {
+            break;
         }
-        at += 1;
+        rest = behind;
     }
-    at
+    rest
 }
 
-// The numeral that begins with the digit `first` and whose other digits stand from `from` on, or that it is too great.
-fn read_digits(text: &[u8], from: usize, first: u32) -> Next
-    requires { (from ≤ length text.now) × (first ≤ numeral_limit) }
-    ensures { ToldAfter first text.now from result }
+/// A value with one digit more, if that is at most the greatest numeral.
+fn with_digit(value: u16, b: u8) -> Option<u16>
+    requires { (48 ≤ b) × (b ≤ 57) }
+    ensures { SomeIff result (10 * value + (b - 48) ≤ numeral_limit) (10 * value + (b - 48)) }
 {
+    u16::try_from(10 * u32::from(value) + u32::from(b - b'0')).ok()
+}
+
+/// The numeral that begins with the digit `first` and whose other digits are at the front of a text, and what
+/// is left.
+fn read_digits(text: &[u8], first: u16) -> Result<(u16, &[u8]), BadFormat>
+    ensures { MatchResult result
+        (λ r. numerals_after first (before_mark text.now) ≡ number_before r.0 (numerals_of r.1.now))
+        (λ _. numerals_after first (before_mark text.now) ≡ none) }
+{
+    // A walk of its own: `after_blanks` keeps no value and can't fail.
     let mut value = first;
-    let mut at = from;
-    while at < text.len() {
-        let b = text[at];
-        if !is_digit(b) {
-            return Next::Numeral(value, at);
+    let mut rest = text;
+    while let Some((b, behind)) = rest.split_first() {
+        if !b.is_ascii_digit() {
+            break;
         }
-        value = 10 * value + ((b - ZERO) as u32);
-        if LIMIT < value {
-            return Next::Fault;
-        }
-        at += 1;
+        value = with_digit(value, *b).ok_or(BadFormat)?;
+        rest = behind;
     }
-    Next::Numeral(value, at)
-}
-
-// S14.1: what stands in a text from a place on.
-pub fn next_numeral(text: &[u8], from: usize) -> Next
-    requires { from ≤ length text.now }
-    ensures { Told text.now from result }
-{
-    let at = skip_blanks(text, from);
-    if at == text.len() {
-        return Next::Nothing;
-    }
-    let b = text[at];
-    if b == END_MARK {
-        return Next::Nothing;
-    }
-    if is_digit(b) {
-        read_digits(text, at + 1, (b - ZERO) as u32)
-    } else {
-        Next::Fault
-    }
+    Ok((value, rest))
 }

@@ -8,23 +8,24 @@ use lib.Dec.{eqb, leb}
 use borrow.Author.Tests.{leb-true, eqb-true}
 use Rattle.basics.specs.Numbers.{within}
 use Rattle.basics.proofs.Logic.{left_true, right_true, within_bounds}
-use Rattle.sheet.specs.declared.answer.Answer.{Answer}
-use Rattle.sheet.specs.declared.answer.Answer.TheVariants.{Accepted}
-use Rattle.sheet.specs.Answers.{no_task, refused_if, ◌or_else◌}
+use Rattle.sheet.specs.declared.refusal.Refusal.{Refusal}
+use Rattle.sheet.specs.declared.refusal.Refusal.TheVariants.{BadText, BadGraph, FigureOutside}
+use Rattle.std.specs.Prelude.{Ok}
+use Rattle.sheet.specs.Refusal.{Answer, refused_if, ◌or_else◌}
 use Rattle.sheet.specs.Level.{is_high}
 use Rattle.sheet.proofs.Faults.{both_accepted, rule_kept}
 use Rattle.sheet.specs.Rules.{in_range}
 use Rattle.graph_text.specs.Graph.{Graph, graph_of, is_rising}
 use Rattle.importer.specs.declared.terms.Terms.{Terms}
 use Rattle.importer.specs.Task.{terms_lawful, figures_of}
-use Rattle.importer.specs.Import.{bad_text, bad_graph, figure_outside, room_for, is_asked_well, graph_lawful, answer_for, import_answer}
+use Rattle.importer.specs.Import.{room_for, is_asked_well, graph_lawful, answer_for, import_answer}
 
 -- A rule in front of other causes that let pass.
-pub first_kept_lem : (rule : Bool) (number task : ℕ) (later : Answer) → (refused_if (not rule) number task or_else later) ≡ Accepted →
-    (rule ≡ true) × (later ≡ Accepted)
-first_kept_lem rule number task later e =
-    let both = both_accepted (refused_if (not rule) number task) later e in
-    (rule_kept rule number task both.0, both.1)
+pub first_kept_lem : (rule : Bool) (r : Refusal) (later : Answer) → (refused_if (not rule) r or_else later) ≡ Ok tt →
+    (rule ≡ true) × (later ≡ Ok tt)
+first_kept_lem rule r later e =
+    let both = both_accepted (refused_if (not rule) r) later e in
+    (rule_kept rule r both.0, both.1)
 
 -- Terms that are lawful.
 pub record LawfulTerms (t : Terms) : Type 0 where
@@ -54,21 +55,21 @@ pub record Kept (g : Graph) (t : Terms) : Type 0 where
   pub rising : is_rising g ≡ true
   pub ranged : in_range t.level (figures_of g t) ≡ true
 
-graph_kept : (g : Graph) (t : Terms) (room : ℕ) → answer_for (some g) t room ≡ Accepted → Kept g t
+graph_kept : (g : Graph) (t : Terms) (room : ℕ) → answer_for (some g) t room ≡ Ok tt → Kept g t
 unfolding is_asked_well graph_lawful
 graph_kept g t room e =
-    let asked = first_kept_lem (is_asked_well g t room) bad_text no_task _ e in
-    let lawful = first_kept_lem (graph_lawful g) bad_graph no_task _ asked.1 in
+    let asked = first_kept_lem (is_asked_well g t room) BadText _ e in
+    let lawful = first_kept_lem (graph_lawful g) BadGraph _ asked.1 in
     let counted = within_bounds 1 32 g.count (left_true (within 1 32 g.count) (is_rising g) lawful.0) in
     record {
       terms = terms_kept t (left_true (terms_lawful t) (leb (room_for g.count) room) asked.0);
       some_nodes = counted.0;
       few_nodes = counted.1;
       rising = right_true (within 1 32 g.count) (is_rising g) lawful.0;
-      ranged = rule_kept (in_range t.level (figures_of g t)) figure_outside no_task lawful.1;
+      ranged = rule_kept (in_range t.level (figures_of g t)) FigureOutside lawful.1;
     }
 
 pub accepted_kept : (text : List ℕ) (t : Terms) (room : ℕ) (g : Graph) →
-    import_answer text t room ≡ Accepted → graph_of text ≡ some g → Kept g t
+    import_answer text t room ≡ Ok tt → graph_of text ≡ some g → Kept g t
 unfolding import_answer
 accepted_kept text t room g e said = graph_kept g t room (sym (ap (λ (o : Option Graph). answer_for o t room) said) ∙ e)

@@ -1,22 +1,17 @@
 -- Times by a percentage: each product stays within a word, and one node more is one cell more.
-use Prim.Native.Nat.{ℕ, ◌+◌, ◌*◌, ◌/◌, ◌≤◌, ◌<◌}
-use mathlib.Core.List.{List}
+use Prim.Native.Nat.{ℕ, zero, suc, ◌+◌, ◌*◌, ◌≤◌, ◌<◌}
+use mathlib.Core.List.{List, [], ◌∷◌}
 use mathlib.Core.Path.{◌≡◌, sym}
 use native.Mathlib.Nat.{mul-le-mul}
 use native.Mathlib.Omega.{arith}
-use lib.ListN.{set, replicate}
-use Rattle.basics.proofs.Cells.{cells_none, cells_store, cells-keep}
-use Rattle.sheet.specs.declared.task.Budget.{Budget}
+use lib.ListN.{set, replicate, take, length}
+use Rattle.std.proofs.Common.{length-take-le, ap, ◌∙◌, refl}
 use Rattle.chains.specs.Chains.{budget_of}
+use Rattle.chains.proofs.Laws.{budget_same}
+use Rattle.basics.proofs.Cells.{cells_none, cells_store}
 use Rattle.chains.specs.means.Bounds.{time_at, time_limit, Small}
-use Rattle.graph_text.specs.declared.graph.NodeGraph.{NodeGraph}
-use Rattle.importer.specs.declared.terms.Terms.{Terms}
 use Rattle.importer.specs.Task.{scaled}
-use Rattle.importer.specs.means.Nodes.{TimesSmall, scaled_times, nodes_task}
-
-pub product_small : (times : List ℕ) (v percentage : ℕ) → TimesSmall times → percentage ≤ 400 → time_at times v * percentage ≤ 26214000
-unfolding TimesSmall
-product_small times v percentage small most = mul-le-mul (small v) most
+use Rattle.importer.specs.means.Nodes.{scaled_times}
 
 pub scaled_none : (percentage : ℕ) (times : List ℕ) → replicate 32 0 ≡ scaled_times 0 percentage times
 unfolding scaled_times
@@ -27,35 +22,53 @@ scaled_more : (v percentage : ℕ) (times : List ℕ) → v < 32 →
 unfolding scaled_times
 scaled_more v percentage times h = cells_store (λ u. scaled percentage (time_at times u)) 0 32 v h
 
--- The same of whatever was stored, if it is the time rounded up.
+-- The same of whatever was stored, if it is the time by the percentage.
 pub scaled_next : (v percentage : ℕ) (times held : List ℕ) (x : ℕ) → v < 32 → held ≡ scaled_times v percentage times →
-    x ≡ (time_at times v * percentage + 99) / 100 → set held v x ≡ scaled_times (v + 1) percentage times
-unfolding scaled
+    x ≡ scaled percentage (time_at times v) → set held v x ≡ scaled_times (v + 1) percentage times
 scaled_next v percentage times held x h before stored = rw (before, stored) (scaled_more v percentage times h)
 
--- Times that numerals say, and these by a percentage, stay within what sums may lean on.
-pub times_small : (times : List ℕ) → TimesSmall times → Small times
-unfolding TimesSmall Small
-times_small times small v = omega (arith, small v)
+-- A numeral by a percentage stays within a word.
+pub product_small : (time percentage : ℕ) → time ≤ 65535 → percentage ≤ 400 → time * percentage ≤ 26214000
+product_small time percentage small most = mul-le-mul small most
 
-pub scaled_small : (k percentage : ℕ) (times overload : List ℕ) → overload ≡ scaled_times k percentage times → percentage ≤ 400 → TimesSmall times →
-    Small overload
-unfolding Small scaled_times scaled
-scaled_small k percentage times overload e most small v =
-    let p = product_small times v percentage small most in
-    rw e (cells-keep (λ u. scaled percentage (time_at times u)) 0 (λ x. x ≤ time_limit) 32 k v (omega arith) (omega arith))
+-- Times stay within what sums may lean on, of which one is stored after the other.
+pub none_small : Small (replicate 32 0)
+unfolding Small
+none_small = go 32
+  where
+    go : (n : ℕ) (v : ℕ) → time_at (replicate n 0) v ≤ time_limit
+    go zero v = omega arith
+    go (suc n) zero = omega arith
+    go (suc n) (suc v) = go n v
 
--- The task by its parts.
-pub task_with : (graph : NodeGraph) (t : Terms) (overload : List ℕ) (nominal more : Budget) →
-    overload ≡ scaled_times graph.count t.percentage graph.times →
-    nominal ≡ budget_of graph.masks (time_at graph.times) graph.count →
-    more ≡ budget_of graph.masks (time_at overload) graph.count →
-    record {
-      figures = record { deadline = t.deadline; nominal = nominal; overload = more };
-      predecessors = graph.masks;
-      level = t.level;
-      nodes = graph.count;
-    }
-    ≡ nodes_task graph t
-unfolding nodes_task
-task_with graph t overload nominal more e n m = rw (n, m, e)
+pub next_small : (held : List ℕ) (v x : ℕ) → Small held → x ≤ time_limit → Small (set held v x)
+unfolding Small
+next_small [] v x small h = small
+next_small (y ∷ held) zero x small h = λ u. elim u as (λ w. time_at (x ∷ held) w ≤ time_limit) [ zero ↦ h | suc w ↦ small (suc w) ]
+next_small (y ∷ held) (suc v) x small h =
+    λ u. elim u as (λ w. time_at (y ∷ set held v x) w ≤ time_limit) [ zero ↦ small 0 | suc w ↦ next_small held v x (λ n. small (suc n)) h w ]
+
+-- The first k of small times are small, and come to the budget of k nodes.
+pub small_taken : (k : ℕ) (times : List ℕ) → Small times → Small (take k times)
+unfolding Small
+small_taken zero times small = λ v. omega arith
+small_taken (suc k) [] small = small
+small_taken (suc k) (x ∷ times) small =
+    λ u. elim u as (λ w. time_at (x ∷ take k times) w ≤ time_limit) [ zero ↦ small 0 | suc w ↦ small_taken k times (λ n. small (suc n)) w ]
+
+time_taken : (k : ℕ) (times : List ℕ) (v : ℕ) → v < k → time_at (take k times) v ≡ time_at times v
+time_taken zero times v h = absurd (omega arith)
+time_taken (suc k) [] v h = refl
+time_taken (suc k) (x ∷ times) zero h = refl
+time_taken (suc k) (x ∷ times) (suc v) h = time_taken k times v (omega arith)
+
+pub budget_taken : (masks : List ℕ) (k : ℕ) (times : List ℕ) → k ≤ length times →
+    budget_of masks (time_at (take k times)) (length (take k times)) ≡ budget_of masks (time_at times) k
+budget_taken masks k times few =
+    ap (budget_of masks (time_at (take k times))) (length-take-le k times few)
+    ∙ budget_same masks (time_at (take k times)) (time_at times) k (time_taken k times)
+
+-- At 100 percent a time is as it was.
+pub scaled_whole : (time : ℕ) → scaled 100 time ≡ time
+unfolding scaled
+scaled_whole time = omega arith

@@ -13,7 +13,8 @@ use Rattle.basics.proofs.Below.{all_intro}
 use Rattle.basics.proofs.Cells.{cells-length, cells_rest}
 use Rattle.nodes.proofs.Members.{set_of-keep_lt}
 use Rattle.sheet.specs.declared.task.Budget.{Budget}
-use Rattle.sheet.specs.Answers.{not_heavy, refused_if}
+use Rattle.sheet.specs.declared.refusal.Refusal.TheVariants.{NotHeavy}
+use Rattle.sheet.specs.Refusal.{refused_if}
 use Rattle.sheet.specs.Level.{level_lawful, is_high, bytes_before_masks}
 use Rattle.sheet.specs.Format.{offset_of, length_of, task_at}
 use Rattle.sheet.specs.Rules.{shape_lawful, low_lawful, figures_lawful, mask_lawful, masks_lawful, is_heavy}
@@ -110,7 +111,7 @@ module _ (g : Graph) (t : Terms) (kept : Kept g t) where
   record_taken : (front back : List ℕ) (i : ℕ) →
       offset_of (front ++ (record_bytes (task_from g t) ++ back)) i ≡ length front →
       length_of (front ++ (record_bytes (task_from g t) ++ back)) i ≡ length (record_bytes (task_from g t)) →
-      record_answer (front ++ (record_bytes (task_from g t) ++ back)) i ≡ refused_if (not (is_heavy (figures_of g t))) not_heavy i
+      record_answer (front ++ (record_bytes (task_from g t) ++ back)) i ≡ refused_if (not (is_heavy (figures_of g t))) (NotHeavy i)
   unfolding task_from RoundTrip
   record_taken front back i offset bytes =
       let sheet = front ++ (record_bytes (task_from g t) ++ back) in

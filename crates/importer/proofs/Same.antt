@@ -13,7 +13,7 @@ use Rattle.chains.specs.Chains.{budget_of}
 use Rattle.chains.proofs.Laws.{budget_same}
 use Rattle.graph_text.specs.Graph.{Graph, node_of, time_of, mask_of, masks_of}
 use Rattle.importer.specs.Task.{scaled, overload_time_of, figures_of, task_from}
-use Rattle.importer.specs.Laws.{MaskKept, SameTask}
+use Rattle.importer.specs.Laws.{MaskKept, MasksKept, SameTask}
 
 -- Lists that name the same nodes have the same mask.
 mask_same : (ps qs : List ℕ) → ((j : ℕ) → is_in (suc j) ps ≡ is_in (suc j) qs) → mask_of ps ≡ mask_of qs
@@ -47,6 +47,10 @@ module _ (g h : Graph) (counts : g.count ≡ h.count) (times : (v : ℕ) → v <
   budgets_same f =
       budget_same (masks_of g) (λ v. f (time_of g v)) (λ v. f (time_of h v)) g.count (λ v l. ap f (times v l))
       ∙ ap₂ (λ (masks : List ℕ) (k : ℕ). budget_of masks (λ v. f (time_of h v)) k) masks_same counts
+
+pub masks_kept : MasksKept
+unfolding MasksKept
+masks_kept = mask_kept
 
 pub same_task : SameTask
 unfolding SameTask task_from figures_of overload_time_of

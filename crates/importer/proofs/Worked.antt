@@ -11,8 +11,10 @@ use Rattle.basics.specs.Lists.{range, is_in, cells_from}
 use Rattle.basics.specs.Numbers.{byte_at, u16_at, u16_bytes, u32_bytes}
 use Rattle.basics.specs.Digits.{is_digit}
 use Rattle.nodes.specs.Sets.{has, members}
-use Rattle.sheet.specs.declared.answer.Answer.TheVariants.{Accepted, Refused}
-use Rattle.sheet.specs.Answers.{first_over}
+use Rattle.std.specs.Prelude.{Err}
+use Rattle.sheet.specs.declared.refusal.Refusal.TheVariants.{BadText, BadGraph, FigureOutside, NotHeavy}
+use Rattle.std.specs.Prelude.{Ok}
+use Rattle.sheet.specs.Refusal.{first_over}
 use Rattle.sheet.specs.Level.{is_high, figure_limit, is_wide}
 use Rattle.sheet.specs.Format.{processors_of, count_of, offset_of, length_of, place_of}
 use Rattle.sheet.specs.Rules.{in_range, in_order, is_heavy}
@@ -128,38 +130,38 @@ pub record Worked : Type 0 where
       ≡ 1 ∷ 3 ∷ 15 ∷ 0 ∷ 10 ∷ 0 ∷ 16 ∷ 0 ∷ 7 ∷ 0 ∷ 11 ∷ 0 ∷ 0 ∷ 0 ∷ 0 ∷ 0 ∷ 1 ∷ 0 ∷ 0 ∷ 0 ∷ 1 ∷ 0 ∷ 0 ∷ 0 ∷ []
   pub low_bytes : imported_record one (terms 0 2 100) ≡ 0 ∷ 1 ∷ 2 ∷ 0 ∷ 3 ∷ 0 ∷ 3 ∷ 0 ∷ 3 ∷ 0 ∷ 3 ∷ 0 ∷ 0 ∷ 0 ∷ 0 ∷ 0 ∷ []
   -- S9.17: the buffer, with as many bytes as the record and with one fewer.
-  pub room_enough : import_answer row (terms 1 9 150) 20 ≡ Accepted
-  pub light_accepted : import_answer row (terms 1 11 150) 20 ≡ Accepted
-  pub room_short : import_answer row (terms 1 9 150) 19 ≡ Refused 17 255
+  pub room_enough : import_answer row (terms 1 9 150) 20 ≡ Ok tt
+  pub light_accepted : import_answer row (terms 1 11 150) 20 ≡ Ok tt
+  pub room_short : import_answer row (terms 1 9 150) 19 ≡ Err BadText
   -- S14.9: the bytes behind the record stay, and a refusal leaves all as it was.
   pub written : imported row (terms 1 9 150) (replicate 22 170) ≡ row_record ++ 170 ∷ 170 ∷ []
   pub unwritten : imported row (terms 1 9 150) (replicate 19 170) ≡ replicate 19 170
   -- S9.17: the text, and the terms at their limits and past them.
-  pub timeless : import_answer one_timeless (terms 1 2 100) 16 ≡ Refused 17 255
-  pub empty : import_answer [] (terms 1 2 100) 16 ≡ Refused 17 255
-  pub level_two : import_answer one (terms 2 2 100) 16 ≡ Refused 17 255
-  pub percentage_least : import_answer one (terms 1 2 100) 16 ≡ Accepted
-  pub percentage_below : import_answer one (terms 1 2 99) 16 ≡ Refused 17 255
-  pub percentage_greatest : import_answer one (terms 1 2 400) 16 ≡ Accepted
-  pub percentage_above : import_answer one (terms 1 2 401) 16 ≡ Refused 17 255
-  pub low_whole : import_answer one (terms 0 2 100) 16 ≡ Accepted
-  pub low_more : import_answer one (terms 0 2 101) 16 ≡ Refused 17 255
+  pub timeless : import_answer one_timeless (terms 1 2 100) 16 ≡ Err BadText
+  pub empty : import_answer [] (terms 1 2 100) 16 ≡ Err BadText
+  pub level_two : import_answer one (terms 2 2 100) 16 ≡ Err BadText
+  pub percentage_least : import_answer one (terms 1 2 100) 16 ≡ Ok tt
+  pub percentage_below : import_answer one (terms 1 2 99) 16 ≡ Err BadText
+  pub percentage_greatest : import_answer one (terms 1 2 400) 16 ≡ Ok tt
+  pub percentage_above : import_answer one (terms 1 2 401) 16 ≡ Err BadText
+  pub low_whole : import_answer one (terms 0 2 100) 16 ≡ Ok tt
+  pub low_more : import_answer one (terms 0 2 101) 16 ≡ Err BadText
   -- S9.18: a node that names itself, no node, and the most nodes with one more.
-  pub itself : import_answer one_itself (terms 1 2 100) 16 ≡ Refused 18 255
-  pub nodeless : import_answer no_node (terms 1 2 100) 16 ≡ Refused 18 255
+  pub itself : import_answer one_itself (terms 1 2 100) 16 ≡ Err BadGraph
+  pub nodeless : import_answer no_node (terms 1 2 100) 16 ≡ Err BadGraph
   pub most_nodes : graph_lawful (record { count = 32; entries = [] }) ≡ true
   pub nodes_above : graph_lawful (record { count = 33; entries = [] }) ≡ false
   -- S9.19: D and CO at the limit and past it.
-  pub deadline_zero : import_answer one (terms 1 0 100) 16 ≡ Refused 19 255
-  pub deadline-greatest : import_answer one (terms 1 10000 100) 16 ≡ Accepted
-  pub deadline_above : import_answer one (terms 1 10001 100) 16 ≡ Refused 19 255
-  pub work_greatest : import_answer one_long (terms 1 2 200) 16 ≡ Accepted
-  pub work_above : import_answer one_long (terms 1 2 201) 16 ≡ Refused 19 255
+  pub deadline_zero : import_answer one (terms 1 0 100) 16 ≡ Err FigureOutside
+  pub deadline-greatest : import_answer one (terms 1 10000 100) 16 ≡ Ok tt
+  pub deadline_above : import_answer one (terms 1 10001 100) 16 ≡ Err FigureOutside
+  pub work_greatest : import_answer one_long (terms 1 2 200) 16 ≡ Ok tt
+  pub work_above : import_answer one_long (terms 1 2 201) 16 ≡ Err FigureOutside
   -- S14.9: of two causes the lower number is the answer, wherever its cause stands in the text.
-  pub text_first : import_answer one_misnumbered (terms 1 2 100) 16 ≡ Refused 17 255
-  pub terms-first : import_answer one_itself (terms 1 2 99) 16 ≡ Refused 17 255
-  pub room-first : import_answer one_itself (terms 1 2 100) 15 ≡ Refused 17 255
-  pub graph_first : import_answer one_itself (terms 1 0 100) 16 ≡ Refused 18 255
+  pub text_first : import_answer one_misnumbered (terms 1 2 100) 16 ≡ Err BadText
+  pub terms-first : import_answer one_itself (terms 1 2 99) 16 ≡ Err BadText
+  pub room-first : import_answer one_itself (terms 1 2 100) 15 ≡ Err BadText
+  pub graph_first : import_answer one_itself (terms 1 0 100) 16 ≡ Err BadGraph
 
 pub worked : Worked
 unfolding range cells_from u16_bytes u32_bytes is_digit has members is_high figure_limit in_range figure_bytes masks_bytes record_bytes predecessors_of sum_below longest_among chain_at chains_below span_of budget_of is_blank is_numeral numbers_of numerals_of time_lawful entries_from graph_of is_rising node_of time_of mask_of masks_of terms_lawful scaled overload_time_of figures_of task_from room_for is_asked_well graph_lawful import_answer imported_record imported is_wide
@@ -220,14 +222,14 @@ row_in_order = figures_in_order row_graph (terms 1 9 150) (lit≤ tt)
 abbrev pub sheet_before : List ℕ
 sheet_before = 8 ∷ 1 ∷ 6 ∷ 0 ∷ 20 ∷ 0 ∷ []
 
-pub row_taken : record_answer (sheet_before ++ (row_record ++ [])) 0 ≡ Accepted
+pub row_taken : record_answer (sheet_before ++ (row_record ++ [])) 0 ≡ Ok tt
 unfolding ReaderTakes is_heavy offset_of length_of u16_at byte_at
 row_taken =
     rw (worked.row_bytes, worked.row_figures) at
     (reader_takes row (terms 1 9 150) 20 row_graph sheet_before [] 0 worked.room_enough worked.graph_of_row refl
     (sym (ap length worked.row_bytes)))
 
-pub row_light : record_answer (sheet_before ++ (light_record ++ [])) 0 ≡ Refused 6 0
+pub row_light : record_answer (sheet_before ++ (light_record ++ [])) 0 ≡ Err (NotHeavy 0)
 unfolding ReaderTakes is_heavy offset_of length_of u16_at byte_at
 row_light =
     rw (worked.light_bytes, worked.light_figures) at
@@ -235,7 +237,7 @@ row_light =
     (sym (ap length worked.light_bytes)))
 
 -- So the reader accepts that sheet.
-pub row_read : read_answer (sheet_before ++ (row_record ++ [])) ≡ Accepted
+pub row_read : read_answer (sheet_before ++ (row_record ++ [])) ≡ Ok tt
 unfolding read_answer header_answer header_lawful processors_of count_of place_answer place_of end_answer first_over offset_of length_of u16_at byte_at
 row_read = rw row_taken
 

@@ -1,10 +1,9 @@
 -- S14.9 and S9.17 to S9.19: what import answers, and what it leaves in the buffer.
-use Rattle.std.specs.Prelude.{ℕ, ◌+◌, ◌*◌, Bool, not, ◌&&◌, List, [], leb, length}
+use Rattle.std.specs.Prelude.{ℕ, ◌+◌, ◌*◌, Bool, not, ◌&&◌, List, [], leb, length, Err}
 use Rattle.std.proofs.Math.Option.{Option, none, some}
 use Rattle.basics.specs.Numbers.{within}
-use Rattle.sheet.specs.declared.answer.Answer.{Answer}
-use Rattle.sheet.specs.declared.answer.Answer.TheVariants.{Refused}
-use Rattle.sheet.specs.Answers.{no_task, refused_if, ◌or_else◌, written_if}
+use Rattle.sheet.specs.declared.refusal.Refusal.TheVariants.{BadText, BadGraph, FigureOutside}
+use Rattle.sheet.specs.Refusal.{Answer, refused_if, ◌or_else◌, written_if}
 use Rattle.sheet.specs.Rules.{in_range}
 use Rattle.sheet.specs.Encoding.{record_bytes}
 use Rattle.graph_text.specs.Graph.{Graph, graph_of, is_rising}
@@ -14,18 +13,6 @@ use Rattle.importer.specs.Task.{terms_lawful, figures_of, task_from}
 -- S14.6: the terms that a caller asks for.
 abbrev pub terms : ℕ → ℕ → ℕ → Terms
 terms level deadline percentage = record { level = level; deadline = deadline; percentage = percentage }
-
--- S9.17: the text is not of the format, the terms are not lawful, or the buffer is short.
-abbrev pub bad_text : ℕ
-bad_text = 17
-
--- S9.18: too many nodes, none, or a predecessor that is no lower than its entry.
-abbrev pub bad_graph : ℕ
-bad_graph = 18
-
--- S9.19: a figure out of its range.
-abbrev pub figure_outside : ℕ
-figure_outside = 19
 
 -- S9.17: the bytes that a buffer needs for a graph with this count.
 unfoldable pub room_for : ℕ → ℕ
@@ -39,13 +26,13 @@ is_asked_well g t room = terms_lawful t && leb (room_for g.count) room
 unfoldable pub graph_lawful : Graph → Bool
 graph_lawful g = within 1 32 g.count && is_rising g
 
--- S14.9: 17, then 18, then 19, of the graph that a text says, if it says one.
+-- S14.9: refusals 17, then 18, then 19, of the graph that a text says, if it says one.
 abbrev pub answer_for : Option Graph → Terms → ℕ → Answer
-answer_for none t room = Refused bad_text no_task
+answer_for none t room = Err BadText
 answer_for (some g) t room =
-    refused_if (not (is_asked_well g t room)) bad_text no_task
-    or_else refused_if (not (graph_lawful g)) bad_graph no_task
-    or_else refused_if (not (in_range t.level (figures_of g t))) figure_outside no_task
+    refused_if (not (is_asked_well g t room)) BadText
+    or_else refused_if (not (graph_lawful g)) BadGraph
+    or_else refused_if (not (in_range t.level (figures_of g t))) FigureOutside
 
 -- S14.9: the answer to a text, terms, and the length of the buffer.
 unfoldable pub import_answer : List ℕ → Terms → ℕ → Answer

@@ -2,8 +2,9 @@
 use Rattle.std.specs.Prelude.{ℕ, suc, ◌≤◌, ◌<◌, true, not, List, ◌∷◌, ◌++◌, ◌≡◌, length}
 use Rattle.std.proofs.Math.Option.{some}
 use Rattle.basics.specs.Lists.{is_in}
-use Rattle.sheet.specs.declared.answer.Answer.TheVariants.{Accepted}
-use Rattle.sheet.specs.Answers.{not_heavy, refused_if}
+use Rattle.sheet.specs.declared.refusal.Refusal.TheVariants.{NotHeavy}
+use Rattle.std.specs.Prelude.{Ok}
+use Rattle.sheet.specs.Refusal.{refused_if}
 use Rattle.sheet.specs.Format.{offset_of, length_of}
 use Rattle.sheet.specs.Rules.{is_heavy, in_order}
 use Rattle.reader.specs.Reading.{record_answer}
@@ -23,11 +24,11 @@ FiguresInOrder = (g : Graph) (t : Terms) → 100 ≤ t.percentage → in_order (
 unfoldable pub ReaderTakes : Type 0
 ReaderTakes =
     (text : List ℕ) (t : Terms) (room : ℕ) (g : Graph) (front back : List ℕ) (i : ℕ) →
-    import_answer text t room ≡ Accepted →
+    import_answer text t room ≡ Ok tt →
     graph_of text ≡ some g →
     offset_of (front ++ (imported_record text t ++ back)) i ≡ length front →
     length_of (front ++ (imported_record text t ++ back)) i ≡ length (imported_record text t) →
-    record_answer (front ++ (imported_record text t ++ back)) i ≡ refused_if (not (is_heavy (figures_of g t))) not_heavy i
+    record_answer (front ++ (imported_record text t ++ back)) i ≡ refused_if (not (is_heavy (figures_of g t))) (NotHeavy i)
 
 -- What the budgets of an imported task are to its graph's times: LN and LO are the greatest sums along its chains, and the times of the
 -- nodes keep the nominal budget, their overload times the overload budget (S10.6).
@@ -41,12 +42,16 @@ pub record BudgetsFit (g : Graph) (t : Terms) : Type 0 where
 unfoldable pub TimesKeepBudgets : Type 0
 TimesKeepBudgets =
     (text : List ℕ) (t : Terms) (room : ℕ) (g : Graph) →
-    import_answer text t room ≡ Accepted → graph_of text ≡ some g → BudgetsFit g t
+    import_answer text t room ≡ Ok tt → graph_of text ≡ some g → BudgetsFit g t
 
 -- S14.5: predecessor 0, and one that is named already, change no mask.
 pub record MaskKept (p : ℕ) (predecessors : List ℕ) : Type 0 where
   pub dummy : mask_of (0 ∷ predecessors) ≡ mask_of predecessors
   pub again : is_in p predecessors ≡ true → mask_of (p ∷ predecessors) ≡ mask_of predecessors
+
+-- S14.5, of all predecessors.
+unfoldable pub MasksKept : Type 0
+MasksKept = (p : ℕ) (predecessors : List ℕ) → MaskKept p predecessors
 
 -- S14.5: two graphs of as many nodes, with the same times, whose nodes name the same nodes, become the same task. How often a predecessor
 -- is named, in which order, and whether entry 0 is, do not matter.

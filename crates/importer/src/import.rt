@@ -1,54 +1,52 @@
-// S14.9: import.
-ghost use Rattle.std.specs.Prelude.{◌≡◌, length};
-ghost use Rattle.sheet.specs.Answers.{number_of, task_of, Says};
-ghost use Rattle.importer.specs.Import.{terms, import_answer, imported};
-ghost use Rattle.importer.specs.means.Nodes.{ReadSmall, nodes_answer};
+//! S14.9: import.
+ghost use Rattle.std.specs.Prelude.{◌≡◌, ◌+◌, ◌*◌, length};
+ghost use Rattle.sheet.specs.Refusal.{number_of, task_of, Says};
+ghost use Rattle.importer.specs.Import.{import_answer, imported};
+ghost use Rattle.importer.specs.means.Nodes.{nodes_answer};
 
-use crate::record::write_if;
+use crate::record::write_record;
 use crate::task::task_of;
-use crate::terms::{Terms, terms_lawful};
-use basics::numbers::is_within;
+use crate::terms::Terms;
 use graph_text::graph::{NodeGraph, read_graph};
-use sheet::answer::{Answer, NO_TASK, or_else, refused_unless};
-use sheet::rules::in_range;
+use sheet::refusal::Refusal;
 
-// Refusals 17 to 19.
-const BAD_TEXT: u8 = 17;
-
-const BAD_GRAPH: u8 = 18;
-
-const FIGURE_OUTSIDE: u8 = 19;
-
-// S9.17, S9.18: refusals 17 and 18 in this order, of what was read and the length of the buffer.
-fn graph_answer(graph: NodeGraph, t: Terms, room: usize) -> Answer
-    requires { ReadSmall graph }
-    ensures { result ≡ nodes_answer graph t room }
+/// S2.6: the bytes of the record of so many nodes.
+pub fn record_length(nodes: u16) -> usize
+    ensures { result ≡ 12 + 4 * nodes }
 {
-    let count = graph.count;
-    let asked = graph.lawful & terms_lawful(t) & (12 + 4 * (count as usize) <= room);
-    let by_text = refused_unless(asked, BAD_TEXT, NO_TASK);
-    let by_graph = refused_unless(is_within(1, 32, count) & graph.rising, BAD_GRAPH, NO_TASK);
-    or_else(by_text, by_graph)
+    12 + 4 * usize::from(nodes)
 }
 
-// Import: the graph of a text becomes the record of a task, at the front of the buffer; a refusal writes nothing.
-pub fn import(text: &[u8], level: u32, deadline: u32, percentage: u32, record: &mut [u8]) -> Answer
-    ensures answered { result ≡ import_answer text.now (terms level deadline percentage) (length «record».old) }
-    ensures says { Says result (number_of (import_answer text.now (terms level deadline percentage) (length «record».old))) (task_of (import_answer text.now (terms level deadline percentage) (length «record».old))) }
-    ensures written { «record».new ≡ imported text.now (terms level deadline percentage) «record».old }
+/// S9.17, S9.18: what is refused of a graph that was read, terms and the length of the buffer.
+#[tactic(auto, unfolding(crate::specs::means::Nodes::nodes_answer, crate::specs::Import::room_for))]
+fn graph_answer(graph: &NodeGraph, t: Terms, room: usize) -> Result<(), Refusal>
+    ensures { result ≡ nodes_answer graph.now t room }
 {
-    let t = Terms {
-        level,
-        deadline,
-        percentage,
-    };
-    let graph = read_graph(text);
-    let answer = graph_answer(graph, t, record.len());
-    if let Answer::Refused(_, _) = answer {
-        return answer;
+    if !(t.is_lawful() && record_length(graph.count) <= room) {
+        return Err(Refusal::BadText);
     }
-    let task = task_of(graph, t);
-    let inside = in_range(task.level, task.figures);
-    write_if(inside, record, task);
-    refused_unless(inside, FIGURE_OUTSIDE, NO_TASK)
+    if !((1..=32).contains(&graph.count) && graph.rising) {
+        return Err(Refusal::BadGraph);
+    }
+    Ok(())
+}
+
+/// Import: the graph of a text becomes the record of a task, at the front of the buffer; a refusal writes nothing.
+pub fn import(text: &[u8], t: Terms, record: &mut [u8]) -> Result<(), Refusal>
+    ensures answered { result ≡ import_answer text.now t (length «record».old) }
+    ensures says { Says result
+        (number_of (import_answer text.now t (length «record».old)))
+        (task_of (import_answer text.now t (length «record».old))) }
+    ensures written { «record».new ≡ imported text.now t «record».old }
+{
+    let Ok(graph) = read_graph(text) else {
+        return Err(Refusal::BadText);
+    };
+    graph_answer(&graph, t, record.len())?;
+    let task = task_of(&graph, t);
+    if !task.figures.are_in_range(task.level) {
+        return Err(Refusal::FigureOutside);
+    }
+    write_record(record, &task);
+    Ok(())
 }

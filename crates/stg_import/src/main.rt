@@ -1,204 +1,221 @@
-// `stg_import FILE level D percentage`: writes the record that import makes of the file's graph (S14.9) to standard output. Its exit
-// status is always 0: what it can't do is one line on standard error, and then standard output stays empty.
+//! `stg_import FILE level D percentage`: writes the record that import makes of the file's graph (S14.9) to standard
+//! output. Its exit status is always 0: what it can't do is one line on standard error, and then standard output
+//! stays empty.
 #![tactic(auto)]
 
 ghost use Rattle.std.specs.Prelude.{◌+◌, ◌*◌, ◌≤◌, length};
 
-use graph_text::text::{Next, next_numeral};
-use importer::import::import;
-use importer::terms::{Terms, terms_lawful};
-use input::read_full;
-use sheet::answer::Answer;
+use graph_text::text::{BadFormat, Numerals};
+use importer::import::{import, record_length};
+use importer::terms::Terms;
+use input::{has_word, read_full};
+use sheet::refusal::Refusal;
 use std::env::{Env, FillError};
 use std::fs::{File, Files};
-use std::io;
 use std::io::Read;
+use std::{fmt, io};
 
-// The bytes of a word of the command line that is read.
+/// The bytes of a word of the command line that is read.
 const WORD: usize = 4096;
 
-// The bytes of a file that is read.
+/// The bytes of a file that is read. It has a fixed buffer, as its words have: what an import needs is then there from
+/// the start, and the lack of memory is no failure of its own.
 const FILE: usize = 65536;
 
-// One line on standard error.
-fn say(rt: &impl Eprint, words: &str) {
-    let _ = eprintln!(rt; "stg_import: {words}");
+/// What the program can't do.
+#[derive(Drop)]
+enum Failure<'a> {
+    /// There are not four words behind the program's name.
+    Usage,
+    /// A word that has to be a number is none.
+    NoNumber(&'a str),
+    /// The file's name can't be read.
+    NoName(FillError),
+    /// The file's name is no text.
+    NoText,
+    /// A call on the file failed.
+    File(&'a str, SystemError),
+    /// The file has too many bytes.
+    LongFile,
+    /// Refusal 17, of the terms.
+    BadTerms,
+    /// Import refused.
+    Refused(Refusal),
+    /// Standard output took no record.
+    NotWritten,
 }
 
-// What an error says, without the number that std writes behind it.
-fn without_number(words: &str) -> &str {
-    match words.split_once(" (os error ") {
-        Some((front, _)) => front,
-        None => words,
+impl fmt::Display for Failure<'_> {
+    fn fmt<W: fmt::Write>(&self, f: &mut fmt::Formatter<W>) -> fmt::Result {
+        match self {
+            Failure::Usage => write!(f, "usage: stg_import FILE level D percentage"),
+            Failure::NoNumber(word) => write!(f, "{word}: expected a number from 0 to 65535"),
+            Failure::NoName(FillError::TooLong) => write!(f, "FILE: File name too long"),
+            Failure::NoName(FillError::NotPresent) => write!(f, "FILE: Invalid argument"),
+            Failure::NoText => write!(f, "FILE: expected a name in UTF-8"),
+            Failure::File(path, error) => write!(f, "{path}: {error}"),
+            Failure::LongFile => write!(f, "expected a file of at most 65536 bytes"),
+            Failure::BadTerms => write!(
+                f,
+                "refused 17: expected level 0 (low) or 1 (high), and a percentage from 100 to 400, of a low task 100"
+            ),
+            Failure::Refused(Refusal::BadText) => write!(
+                f,
+                "refused 17: the file is {}",
+                BadFormat
+            ),
+            Failure::Refused(refusal) => write!(f, "refused {}: {}", refusal.number(), *refusal),
+            Failure::NotWritten => write!(f, "the record could not be written"),
+        }
     }
 }
 
-// One line on standard error: the file, and what befell it.
-fn say_failed(rt: &(impl Eprint + Alloc), path: &str, error: &io::Error) {
-    let _ = match format!(in rt.alloc(); "{error}") {
-        Ok(text) => {
-            let words = without_number(text.as_str());
-            eprintln!(rt; "stg_import: {path}: {words}")
-        },
-        Err(_) => eprintln!(rt; "stg_import: {path}: {error}"),
-    };
+impl From<FillError> for Failure<'_> {
+    fn from(error: FillError) -> Self {
+        Failure::NoName(error)
+    }
 }
 
-// Word i of the command line as a decimal number from 0 to 65,535, if it is one.
-fn number_at(rt: &impl Env, i: usize) -> Option<u32> {
-    let mut word = [0u8; WORD];
-    let Ok(n) = rt.arg(i, &mut word) else {
-        return None;
-    };
-    let next = next_numeral(&word[..n], 0);
-    let Next::Numeral(value, behind) = next else {
-        return None;
-    };
-    if behind == n { Some(value) } else { None }
+impl From<Refusal> for Failure<'_> {
+    fn from(refusal: Refusal) -> Self {
+        Failure::Refused(refusal)
+    }
 }
 
-// The three numbers behind the file's name. Of the first that is none it says so.
-fn terms_asked(rt: &(impl Env + Eprint)) -> Option<Terms> {
-    let Some(level) = number_at(rt, 2) else {
-        say(rt, "level: expected a number from 0 to 65535");
-        return None;
-    };
-    let Some(deadline) = number_at(rt, 3) else {
-        say(rt, "D: expected a number from 0 to 65535");
-        return None;
-    };
-    let Some(percentage) = number_at(rt, 4) else {
-        say(rt, "percentage: expected a number from 0 to 65535");
-        return None;
-    };
-    Some(Terms {
-        level,
-        deadline,
-        percentage,
+/// What the system says of a file, or its error where no memory was left for the words.
+#[derive(Drop)]
+struct SystemError(Result<String, io::Error>);
+
+impl SystemError {
+    /// The words of an error.
+    fn new(rt: &impl AllocGlobal, error: io::Error) -> SystemError {
+        SystemError(format!(in rt.alloc(); "{error}").map_err(|_| error))
+    }
+}
+
+impl fmt::Display for SystemError {
+    fn fmt<W: fmt::Write>(&self, f: &mut fmt::Formatter<W>) -> fmt::Result {
+        match &self.0 {
+            Ok(words) => write!(f, "{}", without_number(words.as_str())),
+            Err(error) => write!(f, "{error}"),
+        }
+    }
+}
+
+/// What an error says, without the number that std writes behind it.
+fn without_number(words: &str) -> &str {
+    words
+        .split_once(" (os error ")
+        .map_or(words, |(front, _)| front)
+}
+
+/// A word as a decimal number from 0 to 65,535.
+fn number_of(word: &[u8]) -> Result<u32, BadFormat> {
+    let mut numerals = Numerals::new(word);
+    let value = numerals.take()?;
+    if numerals.is_empty() {
+        Ok(u32::from(value))
+    } else {
+        Err(BadFormat)
+    }
+}
+
+/// Word i of the command line, of this name, as a decimal number from 0 to 65,535.
+fn number_at<'a>(rt: &impl Env, i: usize, name: &'a str) -> Result<u32, Failure<'a>> {
+    let mut word = [0; WORD];
+    let n = rt.arg(i, &mut word).map_err(|_| Failure::NoNumber(name))?;
+    number_of(&word[..n]).map_err(|_| Failure::NoNumber(name))
+}
+
+/// The three numbers behind the file's name.
+fn terms_asked(rt: &impl Env) -> Result<Terms, Failure<'static>> {
+    Ok(Terms {
+        level: number_at(rt, 2, "level")?,
+        deadline: number_at(rt, 3, "D")?,
+        percentage: number_at(rt, 4, "percentage")?,
     })
 }
 
-// Refusal 17: of the terms where they are at fault, else of the text.
-fn say_17(rt: &impl Eprint, t: Terms) {
-    if terms_lawful(t) {
-        say(
-            rt,
-            "refused 17: the file is no graph in the Standard Task Graph format",
-        );
-    } else {
-        say(
-            rt,
-            "refused 17: expected level 0 (low) or 1 (high), and a percentage from 100 to 400, of a low task 100",
-        );
-    }
-}
-
-// Why import refused (S9.17 to S9.19).
-fn say_refused(rt: &impl Eprint, number: u8, t: Terms) {
-    match number {
-        18 => say(
-            rt,
-            "refused 18: there are more than 32 nodes, or none, or a predecessor is not below its own entry",
-        ),
-        19 => say(
-            rt,
-            "refused 19: D, a sum of times or a longest chain is not in 1 to 10000",
-        ),
-        _ => say_17(rt, t),
-    }
-}
-
-// S2.6: the bytes of a record of k nodes.
-fn record_length(k: u8) -> usize
-    ensures { result ≤ 12 + 4 * 255 }
-{
-    12 + 4 * (k as usize)
-}
-
-// Writes the record at the front of some bytes to standard output.
-fn put_record(rt: &(impl Print + Eprint), bytes: &[u8])
+/// Writes the record at the front of some bytes to standard output.
+fn put_record(rt: &impl Print, bytes: &[u8]) -> Result<(), Failure<'static>>
     requires { 12 + 4 * 255 ≤ length bytes.now }
 {
-    let n = record_length(bytes[1]);
-    if rt.write_all(&bytes[..n]).is_err() {
-        say(rt, "the record could not be written");
+    let n = record_length(u16::from(bytes[1]));
+    rt.write_all(&bytes[..n]).map_err(|_| Failure::NotWritten)
+}
+
+/// Imports a text of at most 65,536 bytes. An entry takes at least 6 of them, so the buffer has room for any graph
+/// that stands in it. Of refusal 17 the terms are named where they are at fault, else the text.
+fn import_text(rt: &impl Print, text: &[u8], t: Terms) -> Result<(), Failure<'static>> {
+    if !t.is_lawful() {
+        return Err(Failure::BadTerms);
+    }
+    let mut bytes = [0; FILE];
+    import(text, t, &mut bytes)?;
+    put_record(rt, &bytes)
+}
+
+/// Whether nothing more can be read.
+fn at_end<'a, F: Read>(
+    rt: &impl AllocGlobal,
+    file: &mut F,
+    path: &'a str,
+) -> Result<(), Failure<'a>> {
+    let read = file
+        .read(&mut [0; 1])
+        .map_err(|error| Failure::File(path, SystemError::new(rt, error)))?;
+    if read == 0 {
+        Ok(())
+    } else {
+        Err(Failure::LongFile)
     }
 }
 
-// Imports a text of at most 65,536 bytes. An entry takes at least 6 of them, so the buffer has room for any graph that stands in it.
-fn import_text(rt: &(impl Print + Eprint), text: &[u8], t: Terms) {
-    let mut bytes = [0u8; FILE];
-    let answer = import(text, t.level, t.deadline, t.percentage, &mut bytes);
-    match answer {
-        Answer::Accepted => put_record(rt, &bytes),
-        Answer::Refused(number, _) => say_refused(rt, number, t),
-    }
-}
-
-// Whether nothing more can be read; where a read fails, or the file goes on, that is said.
-fn is_at_end<F: Read>(rt: &(impl Eprint + Alloc), file: &mut F, path: &str) -> bool {
-    let mut more = [0u8; 1];
-    match file.read(&mut more) {
-        Ok(0) => true,
-        Ok(_) => {
-            say(rt, "expected a file of at most 65536 bytes");
-            false
-        },
-        Err(error) => {
-            say_failed(rt, path, &error);
-            false
-        },
-    }
-}
-
-// Imports what stands in an open file.
-fn import_from<F: Read>(rt: &(impl Print + Eprint + Alloc), file: &mut F, path: &str, t: Terms) {
-    let mut text = [0u8; FILE];
+/// Imports what stands in an open file.
+/// No struct holds `rt` and the path: each function takes of `rt` just what it uses.
+fn import_from<'a, F: Read>(
+    rt: &(impl Print + AllocGlobal),
+    file: &mut F,
+    path: &'a str,
+    t: Terms,
+) -> Result<(), Failure<'a>> {
+    let mut text = [0; FILE];
     let n = read_full(file, &mut text);
-    if is_at_end(rt, file, path) {
-        import_text(rt, &text[..n], t);
-    }
+    at_end(rt, file, path)?;
+    import_text(rt, &text[..n], t)
 }
 
-// Imports the file of this name.
-fn import_named(rt: &(impl Files + Print + Eprint + Alloc), path: &str, t: Terms) {
-    match File::open(rt, path) {
-        Ok(file) => {
-            let mut file = file;
-            import_from(rt, &mut file, path, t);
-        },
-        Err(error) => say_failed(rt, path, &error),
-    }
+/// Imports the file of this name.
+fn import_named<'a>(
+    rt: &(impl Files + Print + AllocGlobal),
+    path: &'a str,
+    t: Terms,
+) -> Result<(), Failure<'a>> {
+    let mut file = File::open(rt, path).map_err(|error| Failure::File(
+        path,
+        SystemError::new(rt, error),
+    ))?;
+    import_from(rt, &mut file, path, t)
 }
 
-// Imports the file that the first argument names.
-fn import_file(rt: &(impl Files + Env + Print + Eprint + Alloc), t: Terms) {
-    let mut word = [0u8; WORD];
-    match rt.arg(1, &mut word) {
-        Ok(n) => match str::from_utf8(&word[..n]) {
-            Ok(path) => import_named(rt, path, t),
-            Err(_) => say(rt, "FILE: expected a name in UTF-8"),
-        },
-        Err(FillError::TooLong) => say(rt, "FILE: File name too long"),
-        Err(FillError::NotPresent) => say(rt, "FILE: Invalid argument"),
+/// Imports as the command line asks; the file's name is read into `word`.
+fn import_asked<'a>(
+    rt: &(impl Files + Env + Print + AllocGlobal),
+    word: &'a mut [u8],
+) -> Result<(), Failure<'a>> {
+    if !has_word(rt, 4) || has_word(rt, 5) {
+        return Err(Failure::Usage);
     }
+    let t = terms_asked(rt)?;
+    let n = rt.arg(1, word)?;
+    let path = str::from_utf8(&word[..n]).map_err(|_| Failure::NoText)?;
+    import_named(rt, path, t)
 }
 
-// Whether the command line has a word i. Word 0 is the program's name.
-fn has_word(rt: &impl Env, i: usize) -> bool {
-    match rt.arg(i, &mut []) {
-        Err(FillError::NotPresent) => false,
-        _ => true,
-    }
-}
-
+/// Imports, or says what can't be done.
 fn main(rt: HostRuntime) {
-    if !has_word(&rt, 4) || has_word(&rt, 5) {
-        say(&rt, "usage: stg_import FILE level D percentage");
-        return;
+    let mut word = [0; WORD];
+    if let Err(failure) = import_asked(&rt, &mut word) {
+        let _ = eprintln!(rt; "stg_import: {failure}");
     }
-    let Some(t) = terms_asked(&rt) else {
-        return;
-    };
-    import_file(&rt, t);
 }

@@ -1,15 +1,12 @@
 -- Entries read from numerals one after the other, and what is held of them.
-use Rattle.std.specs.Prelude.{ℕ, zero, suc, ◌-◌, ◌^◌, ◌≤◌, min, Bool, true, cond, ◌&&◌, List, [], ◌∷◌, ◌≡◌, eqb, ltb, length, set, replicate}
+use Rattle.std.specs.Prelude.{ℕ, zero, suc, ◌-◌, ◌^◌, min, true, Bool, cond, ◌&&◌, List, [], ◌∷◌, ◌≡◌, eqb, ltb, set, replicate, Result, Ok, Err}
 use Rattle.std.proofs.Math.Option.{Option, none, some}
 use Rattle.std.specs.Int.Bits.{bit_or}
 use Rattle.basics.specs.Numbers.{within}
 use Rattle.graph_text.specs.declared.graph.Node.{Node}
-use Rattle.graph_text.specs.declared.graph.EntryRead.{EntryRead}
-use Rattle.graph_text.specs.declared.graph.EntryRead.TheVariants.{Read, Fault}
 use Rattle.graph_text.specs.declared.graph.NodeGraph.{NodeGraph}
+use Rattle.graph_text.specs.declared.text.BadFormat.{BadFormat}
 use Rattle.graph_text.specs.Graph.{time_lawful}
-use Rattle.graph_text.specs.Read.{no_nodes}
-use Rattle.graph_text.specs.means.Scan.{numerals_at}
 
 -- What was taken from the front of some numerals, and the numerals behind it.
 pub record Taken (A : Type 0) : Type 0 where
@@ -58,21 +55,14 @@ entry_from count v (number ∷ time ∷ []) = none
 entry_from count v (number ∷ time ∷ many ∷ rest) =
     cond (eqb number v && time_lawful count v time) (named_from v many (node_with time) rest) none
 
--- What an entry's reading tells: the node and the place behind it, or that the numerals say no such entry.
-abbrev pub Reads : (List ℕ → Option (Taken Node)) → List ℕ → ℕ → EntryRead → Type 0
-Reads take text from (Read node next) =
-    (next ≤ length text) × (taken_from take (numerals_at text from) ≡ taken_before node (numerals_at text next))
-Reads take text from Fault = taken_from take (numerals_at text from) ≡ none
-
--- What is held of the entries that were read: times and masks of the nodes, and whether all names were lower numbers.
-pub record Held : Type 0 where
-  pub times : List ℕ
-  pub masks : List ℕ
-  pub rising : Bool
+-- What a reading tells of the numerals of a text, old, and of those that are left, new: what was taken, or that it can't be.
+abbrev pub Reads : {A : Type 0} → (List ℕ → Option (Taken A)) → Option (List ℕ) → Option (List ℕ) → Result A BadFormat → Type 0
+Reads take old new (Ok value) = taken_from take old ≡ taken_before value new
+Reads take old new (Err e) = taken_from take old ≡ none
 
 -- Nothing held.
-abbrev pub none_held : Held
-none_held = record { times = replicate 32 0; masks = replicate 32 0; rising = true }
+abbrev pub none_held : ℕ → NodeGraph
+none_held count = record { times = replicate 32 0; masks = replicate 32 0; count = count; rising = true }
 
 -- S14.5: whether entry v is one of the first 32 nodes.
 unfoldable pub is_node : ℕ → ℕ → Bool
@@ -83,28 +73,28 @@ unfoldable pub stored_at : ℕ → ℕ → ℕ → List ℕ → List ℕ
 stored_at count v x held = cond (is_node count v) (set held (v - 1) x) held
 
 -- One entry more, number v.
-unfoldable pub held_with : ℕ → ℕ → Node → Held → Held
+unfoldable pub held_with : ℕ → ℕ → Node → NodeGraph → NodeGraph
 held_with count v node held =
     record {
       times = stored_at count v node.time held.times;
       masks = stored_at count v node.mask held.masks;
+      count = count;
       rising = held.rising && node.rising;
     }
 
 -- So many entries more, from number v on, and no numeral behind them.
-unfoldable pub held_from : ℕ → ℕ → ℕ → Held → List ℕ → Option Held
+unfoldable pub held_from : ℕ → ℕ → ℕ → NodeGraph → List ℕ → Option NodeGraph
 held_from count v zero held [] = some held
 held_from count v zero held (n ∷ numerals) = none
 held_from count v (suc more) held numerals =
     after_taken (entry_from count v numerals) (λ node rest. held_from count (suc v) more (held_with count v node held) rest)
 
 -- The same of numerals that may not be there.
-abbrev pub held_of : ℕ → ℕ → ℕ → Held → Option (List ℕ) → Option Held
+abbrev pub held_of : ℕ → ℕ → ℕ → NodeGraph → Option (List ℕ) → Option NodeGraph
 held_of count v more held none = none
 held_of count v more held (some numerals) = held_from count v more held numerals
 
--- The graph by its nodes that is held, or zeros.
-abbrev pub held_graph : ℕ → Option Held → NodeGraph
-held_graph count none = no_nodes
-held_graph count (some held) =
-    record { lawful = true; count = count; rising = held.rising; times = held.times; masks = held.masks }
+-- The graph that is held, if one is.
+abbrev pub held_graph : Option NodeGraph → Result NodeGraph BadFormat
+held_graph none = Err (record {})
+held_graph (some held) = Ok held

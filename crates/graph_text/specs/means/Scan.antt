@@ -1,15 +1,10 @@
--- A text read numeral by numeral, from a place on.
-use Rattle.std.specs.Prelude.{ℕ, ◌+◌, ◌-◌, ◌*◌, ◌≤◌, ◌<◌, false, cond, List, [], ◌∷◌, ◌≡◌, leb, length, drop}
+-- A text read numeral by numeral.
+use Rattle.std.specs.Prelude.{ℕ, ◌+◌, ◌-◌, ◌*◌, true, false, Bool, cond, List, [], ◌∷◌, ◌≡◌, leb, Result, Ok, Err, Some, None}
+use Rattle.std.specs.Prelude.{Option as Maybe}
 use Rattle.std.proofs.Math.Option.{Option, none, some}
-use Rattle.basics.specs.Numbers.{byte_at}
 use Rattle.basics.specs.Digits.{digit, is_digit}
-use Rattle.graph_text.specs.declared.text.Next.{Next}
-use Rattle.graph_text.specs.declared.text.Next.TheVariants.{Numeral, Nothing, Fault}
-use Rattle.graph_text.specs.Text.{is_blank, before_mark, words_of, numeral_limit, numbers_of, numerals_of}
-
--- The numerals of a text from a place on.
-unfoldable pub numerals_at : List ℕ → ℕ → Option (List ℕ)
-numerals_at text at = numerals_of (drop at text)
+use Rattle.graph_text.specs.declared.text.BadFormat.{BadFormat}
+use Rattle.graph_text.specs.Text.{is_blank, words_of, numeral_limit, numbers_of}
 
 -- A number in front of others, where these could be read.
 abbrev pub number_before : ℕ → Option (List ℕ) → Option (List ℕ)
@@ -27,23 +22,25 @@ numerals_after v (b ∷ bytes) =
     cond (is_blank b) (numeral_before v (numbers_of (words_of bytes)))
     (cond (is_digit b) (numerals_after (10 * v + (b - digit 0)) bytes) none)
 
--- What is told of the numerals from a place on: the first of them, and the place behind it; that there is none; or that there is
--- something else than numerals.
-abbrev pub Told : List ℕ → ℕ → Next → Type 0
-Told text from (Numeral n next) =
-    (next ≤ length text) × (n ≤ numeral_limit) × (numerals_at text from ≡ number_before n (numerals_at text next))
-Told text from Nothing = numerals_at text from ≡ some []
-Told text from Fault = numerals_at text from ≡ none
+-- What is told of the numerals of a text, old, and of those that are left, new: the first of them; that there is none; or that
+-- something else stands among them.
+abbrev pub TakesMaybe : Option (List ℕ) → Option (List ℕ) → Result (Maybe ℕ) BadFormat → Type 0
+TakesMaybe old new (Ok (Some n)) = old ≡ number_before n new
+TakesMaybe old new (Ok None) = old ≡ some []
+TakesMaybe old new (Err e) = old ≡ none
 
--- The same behind digits that say v and end at a place.
-abbrev pub ToldAfter : ℕ → List ℕ → ℕ → Next → Type 0
-ToldAfter v text from (Numeral n next) =
-    (next ≤ length text)
-    × (n ≤ numeral_limit)
-    × (numerals_after v (before_mark (drop from text)) ≡ number_before n (numerals_at text next))
-ToldAfter v text from Nothing = ⊥
-ToldAfter v text from Fault = numerals_after v (before_mark (drop from text)) ≡ none
+-- Whether there is a numeral in front.
+abbrev pub has_first : Option (List ℕ) → Bool
+has_first none = false
+has_first (some []) = false
+has_first (some (n ∷ numbers)) = true
 
--- A place at which no blank stands, or the end.
-unfoldable pub StopsAt : List ℕ → ℕ → Type 0
-StopsAt text at = at < length text → is_blank (byte_at text at) ≡ false
+-- The same of a numeral that has to be there.
+abbrev pub Takes : Option (List ℕ) → Option (List ℕ) → Result ℕ BadFormat → Type 0
+Takes old new (Ok n) = old ≡ number_before n new
+Takes old new (Err e) = has_first old ≡ false
+
+-- No blank is in front.
+unfoldable pub BeginsFull : List ℕ → Type 0
+BeginsFull [] = Unit
+BeginsFull (b ∷ bytes) = is_blank b ≡ false

@@ -1,32 +1,22 @@
 -- The task of a graph that is held by its nodes, and its answer.
-use Rattle.std.specs.Prelude.{ℕ, ◌≤◌, not, ◌&&◌, List, leb}
+use Rattle.std.specs.Prelude.{ℕ, not, ◌&&◌, List, leb}
 use Rattle.basics.specs.Lists.{cells}
 use Rattle.basics.specs.Numbers.{within}
-use Rattle.sheet.specs.declared.answer.Answer.{Answer}
+use Rattle.sheet.specs.declared.refusal.Refusal.TheVariants.{BadText, BadGraph}
 use Rattle.sheet.specs.declared.task.Task.{Task}
-use Rattle.sheet.specs.Answers.{no_task, refused_if, ◌or_else◌}
-use Rattle.graph_text.specs.Text.{numeral_limit}
+use Rattle.sheet.specs.Refusal.{Answer, refused_if, ◌or_else◌}
 use Rattle.graph_text.specs.declared.graph.NodeGraph.{NodeGraph}
 use Rattle.chains.specs.Chains.{budget_of}
 use Rattle.chains.specs.means.Bounds.{time_at}
 use Rattle.importer.specs.declared.terms.Terms.{Terms}
 use Rattle.importer.specs.Task.{terms_lawful, scaled}
-use Rattle.importer.specs.Import.{bad_text, bad_graph, room_for}
+use Rattle.importer.specs.Import.{room_for}
 
--- Times that numerals can say.
-unfoldable pub TimesSmall : List ℕ → Type 0
-TimesSmall times = (v : ℕ) → time_at times v ≤ numeral_limit
-
--- What is read of a text as far as sums lean on it: no number exceeds a numeral.
-pub record ReadSmall (graph : NodeGraph) : Type 0 where
-  pub count : graph.count ≤ numeral_limit
-  pub times : TimesSmall graph.times
-
--- The overload times of k nodes.
+-- The times of k nodes by a percentage.
 unfoldable pub scaled_times : ℕ → ℕ → List ℕ → List ℕ
 scaled_times k percentage times = cells 32 (λ v. scaled percentage (time_at times v)) 0 k
 
--- The task.
+-- The task. At 100 percent the times are what they were.
 unfoldable pub nodes_task : NodeGraph → Terms → Task
 nodes_task graph t =
     record {
@@ -35,7 +25,7 @@ nodes_task graph t =
       figures =
           record {
             deadline = t.deadline;
-            nominal = budget_of graph.masks (time_at graph.times) graph.count;
+            nominal = budget_of graph.masks (time_at (scaled_times graph.count 100 graph.times)) graph.count;
             overload = budget_of graph.masks (time_at (scaled_times graph.count t.percentage graph.times)) graph.count;
           };
       predecessors = graph.masks;
@@ -44,5 +34,5 @@ nodes_task graph t =
 -- Refusals 17 and 18 in this order.
 unfoldable pub nodes_answer : NodeGraph → Terms → ℕ → Answer
 nodes_answer graph t room =
-    refused_if (not (graph.lawful && (terms_lawful t && leb (room_for graph.count) room))) bad_text no_task
-    or_else refused_if (not (within 1 32 graph.count && graph.rising)) bad_graph no_task
+    refused_if (not (terms_lawful t && leb (room_for graph.count) room)) BadText
+    or_else refused_if (not (within 1 32 graph.count && graph.rising)) BadGraph

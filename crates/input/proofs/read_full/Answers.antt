@@ -1,3 +1,4 @@
+-- `input::read_full`: a read that gives bytes, one that gives none, and one that fails.
 -- What a read puts behind the front makes the front longer.
 use Rattle.std.proofs.Common.{rules, arith, ◌≡◌, ◌≤◌, ◌+◌, ◌-◌, ◌∙◌, ℕ, List, ◌++◌, length, take, sym, ap, subst, length-take-le}
 use Rattle.std.proofs.Math.Seq.{take-append-add}

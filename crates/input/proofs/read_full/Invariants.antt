@@ -1,3 +1,4 @@
+-- `input::read_full`: the loop's invariant and measure.
 -- The bytes that were read stand at the front.
 use Rattle.std.proofs.Common.{length, take, ◌-◌, ◌≤◌, ◌≡◌}
 use Rattle.std.specs.Io.KnownBytes.{Consumes}

@@ -1,38 +1,24 @@
--- `graph_text::graph::read_named`: the goals that the check leaves.
-use Prim.Native.Nat.{◌-◌}
-use mathlib.Core.Path.{◌≡◌, refl, sym, ap, ◌∙◌}
-use native.Mathlib.Omega.{arith}
-use Rattle.graph_text.specs.declared.graph.Node.{Node}
-use Rattle.graph_text.specs.means.Scan.{numerals_at}
+-- `graph_text::graph::read_named`: a predecessor is taken, or none is told, or none is left.
+use Rattle.std.proofs.Common.{◌≡◌, ◌-◌, ◌+◌, sym, ap, ◌∙◌, arith}
+use Rattle.std.proofs.lemmas.Result.{err_from_is_err_and}
 use Rattle.graph_text.specs.means.Entries.{taken_from, named_from}
-use Rattle.graph_text.proofs.Steps.{no_numeral, numeral_told, named_empty, named_step, named_all_taken}
+use Rattle.graph_text.proofs.Steps.{no_numeral, named_empty, named_step, named_all_taken}
 use Rattle.graph_text.proofs.graph.read_named.Goals as goal
 
-pub loop-left-init : goal.loop-left-init
-loop-left-init c = (c.requires, refl)
+pub returns-in_err-take : goal.returns-in_err-take
+returns-in_err-take c =
+    let p = err_from_is_err_and c.from_residual.result c.from_residual.ensures.1 in
+    rw p.1 (sym c.loop.invariant ∙ no_numeral (named_from c.args.v (c.args.many - c.loop.counter) c.loop.node) c.loop.numerals c.in_err-take.ensures.told
+    (named_empty c.args.v (c.args.many - c.loop.counter) c.loop.node (omega arith)))
 
-pub next_numeral-next-requires : goal.next_numeral-next-requires
-next_numeral-next-requires c = c.loop-left.invariant.0
-
-pub returns-in_default : goal.returns-in_default
-returns-in_default c =
-    sym c.loop-left.invariant.1
-    ∙ no_numeral (named_from c.args.v c.loop-left.left c.loop-left.node) c.args.text.now c.loop-left.at c.next_numeral-next.result c.in_default.not-Numeral
-    c.next_numeral-next.ensures (named_empty c.args.v c.loop-left.left c.loop-left.node c.loop-left-test.true)
-
-pub loop-left-preserved : goal.loop-left-preserved
-loop-left-preserved c =
-    let told = numeral_told c.args.text.now c.loop-left.at c.in-Numeral.p c.in-Numeral.behind c.next_numeral-next.result c.in-Numeral.is c.next_numeral-next.ensures in
-    let step =
-    named_step c.args.v c.loop-left.left c.in-Numeral.p c.loop-left.node (numerals_at c.args.text.now c.in-Numeral.behind) c.loop-left-test.true in (
-      told.0,
-      ap (λ (node : Node). taken_from (named_from c.args.v (c.loop-left.left - 1) node) (numerals_at c.args.text.now c.in-Numeral.behind)) c.with_named-node.ensures
-          ∙ sym step
-          ∙ ap (taken_from (named_from c.args.v c.loop-left.left c.loop-left.node)) (sym told.2)
-          ∙ c.loop-left.invariant.1,
-    )
+pub loop-preserved : goal.loop-preserved
+loop-preserved c =
+    let left : c.args.many - (c.loop.counter + 1) ≡ c.args.many - c.loop.counter - 1 = omega arith in
+    rw (left, c.name.ensures)
+    (sym (named_step c.args.v (c.args.many - c.loop.counter) c.in_ok-take.field-0 c.loop.node c.take.new.self (omega arith))
+    ∙ ap (taken_from (named_from c.args.v (c.args.many - c.loop.counter) c.loop.node)) (sym c.in_ok-take.ensures.told)
+    ∙ c.loop.invariant)
 
 pub returns : goal.returns
 returns c =
-    let none : c.loop-left.left ≡ 0 = omega arith in
-    (c.loop-left.invariant.0, sym c.loop-left.invariant.1 ∙ named_all_taken c.args.v c.loop-left.left c.loop-left.node (numerals_at c.args.text.now c.loop-left.at) none)
+    sym c.loop.invariant ∙ named_all_taken c.args.v (c.args.many - c.loop.counter) c.loop.node c.loop.numerals (omega arith)

@@ -1,66 +1,44 @@
--- `graph_text::text::read_digits`: the goals that the check leaves.
-use Prim.Native.Nat.{◌+◌, ◌≤◌, ◌<◌}
-use mathlib.Core.Bool.{true, false}
-use mathlib.Core.Path.{◌≡◌, refl, sym, ◌∙◌}
-use native.Mathlib.Omega.{arith}
-use borrow.Author.Rules.{rules}
-use lib.ListN.{length, drop, get_or}
-use Rattle.basics.specs.Digits.{is_digit}
-use Rattle.basics.specs.Numbers.{byte_at}
+-- `graph_text::text::read_digits`: a digit goes into the value, or makes it too great; else the numeral ends.
+use Rattle.std.proofs.Common.{◌≡◌, ◌*◌, ◌+◌, ◌-◌, sym, ap, ◌∙◌, arith}
+use Rattle.std.proofs.lemmas.Result.{err_from_is_err_and}
 use Rattle.graph_text.specs.Text.{before_mark}
-use Rattle.graph_text.proofs.Numerals.{digit-within, digit_more, digits_end, digits_to_end, too_great}
-use Rattle.graph_text.proofs.text.read_digits.Goals.{Else-not-is_digit}
+use Rattle.graph_text.specs.means.Scan.{numerals_after}
+use Rattle.graph_text.proofs.Numerals.{digit_is, no_bytes, digit_more, digits_end, digits_to_end, too_great, more_taken, more_refused}
+use Rattle.graph_text.proofs.text.read_digits.Goals.{Else-not-is_ascii_digit, in-Some+then-not-is_ascii_digit, in_default}
 use Rattle.graph_text.proofs.text.read_digits.Goals as goal
 
-pub loop-at-init : goal.loop-at-init
-loop-at-init c = (c.requires.0, c.requires.1, refl)
+-- Where there is a digit, it goes into the value.
+read_at : (c : Else-not-is_ascii_digit) →
+    numerals_after (10 * c.loop-b.value + (c.in-Some.b.now - 48)) (before_mark c.in-Some.behind.now)
+    ≡ numerals_after c.args.first (before_mark c.args.text.now)
+read_at c =
+    let one = sym (digit_is _) ∙ sym c.is_ascii_digit.ensures.value ∙ c.if-not-is_ascii_digit.false in
+    digit_more c.in-Some.b.now c.in-Some.behind.now c.loop-b.value one
+    ∙ ap (λ text. numerals_after c.loop-b.value (before_mark text)) (sym c.in-Some.ensures.cases.0)
+    ∙ c.loop-b.invariant.same
 
-pub returns-then-not-is_digit : goal.returns-then-not-is_digit
-unfolding byte_at
-returns-then-not-is_digit c =
-    let inside : c.loop-at.at < length c.args.text.now = omega arith in
-    let other : is_digit (byte_at c.args.text.now c.loop-at.at) ≡ false = sym c.is_digit.ensures ∙ c.if-not-is_digit.true in
-    (c.loop-at.invariant.0, c.loop-at.invariant.1, sym c.loop-at.invariant.2 ∙ digits_end c.args.text.now c.loop-at.at inside c.loop-at.value c.loop-at.invariant.1 other)
+pub returns-in_err-value : goal.returns-in_err-value
+returns-in_err-value c =
+    let p = err_from_is_err_and c.from_residual.result c.from_residual.ensures.1 in
+    let great = more_refused _ _ _ _ c.with_digit.ensures (sym c.ok_or.ensures.value ∙ c.in_err-value.was) in
+    rw p.1 (sym (read_at (goal.at.returns-in_err-value c).Else-not-is_ascii_digit) ∙ too_great _ _ great)
 
--- Where the loop goes on there is a digit.
-digit_at : (c : Else-not-is_digit) →
-    is_digit (byte_at c.args.text.now c.loop-at.at) ≡ true
-unfolding byte_at
-digit_at c = sym c.is_digit.ensures ∙ c.if-not-is_digit.false
-
-range_at : (c : Else-not-is_digit) →
-    (48 ≤ get_or c.args.text.now c.loop-at.at 0)
-    × (get_or c.args.text.now c.loop-at.at 0 ≤ 57)
-unfolding byte_at
-range_at c = digit-within _ (digit_at c)
-
-pub overflow_sub-value : goal.overflow_sub-value
-overflow_sub-value c = (range_at c).0
-
-pub overflow_cast-value : goal.overflow_cast-value
-overflow_cast-value c = let r = range_at c in search rules
-
-pub overflow_add-value : goal.overflow_add-value
-overflow_add-value c = let r = range_at c in search rules
-
-pub returns-then-value-gt-LIMIT : goal.returns-then-value-gt-LIMIT
-unfolding byte_at
-returns-then-value-gt-LIMIT c =
-    let inside : c.loop-at.at < length c.args.text.now = omega arith in
-    sym c.loop-at.invariant.2
-    ∙ sym (digit_more c.args.text.now c.loop-at.at inside c.loop-at.value (digit_at (goal.at.returns-then-value-gt-LIMIT c).Else-not-is_digit))
-    ∙ too_great _ (before_mark (drop (c.loop-at.at + 1) c.args.text.now)) (omega (arith, c.if-value-gt-LIMIT.true))
-
-pub loop-at-preserved : goal.loop-at-preserved
-unfolding byte_at
-loop-at-preserved c =
-    let inside : c.loop-at.at < length c.args.text.now = omega arith in (
-      omega arith,
-      omega (arith, c.if-value-gt-LIMIT.false),
-      digit_more c.args.text.now c.loop-at.at inside c.loop-at.value (digit_at (goal.at.loop-at-preserved c).Else-not-is_digit) ∙ c.loop-at.invariant.2,
-    )
+pub loop-b-preserved : goal.loop-b-preserved
+loop-b-preserved c =
+    let more = more_taken _ _ _ _ c.with_digit.ensures (sym c.ok_or.ensures.value ∙ c.in_ok-value.was) in
+    record {
+      small = omega arith;
+      same = rw more.0 (read_at (goal.at.loop-b-preserved c).Else-not-is_ascii_digit);
+    }
 
 pub returns : goal.returns
 returns c =
-    let all : c.loop-at.at ≡ length c.args.text.now = omega arith in
-    (c.loop-at.invariant.0, c.loop-at.invariant.1, sym c.loop-at.invariant.2 ∙ digits_to_end c.args.text.now c.loop-at.at c.loop-at.value all c.loop-at.invariant.1)
+    elim c.match-split_first.branch [
+      | in-Some+then-not-is_ascii_digit w ↦
+          sym c.loop-b.invariant.same
+          ∙ rw w.in-Some.ensures.cases.0
+          (digits_end _ _ _ c.loop-b.invariant.small (sym (digit_is _) ∙ sym w.is_ascii_digit.ensures.value ∙ w.if-not-is_ascii_digit.true))
+      | in_default w ↦
+          sym c.loop-b.invariant.same
+          ∙ rw (no_bytes c.loop-b.rest.now w.in_default.ensures.cases) (digits_to_end c.loop-b.value c.loop-b.invariant.small)
+    ]

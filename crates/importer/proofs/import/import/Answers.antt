@@ -1,85 +1,90 @@
--- `import::import` meets its contract: 17 and 18 of what was read, then 19 of the task, and then the record. Assumes nothing.
-use Prim.Native.Nat.{◌+◌, ◌*◌, ◌≤◌}
-use mathlib.Core.Path.{◌≡◌, sym, ap, ◌∙◌, subst}
-use lib.ListN.{length}
+-- `importer::import::import`: the answer and the buffer, by the first cause that holds: no graph, 17 or 18, 19, or none.
+use Rattle.std.proofs.Common.{◌≡◌, ◌∙◌, Ok, Err, ◌≤◌, sym, ap, length}
+use Rattle.std.proofs.lemmas.Result.{err_from_is_err_and}
 use Rattle.basics.proofs.Logic.{within_bounds}
-use Rattle.sheet.specs.declared.answer.Answer.TheVariants.{Accepted}
+use mathlib.Core.Bool.{Bool, not}
+use Rattle.sheet.specs.declared.refusal.Refusal.TheVariants.{FigureOutside}
 use Rattle.sheet.specs.declared.task.Task.{Task}
+use Rattle.sheet.specs.Refusal.{refused_if}
 use Rattle.sheet.specs.Rules.{in_range}
 use Rattle.sheet.proofs.Said.{said}
-use Rattle.graph_text.specs.declared.graph.NodeGraph.{NodeGraph}
 use Rattle.graph_text.specs.Read.{read_of}
-use Rattle.importer.specs.Import.{terms, room_for}
-use Rattle.importer.specs.means.Nodes.{ReadSmall, nodes_task, nodes_answer}
-use Rattle.importer.proofs.Acceptance.{terms_kept}
-use Rattle.importer.proofs.Imports.{fine, read_small, read_refused, answer_by, left_by, left_alone}
-use Rattle.importer.proofs.import.import.Goals.{After-graph_answer-answer, After-in_range-inside, After-task_of-task, In_default}
+use Rattle.importer.specs.Import.{import_answer, room_for}
+use Rattle.importer.specs.means.Nodes.{nodes_answer, nodes_task}
+use Rattle.importer.proofs.Acceptance.{LawfulTerms, terms_kept}
+use Rattle.importer.proofs.Imports.{Fine, fine, read_none, read_refused, answer_by, written_by, left_alone}
+use Rattle.importer.proofs.import.import.Goals.{In-Ok, In_ok-graph_answer, After-are_in_range}
 use Rattle.importer.proofs.import.import.Goals as goal
 
--- The answer by what was read.
-answer_at : (c : After-graph_answer-answer) →
-    c.graph_answer-answer.result
-    ≡ nodes_answer (read_of c.args.text.now) (terms c.args.level c.args.deadline c.args.percentage) (length c.args.«record».now)
-answer_at c =
-    c.graph_answer-answer.ensures
-    ∙ ap (λ (g : NodeGraph). nodes_answer g (terms c.args.level c.args.deadline c.args.percentage) (length c.args.«record».now)) c.read_graph-graph.ensures
+pub returns-in_default : goal.returns-in_default
+returns-in_default c =
+    let refused = read_none c.args.text.now c.args.t (length c.args.«record».now) (sym c.read_graph.ensures ∙ c.in_default.is) in
+    record { answered = sym refused; says = said (sym refused); written = left_alone c.args.text.now c.args.t c.args.«record».now refused }
 
-pub graph_answer-answer-requires : goal.graph_answer-answer-requires
-graph_answer-answer-requires c = subst ReadSmall (sym c.read_graph-graph.ensures) (read_small c.args.text.now)
+-- What was read, and its answer.
+read_at : (c : In-Ok) → read_of c.args.text.now ≡ Ok c.in-Ok.graph
+read_at c = sym c.read_graph.ensures ∙ c.in-Ok.is
 
-pub returns-in-Refused : goal.returns-in-Refused
-returns-in-Refused c =
-    let asked = terms c.args.level c.args.deadline c.args.percentage in
-    let answer = read_refused c.args.text.now asked (length c.args.«record».now) (sym (answer_at (goal.at.returns-in-Refused c).After-graph_answer-answer) ∙ c.in-Refused.is) in
-    let same = c.in-Refused.is ∙ sym answer in
-    record { answered = same; says = said same; written = left_alone c.args.text.now asked c.args.«record».now answer }
+accepted_at : (c : In_ok-graph_answer) → nodes_answer c.in-Ok.graph c.args.t (length c.args.«record».now) ≡ Ok tt
+accepted_at c = sym c.graph_answer.ensures ∙ c.in_ok-graph_answer.was
 
--- Past the first test what was read is accepted.
-accepted_at : (c : In_default) →
-    nodes_answer (read_of c.args.text.now) (terms c.args.level c.args.deadline c.args.percentage) (length c.args.«record».now) ≡ Accepted
-accepted_at c = sym (answer_at (goal.at.In_default c).After-graph_answer-answer) ∙ c.in_default.is
+fine_at : (c : In_ok-graph_answer) → Fine c.in-Ok.graph c.args.t (length c.args.«record».now)
+fine_at c = fine c.in-Ok.graph c.args.t (length c.args.«record».now) (accepted_at c)
+
+few_at : (c : In_ok-graph_answer) → c.in-Ok.graph.count ≤ 32
+few_at c = (within_bounds 1 32 c.in-Ok.graph.count (fine_at c).count).1
+
+terms_at : (c : In_ok-graph_answer) → LawfulTerms c.args.t
+terms_at c = terms_kept c.args.t (fine_at c).terms
+
+pub returns-in_err-graph_answer : goal.returns-in_err-graph_answer
+returns-in_err-graph_answer c =
+    let p = err_from_is_err_and c.from_residual.result c.from_residual.ensures.1 in
+    let refused = read_refused c.args.text.now c.in-Ok.graph c.args.t (length c.args.«record».now)
+    (read_at (goal.at.returns-in_err-graph_answer c).In-Ok) (sym c.graph_answer.ensures ∙ c.in_err-graph_answer.was) in
+    let same : c.from_residual.result ≡ import_answer c.args.text.now c.args.t (length c.args.«record».now) = p.1 ∙ ap Err p.2 ∙ sym refused in
+    record { answered = same; says = said same; written = left_alone c.args.text.now c.args.t c.args.«record».now refused }
 
 pub task_of-task-requires : goal.task_of-task-requires
 task_of-task-requires c =
-    let asked = terms c.args.level c.args.deadline c.args.percentage in
-    let f = fine (read_of c.args.text.now) asked (length c.args.«record».now) (accepted_at (goal.at.task_of-task-requires c).In_default) in
-    let kept = terms_kept asked f.terms in
-    let few = (within_bounds 1 32 (read_of c.args.text.now).count f.count).1 in
-    record {
-      count_bound = (subst (λ (g : NodeGraph). g.count ≤ 32) (sym c.read_graph-graph.ensures) few, kept.level, kept.most);
-      read_small = subst ReadSmall (sym c.read_graph-graph.ensures) (read_small c.args.text.now);
-    }
+    let before = (goal.at.task_of-task-requires c).In_ok-graph_answer in
+    record { few = few_at before; lawful = (fine_at before).terms }
 
--- The task that was made, and whether its figures are in their range.
-task_at_lem : (c : After-task_of-task) →
-    c.task_of-task.result ≡ nodes_task (read_of c.args.text.now) (terms c.args.level c.args.deadline c.args.percentage)
-task_at_lem c =
-    c.task_of-task.ensures ∙ ap (λ (g : NodeGraph). nodes_task g (terms c.args.level c.args.deadline c.args.percentage)) c.read_graph-graph.ensures
+-- The answer by whether the figures are in their range.
+answered_at : (c : After-are_in_range) →
+    import_answer c.args.text.now c.args.t (length c.args.«record».now)
+    ≡ refused_if (not (in_range c.args.t.level (nodes_task c.in-Ok.graph c.args.t).figures)) FigureOutside
+answered_at c =
+    answer_by c.args.text.now c.in-Ok.graph c.args.t (length c.args.«record».now) (read_at (goal.at.After-are_in_range c).In-Ok)
+    (accepted_at (goal.at.After-are_in_range c).In_ok-graph_answer)
 
-range_at : (c : After-in_range-inside) →
-    c.in_range-inside.result
-    ≡ in_range c.args.level (nodes_task (read_of c.args.text.now) (terms c.args.level c.args.deadline c.args.percentage)).figures
+range_at : (c : After-are_in_range) → c.are_in_range.result ≡ in_range c.args.t.level (nodes_task c.in-Ok.graph c.args.t).figures
 unfolding nodes_task
-range_at c =
-    c.in_range-inside.ensures ∙ ap (λ (task : Task). in_range task.level task.figures) (task_at_lem (goal.at.After-in_range-inside c).After-task_of-task)
+range_at c = c.are_in_range.ensures ∙ ap (λ (task : Task). in_range task.level task.figures) c.task_of-task.ensures
 
-pub write_if-requires : goal.write_if-requires
+pub returns-then-not-are_in_range : goal.returns-then-not-are_in_range
+returns-then-not-are_in_range c =
+    let before = (goal.at.returns-then-not-are_in_range c).After-are_in_range in
+    let outside = sym (range_at before) ∙ c.if-not-are_in_range.true in
+    let refused = answered_at before ∙ ap (λ (b : Bool). refused_if (not b) FigureOutside) outside in
+    record { answered = sym refused; says = said (sym refused); written = left_alone c.args.text.now c.args.t c.args.«record».now refused }
+
+pub write_record-requires : goal.write_record-requires
 unfolding nodes_task room_for
-write_if-requires c =
-    let asked = terms c.args.level c.args.deadline c.args.percentage in
-    let f = fine (read_of c.args.text.now) asked (length c.args.«record».now) (accepted_at (goal.at.write_if-requires c).In_default) in
-    subst (λ (task : Task). (task.nodes ≤ 32) × (12 + 4 * task.nodes ≤ length c.args.«record».now) × (task.level ≤ 1))
-    (sym (task_at_lem (goal.at.write_if-requires c).After-task_of-task))
-    ((within_bounds 1 32 (read_of c.args.text.now).count f.count).1, f.enough, (terms_kept asked f.terms).level)
+write_record-requires c =
+    let before = (goal.at.write_record-requires c).In_ok-graph_answer in
+    rw c.task_of-task.ensures (few_at before, (fine_at before).enough, (terms_at before).level)
 
 pub returns : goal.returns
 returns c =
-    let asked = terms c.args.level c.args.deadline c.args.percentage in
-    let accepted = accepted_at (goal.at.returns c).In_default in
-    let range = range_at (goal.at.returns c).After-in_range-inside in
-    let answer = c.refused_unless.ensures ∙ answer_by c.args.text.now asked c.args.«record».now accepted _ range in
+    let before = (goal.at.returns c).After-are_in_range in
+    let inside = sym (range_at before) ∙ c.if-not-are_in_range.false in
+    let taken = answered_at before ∙ ap (λ (b : Bool). refused_if (not b) FigureOutside) inside in
     record {
-      answered = answer;
-      says = said answer;
-      written = left_by c.args.text.now asked c.args.«record».now accepted _ _ _ range (task_at_lem (goal.at.returns c).After-task_of-task) c.write_if.ensures;
+      answered = sym taken;
+      says = said (sym taken);
+      written =
+          (rw c.task_of-task.ensures at c.write_record.ensures)
+          ∙ written_by c.args.text.now c.in-Ok.graph c.args.t c.args.«record».now (read_at (goal.at.returns c).In-Ok)
+          (accepted_at (goal.at.returns c).In_ok-graph_answer) inside;
     }

@@ -1,4 +1,4 @@
--- `record::put_masks` meets its contract. The loop's invariant: what is written, with the masks left, is the whole. The measure is the
+-- `importer::record::put_masks` meets its contract. The loop's invariant: what is written, with the masks left, is the whole. The measure is the
 -- masks left. Assumes nothing.
 use Prim.Native.Nat.{◌+◌, ◌*◌, ◌-◌, ◌≤◌}
 use mathlib.Core.Path.{◌≡◌}

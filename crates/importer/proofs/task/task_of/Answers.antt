@@ -1,31 +1,31 @@
--- `task::task_of` meets its contract: both budgets are those of the times, nominal and overload. Assumes nothing.
-use borrow.Author.Rules.{rules}
-use Rattle.importer.proofs.Figures.{times_small, scaled_small, task_with}
+-- `importer::task::task_of`: the task by its definition, budgets and times put in.
+use Rattle.std.proofs.Common.{arith}
+use Rattle.importer.specs.means.Nodes.{nodes_task}
+use Rattle.importer.proofs.Acceptance.{terms_kept}
+use Rattle.importer.proofs.Figures.{small_taken, budget_taken}
 use Rattle.importer.proofs.task.task_of.Goals as goal
 
-pub overload_times-overload-requires : goal.overload_times-overload-requires
-overload_times-overload-requires c =
-    record { k_bound = (c.requires.count_bound.0, c.requires.count_bound.2); times_small = c.requires.read_small.times }
+pub scaled_times-overload-requires : goal.scaled_times-overload-requires
+scaled_times-overload-requires c = (rw c.from-k.ensures c.requires.few, (terms_kept c.args.t c.requires.lawful).most)
 
-pub budget_of-requires : goal.budget_of-requires
-budget_of-requires c =
-    record { k_bound = c.requires.count_bound.0; small = times_small c.args.graph.times c.requires.read_small.times }
+pub overflow_cast-level : goal.overflow_cast-level
+overflow_cast-level c = let kept = terms_kept c.args.t c.requires.lawful in omega (arith, kept.level)
 
-pub budget_of-requires-2 : goal.budget_of-requires-2
-budget_of-requires-2 c =
-    record {
-      k_bound = c.requires.count_bound.0;
-      small = scaled_small c.args.graph.count c.args.t.percentage c.args.graph.times c.overload_times-overload.result c.overload_times-overload.ensures
-          c.requires.count_bound.2 c.requires.read_small.times;
-    }
+pub budget_of-requires-clause-small : goal.budget_of-requires-clause-small
+budget_of-requires-clause-small c = small_taken c.from-k.result c.scaled_times-nominal.result c.scaled_times-nominal.ensures.small
 
-pub overflow_cast-result : goal.overflow_cast-result
-overflow_cast-result c = search rules
-
-pub overflow_cast-result-2 : goal.overflow_cast-result-2
-overflow_cast-result-2 c = search rules
+pub budget_of-requires-2-clause-small : goal.budget_of-requires-2-clause-small
+budget_of-requires-2-clause-small c = small_taken c.from-k.result c.scaled_times-overload.result c.scaled_times-overload.ensures.small
 
 pub returns : goal.returns
+unfolding nodes_task
 returns c =
-    task_with c.args.graph c.args.t _ _ _ c.overload_times-overload.ensures c.budget_of.ensures
-    c.budget_of-2.ensures
+    rw (
+      c.budget_of.ensures,
+      c.budget_of-2.ensures,
+      budget_taken c.args.graph.now.masks c.from-k.result c.scaled_times-nominal.result (omega arith),
+      budget_taken c.args.graph.now.masks c.from-k.result c.scaled_times-overload.result (omega arith),
+      c.scaled_times-nominal.ensures.value,
+      c.scaled_times-overload.ensures.value,
+      c.from-k.ensures,
+    )
