@@ -1,15 +1,13 @@
--- A number's digits: the last one behind those of a tenth. By that step they say the number, the first is not `0`, and they are
--- what the kit writes.
-use Prim.Native.Nat.{ℕ, zero, suc, ◌-◌, ◌/◌, ◌%◌, ◌^◌, ◌≤◌, ◌<◌}
+-- A number's digits: the last one behind those of a tenth. By that step they say the number, and the first is not `0`.
+use Prim.Native.Nat.{ℕ, zero, suc, ◌/◌, ◌%◌, ◌≤◌, ◌<◌}
 use mathlib.Core.Bool.{Bool, true, false, cond}
 use mathlib.Core.List.{List, [], ◌∷◌, ◌++◌}
 use mathlib.Core.Path.{◌≡◌, refl, sym, ap, ◌∙◌}
-use native.Mathlib.Nat.{div-lt_self, pow-suc, one-le-pow}
+use native.Mathlib.Nat.{div-lt_self}
 use native.Mathlib.Omega.{arith}
 use lib.Dec.{ltb}
 use lib.ListN.{get_or}
 use borrow.Author.Tests.{ltb-true, ltb-false, lt-ltb, le-ltb, le-leb}
-use Rattle.io.specs.Digits.{last_digits, IsDigitCount}
 use Rattle.basics.specs.Lists.{all}
 use Rattle.basics.specs.Digits.{digit, is_digit}
 use Rattle.basics.proofs.Digits.{value_both, digits_both}
@@ -87,19 +85,3 @@ reads-within (suc k) n h = go (ltb n 10) refl (reads-within k (n / 10))
 pub decimal-reads : (n : ℕ) → IsDecimal n (decimal n)
 unfolding decimal
 decimal-reads n = reads-within n n (omega arith)
-
--- As few digits as hold a number, as the kit writes them, are its digits.
-pub fewest_digits : (k n : ℕ) → IsDigitCount 10 1 n k → last_digits 10 k n ≡ decimal n
-fewest_digits zero n (least, small, full) = absurd (omega arith)
-fewest_digits (suc zero) n (least, small, full) =
-    let same : n % 10 ≡ n = omega arith in
-    rw (same, one_digit n (omega arith), lt-ltb n 10 (omega arith))
-fewest_digits (suc (suc k)) n (least, small, full) =
-    let below : suc (suc k) - 1 ≡ suc k = omega arith in
-    let below' : suc k - 1 ≡ k = omega arith in
-    let more : 10 ^ suc k ≤ n = rw below at (full (omega arith)) in
-    let less = pow-suc 10 (suc k) in
-    let tens = pow-suc 10 k in
-    let some = one-le-pow k 10 (omega arith) in
-    rw (lt-ltb (n % 10) 10 (omega arith), more_digits n (omega arith))
-    (ap (λ (l : List ℕ). l ++ digit (n % 10) ∷ []) (fewest_digits (suc k) (n / 10) (omega arith, omega arith, λ h. rw below' (omega arith))))

@@ -3,7 +3,6 @@ pub mod Worked
 pub mod Sheets
 pub mod Digits
 pub mod Growths
-pub mod Copies
 pub mod Lengths
 pub mod Tasks
-pub mod Answers
+pub mod Fitting

@@ -2,7 +2,8 @@
 use Prim.Native.Nat.{ℕ}
 use mathlib.Core.Path.{◌≡◌, refl}
 use mathlib.Core.List.{List, [], ◌∷◌}
-use Rattle.sheet.specs.declared.answer.Answer.TheVariants.{Refused}
+use Rattle.std.specs.Prelude.{Err}
+use Rattle.sheet.specs.declared.refusal.Refusal.TheVariants.{NoFit}
 use Rattle.basics.specs.Lists.{range}
 use Rattle.allocation.specs.declared.allocate.Allocation.{Allocation}
 use Rattle.allocation.specs.Allocation.{allocation_at}
@@ -43,8 +44,8 @@ pub record Worked : Type 0 where
       ≡ 48 ∷ 32 ∷ 48 ∷ 32 ∷ 51 ∷ 32 ∷ 48 ∷ 32 ∷ 54 ∷ 32 ∷ 53 ∷ 32 ∷ 50 ∷ 10
       ∷ 49 ∷ 32 ∷ 51 ∷ 32 ∷ 49 ∷ 32 ∷ 54 ∷ 32 ∷ 49 ∷ 32 ∷ 48 ∷ 32 ∷ 48 ∷ 10
       ∷ 50 ∷ 32 ∷ 52 ∷ 32 ∷ 53 ∷ 32 ∷ 55 ∷ 32 ∷ 56 ∷ 32 ∷ 50 ∷ 55 ∷ 54 ∷ 32 ∷ 52 ∷ 10 ∷ []
-  -- S6.2: `refused 8 255` and a newline, whatever the tasks.
-  pub refusal : lines_for (Refused 8 255) (plan_lines 3 three)
+  -- S6.2: `refused 8 255` and a newline.
+  pub refusal : lines_for (Err NoFit)
       ≡ 114 ∷ 101 ∷ 102 ∷ 117 ∷ 115 ∷ 101 ∷ 100 ∷ 32 ∷ 56 ∷ 32 ∷ 50 ∷ 53 ∷ 53 ∷ 10 ∷ []
 
 worked : Worked

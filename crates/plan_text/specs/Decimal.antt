@@ -12,8 +12,8 @@ digits_within (suc k) n = cond (ltb n 10) (digit n ∷ []) (digits_within k (n /
 unfoldable pub decimal : ℕ → List ℕ
 decimal n = digits_within n n
 
--- S6.3, read the other way: bytes that are n in decimal. They say n, each is a digit, and the first is not `0` where n is not 0.
--- `Digits.decimal-reads` has this of `decimal n`, for all n.
+-- S6.3, read the other way: bytes that are n in decimal. They say n, each is a digit, and the first is not `0` where
+-- n is not 0. `Digits.decimal-reads` has this of `decimal n`, for all n.
 pub record IsDecimal (n : ℕ) (bytes : List ℕ) : Type 0 where
   pub says : value_of bytes ≡ n
   pub digits : all is_digit bytes ≡ true

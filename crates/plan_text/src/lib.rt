@@ -1,4 +1,4 @@
-// S6: the plan of a sheet as printed lines.
+//! S6: the plan of a sheet as printed lines.
 #![tactic(auto)]
 
 pub mod line;
