@@ -1,5 +1,6 @@
 -- S2: a sheet that is accepted is what is written of its task set. The directory says where the records stand, one
 -- behind the other up to the end, and each part that is read is written as it was.
+use Rattle.std.specs.List.{list_all}
 use Prim.Native.Nat.{ℕ, zero, suc, ◌≤◌, ◌<◌, ◌+◌, ◌-◌, ◌*◌}
 use mathlib.Core.Bool.{true}
 use mathlib.Core.List.{List, ◌++◌, map}
@@ -9,13 +10,13 @@ use lib.Dec.{leb, ltb}
 use lib.ListN.{length, take, drop, take-append-drop}
 use lib.Seq.{drop-length, drop-drop}
 use borrow.Author.Tests.{leb-true, eqb-true}
-use Rattle.basics.specs.Lists.{range, each, all}
+use Rattle.basics.specs.Lists.{range}
 use Rattle.basics.specs.Numbers.{within}
 use Rattle.basics.proofs.Cells.{cells_taken}
 use Rattle.basics.proofs.Logic.{all_four, within_bounds}
 use Rattle.basics.proofs.Parts.{part, join, two_part, u16_part}
 use Rattle.sheet.specs.declared.task.Task.{Task}
-use Rattle.std.specs.Prelude.{Ok}
+use Rattle.std.specs.Prelude.{Ok, flat_map}
 use Rattle.sheet.specs.declared.refusal.Refusal.TheVariants.{BadPlace}
 use Rattle.sheet.specs.Format.{processors_of, count_of, offset_of, length_of, place_of, level_at, nodes_at, task_at, tasks_below, task_set_of, zero_task}
 use Rattle.sheet.specs.Level.{bytes_before_masks}
@@ -57,7 +58,7 @@ module _ (s : List ℕ) (laid : Laid s) where
       let later : offset_of s i + length_of s i ≤ length s = places_inside k (suc i) (omega arith) in
       omega (arith, laid.place i (omega arith))
 
-  module _ (bytes : all (λ b. ltb b 256) s ≡ true) where
+  module _ (bytes : list_all (λ b. ltb b 256) s ≡ true) where
     module _ (i : ℕ) (inside : i < count_of s) where
       ends_inside : offset_of s i + length_of s i ≤ length s
       unfolding place_of
@@ -91,7 +92,7 @@ module _ (s : List ℕ) (laid : Laid s) where
         ∙ join s (2 + 4 * first) 4 (2 + 4 * suc first) (4 * k) (4 * suc k) (omega arith) (omega arith))
 
     -- The records from task first on: all that is behind the one before it.
-    records_again : (k first : ℕ) → first + k ≡ count_of s → each (map task (range first k)) record_bytes ≡ drop (place_of s first) s
+    records_again : (k first : ℕ) → first + k ≡ count_of s → flat_map record_bytes (map task (range first k)) ≡ drop (place_of s first) s
     unfolding range place_of
     records_again zero first end =
         let last : first ≡ count_of s = omega arith in
@@ -120,8 +121,8 @@ module _ (s : List ℕ) (accepted : read_answer s ≡ Ok tt) where
   header_fits : (count_of s ≤ 16) × (2 + 4 * count_of s ≤ length s)
   unfolding header_lawful
   header_fits =
-      let all = all_four (leb 2 (length s)) (within 1 64 (processors_of s)) (within 1 16 (count_of s)) _ (header_kept s accepted) in
-      ((within_bounds 1 16 (count_of s) all.2).1, leb-true (2 + 4 * count_of s) (length s) all.3)
+      let list_all = all_four (leb 2 (length s)) (within 1 64 (processors_of s)) (within 1 16 (count_of s)) _ (header_kept s accepted) in
+      ((within_bounds 1 16 (count_of s) list_all.2).1, leb-true (2 + 4 * count_of s) (length s) list_all.3)
 
   place_kept : (i : ℕ) → i < count_of s → offset_of s i ≡ place_of s i
   unfolding place_answer

@@ -6,7 +6,7 @@ use mathlib.Core.Path.{◌≡◌, refl, sym, ap, ap₂, ◌∙◌}
 use native.Mathlib.Omega.{arith}
 use lib.ListN.{length, get_or, take, drop, length-append}
 use lib.Seq.{length-take-le, take_all, get_or-take}
-use Rattle.basics.specs.Lists.{each}
+use Rattle.std.specs.Prelude.{flat_map}
 use Rattle.basics.specs.Numbers.{byte_at, u16_at, u16_bytes}
 use Rattle.basics.proofs.Bytes.{u16_behind, u16_whole}
 use Rattle.sheet.specs.declared.task.Task.{Task}
@@ -21,7 +21,7 @@ use Rattle.allocation.specs.Lawful.{LawfulSet}
 
 -- The bytes of the records before task i's.
 abbrev before : List Task → ℕ → ℕ
-before tasks i = length (each (take i tasks) record_bytes)
+before tasks i = length (flat_map record_bytes (take i tasks))
 
 -- The bytes before the records.
 abbrev head_of : TaskSet → List ℕ
@@ -29,7 +29,7 @@ head_of set = set.processors ∷ set.count ∷ directory_bytes (2 + 4 * set.coun
 
 -- The bytes before task i's record.
 abbrev front_of : TaskSet → ℕ → List ℕ
-front_of set i = head_of set ++ each (take i (tasks_of set)) record_bytes
+front_of set i = head_of set ++ flat_map record_bytes (take i (tasks_of set))
 
 -- One record more.
 before_next : (tasks : List Task) (i : ℕ) → i < length tasks →
@@ -39,15 +39,15 @@ before_next (t ∷ tasks) zero h = omega (arith, length-append (record_bytes t) 
 before_next (t ∷ tasks) (suc i) h =
     omega (
       arith,
-      length-append (record_bytes t) (each (take (suc i) tasks) record_bytes),
-      length-append (record_bytes t) (each (take i tasks) record_bytes),
+      length-append (record_bytes t) (flat_map record_bytes (take (suc i) tasks)),
+      length-append (record_bytes t) (flat_map record_bytes (take i tasks)),
       before_next tasks i (omega arith),
     )
 
 -- The records, those before task i's, its own and those behind it.
 records_split : (tasks : List Task) (i : ℕ) → i < length tasks →
-    each tasks record_bytes
-    ≡ each (take i tasks) record_bytes ++ (record_bytes (get_or tasks i missing_task) ++ each (drop (suc i) tasks) record_bytes)
+    flat_map record_bytes tasks
+    ≡ flat_map record_bytes (take i tasks) ++ (record_bytes (get_or tasks i missing_task) ++ flat_map record_bytes (drop (suc i) tasks))
 records_split [] i h = absurd (omega arith)
 records_split (t ∷ tasks) zero h = refl
 records_split (t ∷ tasks) (suc i) h =
@@ -60,12 +60,12 @@ unfolding RecordLength
 record_most t fits = omega (arith, record_length t fits, before_most t.level, fits.nodes)
 
 records_most : (tasks : List Task) → ((i : ℕ) → i < length tasks → Encodable (get_or tasks i missing_task)) →
-    length (each tasks record_bytes) ≤ 150 * length tasks
+    length (flat_map record_bytes tasks) ≤ 150 * length tasks
 records_most [] fits = omega arith
 records_most (t ∷ tasks) fits =
     omega (
       arith,
-      length-append (record_bytes t) (each tasks record_bytes),
+      length-append (record_bytes t) (flat_map record_bytes tasks),
       record_most t (fits 0 (omega arith)),
       records_most tasks (λ i h. fits (suc i) (omega arith)),
     )
@@ -92,29 +92,29 @@ module _ (x y : ℕ) (s : List ℕ) where
 
 -- The directory says of task i that its record begins behind those before it, and how many bytes it has.
 entry_offset : (place : ℕ) (tasks : List Task) (back : List ℕ) (i : ℕ) → i < length tasks →
-    place + length (each tasks record_bytes) < 65536 → u16_at (directory_bytes place tasks ++ back) (4 * i) ≡ place + before tasks i
+    place + length (flat_map record_bytes tasks) < 65536 → u16_at (directory_bytes place tasks ++ back) (4 * i) ≡ place + before tasks i
 unfolding directory_bytes u16_bytes
 entry_offset place [] back i h small = absurd (omega arith)
 entry_offset place (t ∷ tasks) back zero h small =
     pair_first place (length (record_bytes t)) (directory_bytes (place + length (record_bytes t)) tasks ++ back) (omega arith) ∙ omega arith
 entry_offset place (t ∷ tasks) back (suc i) h small =
     let bytes = length (record_bytes t) in
-    let whole = length-append (record_bytes t) (each tasks record_bytes) in
+    let whole = length-append (record_bytes t) (flat_map record_bytes tasks) in
     pair_behind place bytes (directory_bytes (place + bytes) tasks ++ back) (4 * i) (4 * suc i) (omega arith)
     ∙ entry_offset (place + bytes) tasks back i (omega arith) (omega arith)
-    ∙ omega (arith, length-append (record_bytes t) (each (take i tasks) record_bytes))
+    ∙ omega (arith, length-append (record_bytes t) (flat_map record_bytes (take i tasks)))
 
 entry_length : (place : ℕ) (tasks : List Task) (back : List ℕ) (i : ℕ) → i < length tasks →
-    length (each tasks record_bytes) < 65536 →
+    length (flat_map record_bytes tasks) < 65536 →
     u16_at (directory_bytes place tasks ++ back) (2 + 4 * i) ≡ length (record_bytes (get_or tasks i missing_task))
 unfolding directory_bytes u16_bytes
 entry_length place [] back i h small = absurd (omega arith)
 entry_length place (t ∷ tasks) back zero h small =
     pair_second place (length (record_bytes t)) (directory_bytes (place + length (record_bytes t)) tasks ++ back)
-    (omega (arith, length-append (record_bytes t) (each tasks record_bytes)))
+    (omega (arith, length-append (record_bytes t) (flat_map record_bytes tasks)))
 entry_length place (t ∷ tasks) back (suc i) h small =
     let bytes = length (record_bytes t) in
-    let whole = length-append (record_bytes t) (each tasks record_bytes) in
+    let whole = length-append (record_bytes t) (flat_map record_bytes tasks) in
     pair_behind place bytes (directory_bytes (place + bytes) tasks ++ back) (2 + 4 * i) (2 + 4 * suc i) (omega arith)
     ∙ entry_length (place + bytes) tasks back i (omega arith) (omega arith)
 
@@ -134,7 +134,7 @@ module _ (set : TaskSet) (lawful : LawfulSet set) (fits : (i : ℕ) → i < set.
   head_length = omega (arith, directory_length (2 + 4 * set.count) (tasks_of set), listed_all)
 
   -- All of its places are numbers of two bytes.
-  sheet_small : 2 + 4 * set.count + length (each (tasks_of set) record_bytes) < 65536
+  sheet_small : 2 + 4 * set.count + length (flat_map record_bytes (tasks_of set)) < 65536
   sheet_small =
       let held : (i : ℕ) → i < length (tasks_of set) → Encodable (get_or (tasks_of set) i missing_task) =
       λ i h. let inside : i < set.count = omega (arith, listed_all) in rw (task_at_lem i inside) (fits i inside) in
@@ -144,13 +144,13 @@ module _ (set : TaskSet) (lawful : LawfulSet set) (fits : (i : ℕ) → i < set.
   unfolding sheet_bytes
   sheet_end =
       let all = take_all set.count (tasks_of set) (omega (arith, listed_all)) in
-      length-append (head_of set) (each (tasks_of set) record_bytes)
-      ∙ omega (arith, head_length, ap (λ (l : List Task). length (each l record_bytes)) all)
+      length-append (head_of set) (flat_map record_bytes (tasks_of set))
+      ∙ omega (arith, head_length, ap (λ (l : List Task). length (flat_map record_bytes l)) all)
 
   -- A number of the directory, by its place there.
   directory_at : (n place : ℕ) → place ≡ 2 + n →
       u16_at (sheet_bytes set) place
-      ≡ u16_at (directory_bytes (2 + 4 * set.count) (tasks_of set) ++ each (tasks_of set) record_bytes) n
+      ≡ u16_at (directory_bytes (2 + 4 * set.count) (tasks_of set) ++ flat_map record_bytes (tasks_of set)) n
   unfolding sheet_bytes
   directory_at n place e = u16_behind (set.processors ∷ set.count ∷ []) _ n place e
 
@@ -166,24 +166,24 @@ module _ (set : TaskSet) (lawful : LawfulSet set) (fits : (i : ℕ) → i < set.
     unfolding offset_of
     sheet_offset =
         directory_at (4 * i) (2 + 4 * i) refl
-        ∙ entry_offset (2 + 4 * set.count) (tasks_of set) (each (tasks_of set) record_bytes) i listed sheet_small
+        ∙ entry_offset (2 + 4 * set.count) (tasks_of set) (flat_map record_bytes (tasks_of set)) i listed sheet_small
 
     pub sheet_length : length_of (sheet_bytes set) i ≡ length (record_bytes (task_in set i))
     unfolding length_of
     sheet_length =
         directory_at (2 + 4 * i) (4 + 4 * i) (omega arith)
-        ∙ entry_length (2 + 4 * set.count) (tasks_of set) (each (tasks_of set) record_bytes) i listed (omega (arith, sheet_small))
+        ∙ entry_length (2 + 4 * set.count) (tasks_of set) (flat_map record_bytes (tasks_of set)) i listed (omega (arith, sheet_small))
         ∙ ap (λ (t : Task). length (record_bytes t)) (task_at_lem i inside)
 
     front_length : length (front_of set i) ≡ 2 + 4 * set.count + before (tasks_of set) i
-    front_length = length-append (head_of set) (each (take i (tasks_of set)) record_bytes) ∙ omega (arith, head_length)
+    front_length = length-append (head_of set) (flat_map record_bytes (take i (tasks_of set))) ∙ omega (arith, head_length)
 
-    sheet_split : sheet_bytes set ≡ front_of set i ++ (record_bytes (task_in set i) ++ each (drop (suc i) (tasks_of set)) record_bytes)
+    sheet_split : sheet_bytes set ≡ front_of set i ++ (record_bytes (task_in set i) ++ flat_map record_bytes (drop (suc i) (tasks_of set)))
     unfolding sheet_bytes
     sheet_split =
-        let back = each (drop (suc i) (tasks_of set)) record_bytes in
+        let back = flat_map record_bytes (drop (suc i) (tasks_of set)) in
         ap (λ (l : List ℕ). head_of set ++ l) (records_split (tasks_of set) i listed)
-        ∙ sym (append_assoc (head_of set) (each (take i (tasks_of set)) record_bytes) _)
+        ∙ sym (append_assoc (head_of set) (flat_map record_bytes (take i (tasks_of set))) _)
         ∙ ap (λ (t : Task). front_of set i ++ (record_bytes t ++ back)) (task_at_lem i inside)
 
     -- Task i is read where the directory says that its record begins.
@@ -191,7 +191,7 @@ module _ (set : TaskSet) (lawful : LawfulSet set) (fits : (i : ℕ) → i < set.
     unfolding RoundTrip
     sheet_task =
         ap₂ task_at sheet_split (sheet_offset ∙ sym front_length)
-        ∙ round_trip (task_in set i) (front_of set i) (each (drop (suc i) (tasks_of set)) record_bytes) (fits i inside)
+        ∙ round_trip (task_in set i) (front_of set i) (flat_map record_bytes (drop (suc i) (tasks_of set))) (fits i inside)
 
   -- Each record begins where it has to, and the last one ends with the sheet.
   sheet_place : (i : ℕ) → i ≤ set.count → place_of (sheet_bytes set) i ≡ 2 + 4 * set.count + before (tasks_of set) i

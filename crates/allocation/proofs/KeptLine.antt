@@ -4,14 +4,13 @@ use Prim.Native.Nat.{ℕ, ◌+◌, ◌≤◌, ◌<◌}
 use mathlib.Core.Path.{◌≡◌, refl, sym, ap, ◌∙◌, subst, fun_ext}
 use mathlib.Core.Bool.{Bool, true, false, cond}
 use mathlib.Core.List.{List}
-use mathlib.Core.Option.{some}
 use native.Mathlib.Omega.{arith}
 use lib.Dec.{eqb}
 use lib.ListN.{length, get_or, take}
 use lib.Seq.{ext_get_or, take-length}
 use borrow.Author.Tests.{eq-eqb, ne_eqb}
-use Rattle.basics.specs.Lists.{range, keep, is_in}
-use Rattle.basics.proofs.Lists.{keep_ext_below}
+use Rattle.basics.specs.Lists.{range, is_in}
+use Rattle.basics.proofs.Lists.{filter_ext_below}
 use Rattle.sheet.specs.declared.task.Task.{Task}
 use Rattle.sheet.specs.declared.task.TaskSet.{TaskSet}
 use Rattle.sheet.specs.Format.{missing_task}
@@ -27,7 +26,7 @@ use Rattle.keeping.specs.Running.{critical_share_at, without}
 use Rattle.keeping.specs.means.Keeping.{kept_line, Keepable}
 use Rattle.allocation.proofs.Laws.{chosen-length, chosen_typical, chosen_critical, chosen_positive, chosen_high}
 use Rattle.allocation.proofs.Accepted.{accepted_choice}
-use Rattle.std.specs.Prelude.{Result, Ok, Err, MatchResult}
+use Rattle.std.specs.Prelude.{Result, Ok, Err, MatchResult, Some, filter}
 use Rattle.sheet.specs.declared.refusal.Refusal.{Refusal}
 use Rattle.sheet.proofs.Faults.{after_refused, or_else_ok, or_else_err}
 use Rattle.allocation.proofs.Sets.{chosen_line}
@@ -50,7 +49,7 @@ line_with kept choice few =
     ∙ sym (share_same (with_kept kept choice) (omega (arith, with_length kept choice)) i))
 
 -- The choice that is chosen for a lawful task set, on its line.
-module _ (set : TaskSet) (lawful : LawfulSet set) (choice : List Share) (chosen_it : chosen_for set ≡ some choice) where
+module _ (set : TaskSet) (lawful : LawfulSet set) (choice : List Share) (chosen_it : chosen_for set ≡ Some choice) where
   all_shares : length choice ≡ set.count
   all_shares = chosen-length set lawful choice chosen_it
 
@@ -71,11 +70,11 @@ module _ (set : TaskSet) (lawful : LawfulSet set) (choice : List Share) (chosen_
   lows_same : without set.count (sixteen choice) ≡ low_numbers (tasks_of set)
   unfolding without low_numbers critical_share_at share_at
   lows_same =
-      keep_ext_below (λ i. eqb (share_at (sixteen choice) i).critical 0) (λ i. is_low (get_or (tasks_of set) i missing_task).level) set.count
+      filter_ext_below (λ i. eqb (share_at (sixteen choice) i).critical 0) (λ i. is_low (get_or (tasks_of set) i missing_task).level) set.count
       (λ i inside.
       ap (λ (s : Share). eqb s.critical 0) (share_same choice few i)
       ∙ by_level i inside (is_low (get_or (tasks_of set) i missing_task).level) refl)
-      ∙ ap (λ (n : ℕ). keep (λ i. is_low (get_or (tasks_of set) i missing_task).level) (range 0 n)) (sym (tasks_there set lawful choice chosen_it))
+      ∙ ap (λ (n : ℕ). filter (λ i. is_low (get_or (tasks_of set) i missing_task).level) (range 0 n)) (sym (tasks_there set lawful choice chosen_it))
     where
       by_level : (i : ℕ) → i < set.count → (t : Bool) → is_low (get_or (tasks_of set) i missing_task).level ≡ t → eqb (share_at choice i).critical 0 ≡ t
       by_level i inside true low =
@@ -132,7 +131,7 @@ module _ (set : TaskSet) (lawful : LawfulSet set) where
     accepted : (choice_answer set ≡ Ok tt) × (selected ≡ sixteen (shares_chosen (chosen_for set)))
     accepted = or_else_ok (choice_answer set) same
 
-    chosen_it : chosen_for set ≡ some (shares_chosen (chosen_for set))
+    chosen_it : chosen_for set ≡ Some (shares_chosen (chosen_for set))
     chosen_it = accepted_choice set accepted.0
 
     pub choice_able : Keepable set.processors set.count selected

@@ -6,7 +6,7 @@ use mathlib.Core.Path.{◌≡◌, refl, sym, ap, ◌∙◌, subst}
 use mathlib.Core.Bool.{Bool, true, false, cond}
 use mathlib.Core.List.Memᴰ
 use mathlib.Core.List.{List, map, Memᴰ}
-use mathlib.Core.Option.{none, some}
+use Rattle.std.specs.Prelude.{None, Some}
 use native.Mathlib.Omega.{arith}
 use lib.Dec.{T, leb}
 use lib.ListN.{length, get_or}
@@ -28,7 +28,7 @@ use Rattle.allocation.specs.Way.{LowPair, HighPair}
 use Rattle.allocation.specs.Blocks.{length_in}
 use Rattle.allocation.specs.Allocation.{tasks_of, chosen_for}
 use Rattle.allocation.specs.Lawful.{LawfulSet}
-use Rattle.basics.proofs.Members.{keep-has, keep_from, none_empty}
+use Rattle.basics.proofs.Members.{filter-has, filter_from, none_empty}
 use Rattle.basics.proofs.Order.{no_later_both, least_member, least_first, least_none, least_of_none}
 use Rattle.allocation.proofs.Ranks.{rank_same}
 use Rattle.allocation.proofs.Lawfulness.{figures_kept}
@@ -36,36 +36,36 @@ use Rattle.allocation.proofs.Options.{low_from, high_from_lem, options_low, opti
 use Rattle.allocation.proofs.Sets.{fitting_takes, fitting_option, takes_length}
 
 module _ (M : ℕ) (tasks : List Task) where
-  chosen_member : (choice : List Share) → chosen M tasks ≡ some choice → Memᴰ choice (fitting M tasks)
+  chosen_member : (choice : List Share) → chosen M tasks ≡ Some choice → Memᴰ choice (fitting M tasks)
   unfolding chosen
   chosen_member choice e = least_member rank (fitting M tasks) choice e
 
   fitting_choice : (choice : List Share) → Memᴰ choice (fitting M tasks) →
       Memᴰ choice (choices (map (options_of M) tasks)) × (fits M choice ≡ true)
   unfolding fitting
-  fitting_choice choice m = keep_from (fits M) (choices (map (options_of M) tasks)) choice m
+  fitting_choice choice m = filter_from (fits M) (choices (map (options_of M) tasks)) choice m
 
   choice_fitting : (choice : List Share) → Memᴰ choice (choices (map (options_of M) tasks)) → fits M choice ≡ true →
       Memᴰ choice (fitting M tasks)
   unfolding fitting
-  choice_fitting choice m e = keep-has (fits M) (choices (map (options_of M) tasks)) choice m e
+  choice_fitting choice m e = filter-has (fits M) (choices (map (options_of M) tasks)) choice m e
 
   -- The chosen one is a choice.
-  pub chosen_choice : (choice : List Share) → chosen M tasks ≡ some choice → Memᴰ choice (choices (map (options_of M) tasks))
+  pub chosen_choice : (choice : List Share) → chosen M tasks ≡ Some choice → Memᴰ choice (choices (map (options_of M) tasks))
   chosen_choice choice e = (fitting_choice choice (chosen_member choice e)).0
 
   -- It fits.
-  pub chosen-fits : (choice : List Share) → chosen M tasks ≡ some choice → fits M choice ≡ true
+  pub chosen-fits : (choice : List Share) → chosen M tasks ≡ Some choice → fits M choice ≡ true
   chosen-fits choice e = (fitting_choice choice (chosen_member choice e)).1
 
   -- It comes no later than any choice that fits.
-  pub chosen-first : (choice other : List Share) → chosen M tasks ≡ some choice →
+  pub chosen-first : (choice other : List Share) → chosen M tasks ≡ Some choice →
       Memᴰ other (choices (map (options_of M) tasks)) → fits M other ≡ true → no_later (rank choice) (rank other) ≡ true
   unfolding chosen
   chosen-first choice other e m fit = least_first rank (fitting M tasks) choice other e (choice_fitting other m fit)
 
   -- Every other choice that fits comes after it.
-  pub chosen_before : (choice other : List Share) → chosen M tasks ≡ some choice →
+  pub chosen_before : (choice other : List Share) → chosen M tasks ≡ Some choice →
       Memᴰ other (choices (map (options_of M) tasks)) → fits M other ≡ true → (other ≡ choice → ⊥) →
       no_later (rank other) (rank choice) ≡ false
   chosen_before choice other e m fit differs = go (no_later (rank other) (rank choice)) refl
@@ -75,7 +75,7 @@ module _ (M : ℕ) (tasks : List Task) where
       go true q = absurd (differs (rank_same other choice (no_later_both (rank other) (rank choice) q (chosen-first choice other e m fit))))
 
   -- Nothing is chosen only where nothing fits.
-  pub chosen_none : chosen M tasks ≡ none → (choice : List Share) → Memᴰ choice (choices (map (options_of M) tasks)) →
+  pub chosen_none : chosen M tasks ≡ None → (choice : List Share) → Memᴰ choice (choices (map (options_of M) tasks)) →
       fits M choice ≡ true → ⊥
   unfolding chosen
   chosen_none e choice m fit =
@@ -83,7 +83,7 @@ module _ (M : ℕ) (tasks : List Task) where
 
   -- Where nothing fits, nothing is chosen.
   pub none_chosen : ((choice : List Share) → Memᴰ choice (choices (map (options_of M) tasks)) → fits M choice ≡ true → ⊥) →
-      chosen M tasks ≡ none
+      chosen M tasks ≡ None
   unfolding chosen
   none_chosen nothing =
       ap (least_by rank)
@@ -91,7 +91,7 @@ module _ (M : ℕ) (tasks : List Task) where
       ∙ least_of_none rank
 
 -- The choice that is chosen for a lawful task set.
-module _ (set : TaskSet) (lawful : LawfulSet set) (choice : List Share) (chosen_it : chosen_for set ≡ some choice) where
+module _ (set : TaskSet) (lawful : LawfulSet set) (choice : List Share) (chosen_it : chosen_for set ≡ Some choice) where
   member : Memᴰ choice (fitting set.processors (tasks_of set))
   unfolding chosen_for
   member = chosen_member set.processors (tasks_of set) choice chosen_it

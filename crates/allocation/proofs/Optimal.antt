@@ -6,7 +6,7 @@ use mathlib.Core.Path.{◌≡◌, refl, sym, ap, ◌∙◌, subst}
 use mathlib.Core.Bool.{Bool, true, false, cond}
 use mathlib.Core.List.Memᴰ
 use mathlib.Core.List.{List, [], ◌∷◌, Memᴰ}
-use mathlib.Core.Option.{none, some}
+use Rattle.std.specs.Prelude.{None, Some, filter}
 use native.Mathlib.Omega.{arith}
 use native.Mathlib.Nat.{min-le_left, min-le_right, min-eq_left, min-eq_right}
 use native.Mathlib.Decide.{dec_le}
@@ -15,11 +15,10 @@ use borrow.Author.Tests.{leb-true, leb-false, le-leb, eqb-true, ne_eqb}
 use Rattle.basics.proofs.Logic.{left_true, right_true}
 use Rattle.shares.specs.declared.share.Share.{Share}
 use Rattle.shares.specs.Totals.{typical_total, critical_total}
-use Rattle.basics.specs.Lists.{keep}
 use Rattle.basics.specs.Order.{no_later, least_by}
 use Rattle.allocation.specs.Choice.{choices, fits, pair_numbers, rank}
 use Rattle.allocation.specs.means.Selection.{sum_at, best_share, total_with, least_total, offered, shares_at, best_total, selected}
-use Rattle.basics.proofs.Members.{each-has, each_from, map-has, map_from, keep-has, keep_from, none_empty}
+use Rattle.basics.proofs.Members.{flat_map-has, flat_map_from, map-has, map_from, filter-has, filter_from, none_empty}
 use Rattle.basics.proofs.Order.{least_is, least_of_none}
 use Rattle.allocation.proofs.Ranks.{pairs_no_later, ranks_no_later, rank_same}
 use Rattle.allocation.proofs.Firsts.{least_from_lem, least_to, least_at_most, least-first_at}
@@ -64,7 +63,7 @@ takes_choice [] [] t = Memᴰ.head refl
 takes_choice [] (s ∷ choice) t = absurd t
 takes_choice (options ∷ rest) [] t = absurd t
 takes_choice (options ∷ rest) (s ∷ choice) (m, t) =
-    each-has _ options s (s ∷ choice) m (map-has (λ c. s ∷ c) (choices rest) choice (takes_choice rest choice t))
+    flat_map-has _ options s (s ∷ choice) m (map-has (λ c. s ∷ c) (choices rest) choice (takes_choice rest choice t))
 
 pub choice_takes : (rest : List (List Share)) (choice : List Share) → Memᴰ choice (choices rest) → Takes rest choice
 choice_takes [] [] m = tt
@@ -72,7 +71,7 @@ choice_takes [] (s ∷ choice) m =
     let same : s ∷ choice ≡ [] = Memᴰ.eq_of_singleton m in
     absurd (let z : ◌≡◌ {A = ℕ} 0 1 = cc in omega arith)
 choice_takes (options ∷ rest) choice m =
-    let found = each_from _ options choice m in
+    let found = flat_map_from _ options choice m in
     let tail = map_from (λ c. found.0 ∷ c) (choices rest) choice found.1.1 in
     subst (Takes (options ∷ rest)) (sym tail.1.1) (found.1.0, choice_takes rest tail.0 tail.1.0)
 
@@ -230,39 +229,39 @@ module _ {M : ℕ} {tasks : List (List Share)} {offers : List (ℕ → ℕ)} (r 
   best_total_first t to = least-first_at (least_total M offers) 0 M t (omega arith) (omega arith)
 
   -- A choice that fits has its totals within M, and at least the least critical total.
-  fitting_total : (choice : List Share) → Memᴰ choice (keep (fits M) (choices tasks)) →
+  fitting_total : (choice : List Share) → Memᴰ choice (filter (fits M) (choices tasks)) →
       Takes tasks choice × (typical_total choice ≤ M) × (critical_total choice ≤ M)
   unfolding fits
   fitting_total choice m =
-      let found = keep_from (fits M) (choices tasks) choice m in (
+      let found = filter_from (fits M) (choices tasks) choice m in (
         choice_takes tasks choice found.0,
         leb-true _ _ (left_true _ _ found.1),
         leb-true _ _ (right_true (leb (typical_total choice) M) _ found.1),
       )
 
-  fitting-least : (choice : List Share) → Memᴰ choice (keep (fits M) (choices tasks)) →
+  fitting-least : (choice : List Share) → Memᴰ choice (filter (fits M) (choices tasks)) →
       least_total M offers (best_total M offers) ≤ critical_total choice
   fitting-least choice m =
       let (takes, typical, critical) = fitting_total choice m in
       omega (arith, best_total_least (typical_total choice) typical, total_least M (all_below_lem M r) choice takes typical)
 
   -- Nothing fits where the least critical total exceeds M.
-  select_none : M < least_total M offers (best_total M offers) → keep (fits M) (choices tasks) ≡ []
+  select_none : M < least_total M offers (best_total M offers) → filter (fits M) (choices tasks) ≡ []
   select_none past =
-      none_empty (keep (fits M) (choices tasks))
+      none_empty (filter (fits M) (choices tasks))
       (λ choice m. omega (arith, fitting-least choice m, (fitting_total choice m).2))
 
   module _ (within : least_total M offers (best_total M offers) ≤ M) where
-    select_fits : Memᴰ (shares_at M offers (best_total M offers)) (keep (fits M) (choices tasks))
+    select_fits : Memᴰ (shares_at M offers (best_total M offers)) (filter (fits M) (choices tasks))
     unfolding fits
     select_fits =
         let sound = select_sound r (best_total M offers) (omega (arith, best_total_to)) within in
         let typical : typical_total (shares_at M offers (best_total M offers)) ≤ M = rw sound.typical best_total_to in
         let critical : critical_total (shares_at M offers (best_total M offers)) ≤ M = rw sound.critical within in
-        keep-has (fits M) (choices tasks) (shares_at M offers (best_total M offers)) (takes_choice tasks _ sound.takes)
+        filter-has (fits M) (choices tasks) (shares_at M offers (best_total M offers)) (takes_choice tasks _ sound.takes)
         (rw (le-leb _ M typical, le-leb _ M critical))
 
-    select_no_later : (rival : List Share) → Memᴰ rival (keep (fits M) (choices tasks)) →
+    select_no_later : (rival : List Share) → Memᴰ rival (filter (fits M) (choices tasks)) →
         no_later (rank (shares_at M offers (best_total M offers))) (rank rival) ≡ true
     select_no_later rival m =
         let (takes, typical, critical) = fitting_total rival m in
@@ -277,15 +276,15 @@ module _ {M : ℕ} {tasks : List (List Share)} {offers : List (ℕ → ℕ)} (r 
         select_first r (best_total M offers) (omega (arith, best_total_to)) within rival takes
         (sym same_typical ∙ sound.typical) (sym same-critical ∙ sound.critical))
 
-    select_chosen : least_by rank (keep (fits M) (choices tasks)) ≡ some (shares_at M offers (best_total M offers))
+    select_chosen : least_by rank (filter (fits M) (choices tasks)) ≡ Some (shares_at M offers (best_total M offers))
     select_chosen = least_is rank rank_same _ _ select_fits select_no_later
 
   -- What the offers select is the least choice that fits.
-  pub select_least : least_by rank (keep (fits M) (choices tasks)) ≡ selected M offers
+  pub select_least : least_by rank (filter (fits M) (choices tasks)) ≡ selected M offers
   unfolding selected
   select_least = go (leb (least_total M offers (best_total M offers)) M) refl
     where
       go : (e : Bool) → leb (least_total M offers (best_total M offers)) M ≡ e →
-          least_by rank (keep (fits M) (choices tasks)) ≡ cond e (some (shares_at M offers (best_total M offers))) none
+          least_by rank (filter (fits M) (choices tasks)) ≡ cond e (Some (shares_at M offers (best_total M offers))) None
       go true e = select_chosen (leb-true _ M e)
       go false e = ap (least_by rank) (select_none (leb-false _ M e)) ∙ least_of_none rank

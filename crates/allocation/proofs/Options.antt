@@ -22,7 +22,7 @@ use Rattle.basics.specs.Lists.{range}
 use Rattle.allocation.specs.Choice.{low_options, pairs_within, high_options, options_of}
 use Rattle.allocation.specs.Way.{LowPair, HighPair, MayTake}
 use Rattle.allocation.specs.Lawful.{LawfulTask}
-use Rattle.basics.proofs.Members.{range-has, range-within, each-has, each_from, map-has, map_from, keep-has, keep_from}
+use Rattle.basics.proofs.Members.{range-has, range-within, flat_map-has, flat_map_from, map-has, map_from, filter-has, filter_from}
 use Rattle.allocation.proofs.Lawfulness.{low_equal, heavy_work}
 use Rattle.allocation.proofs.Optimal.{OfferOf}
 
@@ -53,8 +53,8 @@ module _ (M : ℕ) (f : Figures) where
   pub high_from_lem : (s : Share) → Memᴰ s (high_options M f) → HighPair M f s
   unfolding high_options pairs_within
   high_from_lem s m =
-      let kept = keep_from _ _ s m in
-      let outer = each_from _ (range 1 M) s kept.0 in
+      let kept = filter_from _ _ s m in
+      let outer = flat_map_from _ (range 1 M) s kept.0 in
       let inner = map_from _ (range outer.0 (M + 1 - outer.0)) s outer.1.1 in
       let a = range-within 1 M _ outer.1.0 in
       let b = range-within outer.0 (M + 1 - outer.0) _ inner.1.0 in
@@ -72,8 +72,8 @@ module _ (M : ℕ) (f : Figures) where
   high_has s pair =
       let ordered = pair.ordered in
       let within = pair.within in
-      keep-has _ _ s
-      (each-has _ (range 1 M) s.typical s (range-has 1 M s.typical pair.positive (omega arith))
+      filter-has _ _ s
+      (flat_map-has _ (range 1 M) s.typical s (range-has 1 M s.typical pair.positive (omega arith))
       (map-has (λ (b : ℕ). record { typical = s.typical; critical = b }) (range s.typical (M + 1 - s.typical)) s.critical
       (range-has s.typical (M + 1 - s.typical) s.critical ordered (omega arith))))
       pair.passing

@@ -10,7 +10,7 @@ use lib.Dec.{leb, ltb}
 use lib.ListN.{length, get_or, drop, replicate}
 use lib.Pow.{pow_mono}
 use borrow.Author.Tests.{leb-true, le-leb, lt-ltb}
-use Rattle.basics.specs.Lists.{all}
+use Rattle.std.specs.List.{list_all}
 use Rattle.basics.specs.Numbers.{within}
 use Rattle.basics.proofs.Below.{all_at}
 use Rattle.basics.proofs.Logic.{left_true, right_true, all_five, within_bounds}
@@ -35,13 +35,13 @@ level_small level h = go (leb level 1) refl h
     go false e rest = let bounds = within_bounds 16 17 level rest in omega (arith, bounds.1)
 
 -- S2.12: masks of which the first k pass a test, and zeros that pass it behind them.
-zeros_pass : (test : ℕ → Bool) (n : ℕ) → test 0 ≡ true → all test (replicate n 0) ≡ true
+zeros_pass : (test : ℕ → Bool) (n : ℕ) → test 0 ≡ true → list_all test (replicate n 0) ≡ true
 zeros_pass test zero none = refl
 zeros_pass test (suc n) none = rw (none, zeros_pass test n none)
 
 masks_pass : (test : ℕ → Bool) (masks : List ℕ) (k left : ℕ) → ((v : ℕ) → v < k → test (get_or masks v 0) ≡ true) → test 0 ≡ true →
-    drop k masks ≡ replicate left 0 → all test masks ≡ true
-masks_pass test masks zero left h none e = ap (all test) e ∙ zeros_pass test left none
+    drop k masks ≡ replicate left 0 → list_all test masks ≡ true
+masks_pass test masks zero left h none e = ap (list_all test) e ∙ zeros_pass test left none
 masks_pass test [] (suc k) left h none e = refl
 masks_pass test (mask ∷ masks) (suc k) left h none e =
     rw (h 0 (omega arith), masks_pass test masks k left (λ v l. h (suc v) (omega arith)) none e)
@@ -86,14 +86,14 @@ module _ (level : ℕ) (f : Figures) where
       let limit = figure_limit level in
       let more : (x : ℕ) → within 1 limit x ≡ true → within 1 (figure_limit (wide_level level)) x ≡ true =
       λ x e. within_more 1 limit (figure_limit (wide_level level)) x (limit_grows level) e in
-      let all = all_five (within 1 limit f.deadline) (within 1 limit f.nominal.work) (within 1 limit f.overload.work)
+      let list_all = all_five (within 1 limit f.deadline) (within 1 limit f.nominal.work) (within 1 limit f.overload.work)
       (within 1 limit f.nominal.span) (within 1 limit f.overload.span) h in
       rw (
-        more f.deadline all.0,
-        more f.nominal.work all.1,
-        more f.overload.work all.2,
-        more f.nominal.span all.3,
-        more f.overload.span all.4,
+        more f.deadline list_all.0,
+        more f.nominal.work list_all.1,
+        more f.overload.work list_all.2,
+        more f.nominal.span list_all.3,
+        more f.overload.span list_all.4,
       )
 
   low_same : low_lawful (wide_level level) f ≡ low_lawful level f

@@ -4,7 +4,7 @@ use Prim.Native.Nat.{ℕ, ◌≤◌, ◌<◌}
 use mathlib.Core.Path.{◌≡◌, refl, sym, ap, ◌∙◌, subst}
 use mathlib.Core.Bool.{Bool, true, false, ◌&&◌, false≢true}
 use mathlib.Core.List.{List, Memᴰ}
-use mathlib.Core.Option.{some}
+use Rattle.std.specs.Prelude.{Some}
 use native.Mathlib.Omega.{arith}
 use lib.ListN.{length, get_or}
 use lib.Dec.{ltb}
@@ -49,7 +49,7 @@ typical_stays set choice =
     same i = with_typical kept choice i
 
 -- The shares that the tasks of a lawful set get.
-module _ (set : TaskSet) (lawful : LawfulSet set) (choice : List Share) (chosen_it : chosen_for set ≡ some choice) where
+module _ (set : TaskSet) (lawful : LawfulSet set) (choice : List Share) (chosen_it : chosen_for set ≡ Some choice) where
   pub tasks_there : length (tasks_of set) ≡ set.count
   tasks_there =
       let long = lawful.all_there in

@@ -5,7 +5,6 @@ use mathlib.Core.Path.{◌≡◌, refl, sym, ap, ◌∙◌, subst}
 use mathlib.Core.Bool.{Bool, true, false, false≢true}
 use mathlib.Core.List.Memᴰ
 use mathlib.Core.List.{List, [], ◌∷◌, map, Memᴰ}
-use mathlib.Core.Option.{none}
 use native.Mathlib.Numerals.{add-one}
 use native.Mathlib.Omega.{arith}
 use native.Mathlib.Decide.{dec_le, dec_lt}
@@ -15,7 +14,7 @@ use lib.Seq.{drop-cons, length-take-le, get_or-take}
 use borrow.Author.Tests.{ltb-true, lt-ltb}
 use Rattle.sheet.specs.declared.task.Task.{Task}
 use Rattle.sheet.specs.declared.task.TaskSet.{TaskSet}
-use Rattle.std.specs.Prelude.{Result, Ok, Err}
+use Rattle.std.specs.Prelude.{Result, Ok, Err, None}
 use Rattle.sheet.specs.declared.refusal.Refusal.{Refusal}
 use Rattle.sheet.specs.declared.refusal.Refusal.TheVariants.{NoShare}
 use Rattle.sheet.specs.Refusal.{Answer, refused_if, ◌or_else◌, first_over}
@@ -33,7 +32,7 @@ use Rattle.keeping.specs.Kept.{with_kept}
 use Rattle.allocation.specs.Allocation.{tasks_of, chosen_for, share_answer, choice_answer, shares_chosen, shares_with, shares_of, sixteen, choice_of}
 use Rattle.allocation.specs.Lawful.{LawfulTask, LawfulSet}
 use Rattle.allocation.specs.means.Selection.{cell_at, offered, selected, zero_offer, missing_offer, offers_of, offers_none, offer_answer, offers_up_to, selection_of, OfferWithin, OffersWithin}
-use Rattle.basics.proofs.Members.{keep_from, all_member, all-members}
+use Rattle.basics.proofs.Members.{filter_from, all_member, all-members}
 use Rattle.allocation.proofs.Optimal.{OfferOf, EachOffer, Offers, no_offer, offer_and, Takes, choice_takes, select_least}
 use Rattle.allocation.proofs.Options.{offer_of_lem, offer_agrees}
 use Rattle.allocation.proofs.Cells.{tabulate_from, tabulate-has}
@@ -44,7 +43,7 @@ abbrev pub chosen_line : TaskSet → Result (List Share) Refusal
 chosen_line set = choice_answer set or_else Ok (sixteen (shares_chosen (chosen_for set)))
 
 -- Where nothing is chosen there are no shares.
-pub none_shares : (set : TaskSet) → chosen_for set ≡ none → shares_of set ≡ []
+pub none_shares : (set : TaskSet) → chosen_for set ≡ None → shares_of set ≡ []
 unfolding shares_of shares_with with_kept range
 none_shares set e = rw e
 
@@ -229,7 +228,7 @@ module _ (set : TaskSet) (lawful : LawfulSet set) where
   unfolding fitting
   fitting_takes choice m =
       let options = map (options_of set.processors) (tasks_of set) in
-      choice_takes options choice (keep_from (fits set.processors) (choices options) choice m).0
+      choice_takes options choice (filter_from (fits set.processors) (choices options) choice m).0
 
   pub fitting_option : (choice : List Share) → Memᴰ choice (fitting set.processors (tasks_of set)) → (i : ℕ) → i < set.count →
       Memᴰ (get_or choice i no_processors) (options_of set.processors (task_in set i))

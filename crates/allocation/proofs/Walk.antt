@@ -2,11 +2,10 @@
 use Prim.Native.Nat.{ℕ, ◌+◌, ◌-◌, ◌≤◌, ◌<◌}
 use mathlib.Core.Path.{◌≡◌, refl, sym, ap, ◌∙◌}
 use mathlib.Core.List.{List, ◌∷◌}
-use mathlib.Core.Option.{none, some}
 use native.Mathlib.Omega.{arith}
 use lib.ListN.{length, get_or, drop, set}
 use borrow.Author.Tests.{le-leb, lt-leb}
-use Rattle.std.specs.Prelude.{Ok, Err}
+use Rattle.std.specs.Prelude.{Ok, Err, None, Some}
 use Rattle.sheet.specs.declared.refusal.Refusal.TheVariants.{NoFit}
 use Rattle.basics.specs.Lists.{cells}
 use Rattle.basics.proofs.Cells.{cells_store}
@@ -18,11 +17,11 @@ use Rattle.allocation.proofs.Lines.{totals_small, offers_length, offers_open, wh
 
 -- The answers that the walk ends in.
 module _ (M : ℕ) (offers : List (ℕ → ℕ)) where
-  select_past : M < least_total M offers (best_total M offers) → selected M offers ≡ none
+  select_past : M < least_total M offers (best_total M offers) → selected M offers ≡ None
   unfolding selected
   select_past past = rw (lt-leb _ M past)
 
-  select_within : least_total M offers (best_total M offers) ≤ M → selected M offers ≡ some (shares_at M offers (best_total M offers))
+  select_within : least_total M offers (best_total M offers) ≤ M → selected M offers ≡ Some (shares_at M offers (best_total M offers))
   unfolding selected
   select_within within = rw (le-leb _ M within)
 

@@ -4,14 +4,13 @@ use Prim.Native.Nat.{ℕ, suc, ◌<◌}
 use mathlib.Core.Path.{◌≡◌, refl, sym}
 use mathlib.Core.Bool.{Bool, true, false, false≢true}
 use mathlib.Core.List.{List, [], ◌∷◌, map, Memᴰ}
-use mathlib.Core.Option.{Option, none, some}
 use native.Mathlib.Omega.{arith}
 use lib.Dec.{leb}
 use lib.ListN.{length, get_or}
 use borrow.Author.Tests.{leb-true, le-leb}
 use Rattle.sheet.specs.declared.task.Task.{Task}
 use Rattle.sheet.specs.declared.task.TaskSet.{TaskSet}
-use Rattle.std.specs.Prelude.{Ok, Err}
+use Rattle.std.specs.Prelude.{Ok, Err, Option, None, Some, is_none}
 use Rattle.sheet.specs.declared.refusal.Refusal.{Refusal}
 use Rattle.sheet.specs.declared.refusal.Refusal.TheVariants.{NoShare, NoFit}
 use Rattle.sheet.specs.Refusal.{Answer, refused_if, ◌or_else◌, first_over}
@@ -19,7 +18,7 @@ use Rattle.sheet.specs.Format.{task_in, missing_task}
 use Rattle.basics.proofs.Logic.{left_true, right_true}
 use Rattle.shares.specs.declared.share.Share.{Share}
 use Rattle.shares.specs.Totals.{no_processors, share_at, typical_total}
-use Rattle.basics.specs.Lists.{is_empty, is_none}
+use Rattle.basics.specs.Lists.{is_empty}
 use Rattle.basics.specs.Order.{no_later}
 use Rattle.allocation.specs.Choice.{options_of, choices, fits, rank, chosen}
 use Rattle.allocation.specs.Way.{MayTake, TakesNothing, FittingWay, BestWay}
@@ -95,9 +94,9 @@ module _ (M : ℕ) where
       }
     where
       go : (o : Option (List Share)) → chosen M tasks ≡ o → (way : List Share) → FittingWay M tasks way →
-          (best : List Share) × ((o ≡ some best) × (no_later (rank best) (rank way) ≡ true))
-      go none e way fit = absurd (chosen_none M tasks e way (way_choice tasks way fit) (way_fits tasks way fit))
-      go (some best) e way fit =
+          (best : List Share) × ((o ≡ Some best) × (no_later (rank best) (rank way) ≡ true))
+      go None e way fit = absurd (chosen_none M tasks e way (way_choice tasks way fit) (way_fits tasks way fit))
+      go (Some best) e way fit =
           (best, (refl, chosen-first M tasks best way e (way_choice tasks way fit) (way_fits tasks way fit)))
 
 -- The same of a task set.
@@ -122,8 +121,8 @@ module _ (set : TaskSet) where
     where
       by_way : ((i : ℕ) → i < set.count → CanTake set i) → (o : Option (List Share)) → chosen_for set ≡ o →
           Verdict set (refused_if (is_none o) NoFit)
-      by_way can none e = nothing_fits can ((set_best set).none_fits e)
-      by_way can (some best) e = accepted can best ((set_best set).fits best e)
+      by_way can None e = nothing_fits can ((set_best set).none_fits e)
+      by_way can (Some best) e = accepted can best ((set_best set).fits best e)
 
       named : (i : ℕ) {r : Refusal} → r ≡ NoShare i → Verdict set (Err (NoShare i)) → Verdict set (Err r)
       named i same v = rw same v

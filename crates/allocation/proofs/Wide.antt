@@ -16,7 +16,7 @@ use Rattle.sheet.specs.Wide.{wide_level, wide_task, wide_set, WideLevels}
 use Rattle.sheet.proofs.Wide.{wide_levels}
 use Rattle.sheet.proofs.Faults.{over_same}
 use Rattle.basics.proofs.Cells.{cells-length, cells_same}
-use Rattle.basics.proofs.Lists.{keep_ext_below}
+use Rattle.basics.proofs.Lists.{filter_ext_below}
 use Rattle.reader.specs.Reading.{read_of, read_answer}
 use Rattle.keeping.specs.Kept.{low_numbers, kept_tasks}
 use Rattle.shares.specs.declared.share.Share.{Share}
@@ -69,7 +69,7 @@ low_numbers_wide : (tasks : List Task) → low_numbers (map wide_task tasks) ≡
 unfolding low_numbers
 low_numbers_wide tasks =
     rw (length-map tasks wide_task)
-    (keep_ext_below (λ i. is_low (get_or (map wide_task tasks) i missing_task).level) (λ i. is_low (get_or tasks i missing_task).level) (length tasks)
+    (filter_ext_below (λ i. is_low (get_or (map wide_task tasks) i missing_task).level) (λ i. is_low (get_or tasks i missing_task).level) (length tasks)
     (λ i inside. low_at_wide tasks i))
 
 kept_wide : (M : ℕ) (tasks : List Task) (choice : List Share) → kept_tasks M (map wide_task tasks) choice ≡ kept_tasks M tasks choice

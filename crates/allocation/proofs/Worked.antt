@@ -4,7 +4,6 @@ use mathlib.Core.Path.{◌≡◌, refl, sym, ap}
 use mathlib.Core.Bool.{true, false≢true}
 use mathlib.Core.List.Memᴰ
 use mathlib.Core.List.{List, [], ◌∷◌}
-use mathlib.Core.Option.{none, some}
 use native.Mathlib.Omega.{arith}
 use lib.Dec.{lit≤}
 use lib.ListN.{length, get_or}
@@ -31,7 +30,7 @@ use Rattle.keeping.specs.KeptSet.{HeldSet}
 use Rattle.allocation.specs.Held.{options_up_to, critical_shares, critical_totals, uncapped_share, uncapped_total, share_held, total_held}
 use Rattle.allocation.specs.means.Selection.{cell_at, least_from, sum_at, best_share, total_with, least_total, totals_of, offers_of, offers_up_to, last_totals, totals_for}
 use Rattle.allocation.specs.Allocation.{chosen_for, share_answer, choice_answer, shares_with, shares_of, allocation_of}
-use Rattle.std.specs.Prelude.{Err}
+use Rattle.std.specs.Prelude.{Err, None, Some}
 use Rattle.sheet.specs.declared.refusal.Refusal.TheVariants.{NoShare, NoFit}
 
 -- A typical and a critical share.
@@ -66,22 +65,22 @@ abe = high task_a ∷ high task_b ∷ low task_e ∷ []
 
 pub record Worked : Type 0 where
   -- S5.3: the critical total comes before the typical one.
-  pub by_critical : least_by rank ((pair 1 3 ∷ []) ∷ (pair 2 2 ∷ []) ∷ []) ≡ some (pair 2 2 ∷ [])
+  pub by_critical : least_by rank ((pair 1 3 ∷ []) ∷ (pair 2 2 ∷ []) ∷ []) ≡ Some (pair 2 2 ∷ [])
   -- With the same critical total the smaller typical total decides.
-  pub by_typical : least_by rank ((pair 2 2 ∷ pair 1 2 ∷ []) ∷ (pair 1 2 ∷ pair 1 2 ∷ []) ∷ []) ≡ some (pair 1 2 ∷ pair 1 2 ∷ [])
+  pub by_typical : least_by rank ((pair 2 2 ∷ pair 1 2 ∷ []) ∷ (pair 1 2 ∷ pair 1 2 ∷ []) ∷ []) ≡ Some (pair 1 2 ∷ pair 1 2 ∷ [])
   -- With the same totals the first task whose pairs differ decides, by the smaller a.
-  pub by_a : least_by rank ((pair 2 2 ∷ pair 1 3 ∷ []) ∷ (pair 1 3 ∷ pair 2 2 ∷ []) ∷ []) ≡ some (pair 1 3 ∷ pair 2 2 ∷ [])
+  pub by_a : least_by rank ((pair 2 2 ∷ pair 1 3 ∷ []) ∷ (pair 1 3 ∷ pair 2 2 ∷ []) ∷ []) ≡ Some (pair 1 3 ∷ pair 2 2 ∷ [])
   -- With the same a, by the smaller b.
-  pub by_b : least_by rank ((pair 1 3 ∷ pair 1 2 ∷ []) ∷ (pair 1 2 ∷ pair 1 3 ∷ []) ∷ []) ≡ some (pair 1 2 ∷ pair 1 3 ∷ [])
+  pub by_b : least_by rank ((pair 1 3 ∷ pair 1 2 ∷ []) ∷ (pair 1 2 ∷ pair 1 3 ∷ []) ∷ []) ≡ Some (pair 1 2 ∷ pair 1 3 ∷ [])
   -- A twice on 4 processors: (2, 2) twice has the same critical total, and a larger typical one.
-  pub twice : chosen_for (on 4 (high task_a ∷ high task_a ∷ [])) ≡ some (pair 1 2 ∷ pair 1 2 ∷ [])
+  pub twice : chosen_for (on 4 (high task_a ∷ high task_a ∷ [])) ≡ Some (pair 1 2 ∷ pair 1 2 ∷ [])
   -- The low task leaves 3 of 5 processors, so that one of two steep tasks takes 1 and the other 2: the first takes 1.
-  pub smaller_first : chosen_for (on 5 (high steep ∷ high steep ∷ low (low_task 30) ∷ [])) ≡ some (pair 1 3 ∷ pair 2 2 ∷ pair 2 0 ∷ [])
+  pub smaller_first : chosen_for (on 5 (high steep ∷ high steep ∷ low (low_task 30) ∷ [])) ≡ Some (pair 1 3 ∷ pair 2 2 ∷ pair 2 0 ∷ [])
   -- Refusal 7: on 1 processor the low task's share is too large; what comes after it is not asked.
   pub nothing_to_take : choice_answer (on 1 (low (low_task 30) ∷ high task_a ∷ [])) ≡ Err (NoShare 0)
   -- Refusal 8: on 3 processors A twice needs 4 in critical mode.
   pub nothing_fits : choice_answer (on 3 (high task_a ∷ high task_a ∷ [])) ≡ Err NoFit
-  pub nothing : chosen_for (on 3 (high task_a ∷ high task_a ∷ [])) ≡ none
+  pub nothing : chosen_for (on 3 (high task_a ∷ high task_a ∷ [])) ≡ None
   -- S11.11: A and B on 5 and on 3 processors.
   pub on_five : choice_answer (on 5 ab) ≡ Err NoFit
   pub on_three : choice_answer (on 3 ab) ≡ Err (NoShare 1)
@@ -118,13 +117,13 @@ worked_rounded = record { none_left = refl; one_left = refl; low_left = refl }
 
 pub record WorkedHeld : Type 0 where
   -- S5.7: at typical share 1 B needs 27 processors in the critical mode; on 5 processors 6 is held for it.
-  pub true_share : uncapped_share 5 27 (high task_b) 1 ≡ some 27
+  pub true_share : uncapped_share 5 27 (high task_b) 1 ≡ Some 27
   pub held_share : share_held (offers_of (on 5 ab)) 1 1 ≡ 6
   -- A twice with typical total 2 needs 4; on 2 processors 3 is held for it.
-  pub true_total : uncapped_total 2 2 (high task_a ∷ high task_a ∷ []) 2 ≡ some 4
+  pub true_total : uncapped_total 2 2 (high task_a ∷ high task_a ∷ []) 2 ≡ Some 4
   pub held_total : total_held (totals_for (on 2 (high task_a ∷ high task_a ∷ []))) 2 2 ≡ 3
 
-worked_true : (uncapped_share 5 27 (high task_b) 1 ≡ some 27) × (uncapped_total 2 2 (high task_a ∷ high task_a ∷ []) 2 ≡ some 4)
+worked_true : (uncapped_share 5 27 (high task_b) 1 ≡ Some 27) × (uncapped_total 2 2 (high task_a ∷ high task_a ∷ []) 2 ≡ Some 4)
 unfolding is_low is_high excess demand passes range pairs_within high_options least_by least options_up_to critical_shares critical_totals uncapped_share uncapped_total
 worked_true = (refl, refl)
 

@@ -1,12 +1,11 @@
 -- What is chosen for a task set, refusals 7 and 8, and what is fixed for each task of a sheet.
-use Rattle.std.specs.Prelude.{ℕ, true, false, List, [], length, get_or, take, Result, Ok}
-use Rattle.std.proofs.Math.Option.{Option, none, some}
+use Rattle.std.specs.Prelude.{ℕ, true, false, List, [], length, get_or, take, Result, Ok, Option, None, Some, is_none}
 use Rattle.sheet.specs.declared.task.Task.{Task}
 use Rattle.sheet.specs.declared.task.TaskSet.{TaskSet}
 use Rattle.sheet.specs.declared.refusal.Refusal.{Refusal}
 use Rattle.sheet.specs.declared.refusal.Refusal.TheVariants.{NoShare, NoFit}
 use Rattle.sheet.specs.Refusal.{Answer, refused_if, ◌or_else◌, first_over}
-use Rattle.basics.specs.Lists.{cells, is_empty, is_none}
+use Rattle.basics.specs.Lists.{cells, is_empty}
 use Rattle.sheet.specs.Format.{task_in, task_set_of}
 use Rattle.reader.specs.Reading.{read_answer}
 use Rattle.shares.specs.declared.share.Share.{Share}
@@ -38,8 +37,8 @@ choice_answer set =
 
 -- The shares of a choice; none have no shares.
 abbrev pub shares_chosen : Option (List Share) → List Share
-shares_chosen none = []
-shares_chosen (some choice) = choice
+shares_chosen None = []
+shares_chosen (Some choice) = choice
 
 -- The shares as a line of sixteen, with zeros in the place of the tasks that are not there.
 unfoldable pub sixteen : List Share → List Share

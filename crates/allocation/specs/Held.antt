@@ -1,8 +1,6 @@
 -- S5.7: the shares and totals that the planner holds in bytes, beside the true ones. In these a high task may take any
 -- pair up to N that passes, however large N is.
-use Rattle.std.specs.Prelude.{ℕ, ◌+◌, ◌-◌, ◌≤◌, ◌<◌, ◌≡◌, cond, List, [], map, eqb, get_or, drop}
-use Rattle.std.proofs.Math.Option.{Option}
-use Rattle.basics.specs.Lists.{keep}
+use Rattle.std.specs.Prelude.{ℕ, ◌+◌, ◌-◌, ◌≤◌, ◌<◌, ◌≡◌, cond, List, [], map, eqb, get_or, drop, Option, filter}
 use Rattle.basics.specs.Order.{least, capped_at}
 use Rattle.sheet.specs.declared.task.Task.{Task}
 use Rattle.sheet.specs.declared.task.TaskSet.{TaskSet}
@@ -19,11 +17,11 @@ options_up_to M N t = cond (is_low t.level) (low_options M t.figures) (high_opti
 
 -- The critical shares that a task may take beside the typical share a.
 unfoldable pub critical_shares : ℕ → ℕ → Task → ℕ → List ℕ
-critical_shares M N t a = map (λ s. s.critical) (keep (λ s. eqb s.typical a) (options_up_to M N t))
+critical_shares M N t a = map (λ s. s.critical) (filter (λ s. eqb s.typical a) (options_up_to M N t))
 
 -- The critical totals of all choices of these tasks that have the typical total t.
 unfoldable pub critical_totals : ℕ → ℕ → List Task → ℕ → List ℕ
-critical_totals M N tasks t = map critical_total (keep (λ choice. eqb (typical_total choice) t) (choices (map (options_up_to M N) tasks)))
+critical_totals M N tasks t = map critical_total (filter (λ choice. eqb (typical_total choice) t) (choices (map (options_up_to M N) tasks)))
 
 -- The true least critical share of a task beside the typical share a, or none.
 unfoldable pub uncapped_share : ℕ → ℕ → Task → ℕ → Option ℕ

@@ -1,7 +1,6 @@
 -- What holds of every task set and of every sheet, in plain words, each part a law. Functions of `promise` promise
 -- them.
-use Rattle.std.specs.Prelude.{ℕ, ◌<◌, ◌≡◌, List, Ok}
-use Rattle.std.proofs.Math.Option.{some}
+use Rattle.std.specs.Prelude.{ℕ, ◌<◌, ◌≡◌, List, Ok, Some}
 use Rattle.basics.specs.Lists.{is_empty}
 use Rattle.sheet.specs.declared.task.Task.{Task}
 use Rattle.sheet.specs.declared.task.TaskSet.{TaskSet}
@@ -40,7 +39,7 @@ pub record KeptBeside (set : TaskSet) (choice : List Share) : Type 0 where
 
 -- This holds of the choice for every lawful task set.
 unfoldable pub KeptChoice : Type 0
-KeptChoice = (set : TaskSet) (choice : List Share) → LawfulSet set → chosen_for set ≡ some choice → KeptBeside set choice
+KeptChoice = (set : TaskSet) (choice : List Share) → LawfulSet set → chosen_for set ≡ Some choice → KeptBeside set choice
 
 -- S5.7: what is held in bytes for every lawful task set.
 unfoldable pub HeldTotals : Type 0

@@ -1,6 +1,5 @@
 -- S5.1 to S5.3 in plain words, with no enumeration: what a task may take, what a choice is, and which one is chosen.
-use Rattle.std.specs.Prelude.{ℕ, ◌≤◌, ◌<◌, ◌≡◌, Bool, true, false, List, length, get_or}
-use Rattle.std.proofs.Math.Option.{Option, none, some}
+use Rattle.std.specs.Prelude.{ℕ, ◌≤◌, ◌<◌, ◌≡◌, Bool, true, false, List, length, get_or, Option, None, Some}
 use Rattle.sheet.specs.declared.task.Figures.{Figures}
 use Rattle.sheet.specs.declared.task.Task.{Task}
 use Rattle.sheet.specs.Format.{missing_task}
@@ -49,10 +48,10 @@ pub record FittingWay (M : ℕ) (tasks : List Task) (shares : List Share) : Type
 -- S5.3: the best of all ways that fit, or none. What is chosen fits; it comes no later than any way that fits, and any
 -- other comes later than it; and none is chosen just where no way fits.
 pub record BestWay (M : ℕ) (tasks : List Task) (choice : Option (List Share)) : Type 0 where
-  pub fits : (best : List Share) → choice ≡ some best → FittingWay M tasks best
+  pub fits : (best : List Share) → choice ≡ Some best → FittingWay M tasks best
   pub first : (way : List Share) → FittingWay M tasks way →
-      (best : List Share) × ((choice ≡ some best) × (no_later (rank best) (rank way) ≡ true))
-  pub only : (best way : List Share) → choice ≡ some best → FittingWay M tasks way → (way ≡ best → ⊥) →
+      (best : List Share) × ((choice ≡ Some best) × (no_later (rank best) (rank way) ≡ true))
+  pub only : (best way : List Share) → choice ≡ Some best → FittingWay M tasks way → (way ≡ best → ⊥) →
       no_later (rank way) (rank best) ≡ false
-  pub none_fits : choice ≡ none → (way : List Share) → FittingWay M tasks way → ⊥
-  pub none_chosen : ((way : List Share) → FittingWay M tasks way → ⊥) → choice ≡ none
+  pub none_fits : choice ≡ None → (way : List Share) → FittingWay M tasks way → ⊥
+  pub none_chosen : ((way : List Share) → FittingWay M tasks way → ⊥) → choice ≡ None

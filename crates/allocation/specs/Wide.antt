@@ -1,7 +1,7 @@
 -- S2.14: a sheet and its wide form. Both are read to the same tasks but for the level, and the planner fixes the same
 -- for them.
 use Rattle.std.specs.Prelude.{ℕ, ◌-◌, ◌<◌, true, List, ◌≡◌, ltb, length, drop, replicate, Ok}
-use Rattle.basics.specs.Lists.{all}
+use Rattle.std.specs.List.{list_all}
 use Rattle.sheet.specs.declared.task.TaskSet.{TaskSet}
 use Rattle.sheet.specs.Format.{task_in, zero_task, task_set_of}
 use Rattle.sheet.specs.Encoding.{sheet_bytes}
@@ -24,7 +24,7 @@ SheetRead = (set : TaskSet) → LawfulSet set → Padded set → read_of (sheet_
 
 -- S2: a sheet that the reader accepts is what is written of its task set, byte by byte.
 unfoldable pub SheetAgain : Type 0
-SheetAgain = (s : List ℕ) → all (λ b. ltb b 256) s ≡ true → read_answer s ≡ Ok tt → sheet_bytes (task_set_of s) ≡ s
+SheetAgain = (s : List ℕ) → list_all (λ b. ltb b 256) s ≡ true → read_answer s ≡ Ok tt → sheet_bytes (task_set_of s) ≡ s
 
 -- S2.14: the wide form of a sheet: what is written of its task set with each task in the wide form.
 unfoldable pub wide_form : List ℕ → List ℕ

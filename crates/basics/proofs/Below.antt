@@ -7,7 +7,7 @@ use native.Mathlib.Omega.{arith}
 use native.Mathlib.Numerals.{add-one}
 use native.Mathlib.Decide.{dec_lt, ℕ_discrete}
 use Rattle.std.specs.List.{list_all, range_with_len}
-use Rattle.basics.specs.Lists.{range, all, all_below}
+use Rattle.basics.specs.Lists.{range, all_below}
 use Rattle.basics.proofs.Logic.{left_true, right_true}
 
 -- What holds below k and at k holds below suc k.
@@ -39,7 +39,7 @@ pub all_fails : (k : ℕ) (p : ℕ → Bool) (v : ℕ) → v < k → p v ≡ fal
 all_fails k p v l e = go (all_below k p) refl
   where
     go : (t : Bool) → all_below k p ≡ t → t ≡ false
-    go true all = cc (all_at k p all v l)
+    go true list_all = cc (all_at k p list_all v l)
     go false some = refl
 
 -- One more number.
@@ -60,22 +60,22 @@ unfolding all_below
 list_all-range test n = let e : 0 + n ≡ n = omega arith in sym (rw e at (all_below-range test 0 n))
 
 -- The same of the numbers of a range.
-pub range-all_at : (p : ℕ → Bool) (first n v : ℕ) → all p (range first n) ≡ true → first ≤ v → v < first + n → p v ≡ true
+pub range-all_at : (p : ℕ → Bool) (first n v : ℕ) → list_all p (range first n) ≡ true → first ≤ v → v < first + n → p v ≡ true
 unfolding range
 range-all_at p first zero v e low high = absurd (omega arith)
 range-all_at p first (suc n) v e low high = go (ℕ_discrete v first) (range-all_at p (suc first) n v)
   where
-    both : (p first ≡ true) × (all p (range (suc first) n) ≡ true)
-    both = (and-eq-true_iff (p first) (all p (range (suc first) n))).0 e
+    both : (p first ≡ true) × (list_all p (range (suc first) n) ≡ true)
+    both = (and-eq-true_iff (p first) (list_all p (range (suc first) n))).0 e
 
-    go : Dec (v ≡ first) → (all p (range (suc first) n) ≡ true → suc first ≤ v → v < suc first + n → p v ≡ true) → p v ≡ true
+    go : Dec (v ≡ first) → (list_all p (range (suc first) n) ≡ true → suc first ≤ v → v < suc first + n → p v ≡ true) → p v ≡ true
     go (yes same) rest = ap p same ∙ both.0
     go (no other) rest = rest both.1 (omega arith) (omega arith)
 
 pub range_all : (p : ℕ → Bool) (first n : ℕ) → ((v : ℕ) → first ≤ v → v < first + n → p v ≡ true) →
-    all p (range first n) ≡ true
+    list_all p (range first n) ≡ true
 unfolding range
 range_all p first zero h = refl
 range_all p first (suc n) h =
-    (and-eq-true_iff (p first) (all p (range (suc first) n))).1
+    (and-eq-true_iff (p first) (list_all p (range (suc first) n))).1
     (h first (le_refl first) (omega arith), range_all p (suc first) n (λ v low high. h v (omega arith) (omega arith)))

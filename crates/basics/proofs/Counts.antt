@@ -1,5 +1,6 @@
 -- Counts of the numbers that pass a test, and the s lowest of them: as a list they are the first s of `keep`, as a
 -- test those with fewer than s passing below. By induction on the range, its start free.
+use Rattle.std.specs.Prelude.{filter}
 use Prim.Native.Nat.{ℕ, zero, suc, ◌+◌, ◌-◌, ◌≤◌, ◌<◌}
 use mathlib.Core.Path.{◌≡◌, refl, sym, ap, ap₂, ◌∙◌}
 use mathlib.Core.Bool.{Bool, true, false, ◌&&◌}
@@ -10,7 +11,7 @@ use borrow.Author.Tests.{ltb-true, ltb-false}
 use lib.Dec.{ltb}
 use lib.ListN.{length, take}
 use lib.Seq.{take-nil}
-use Rattle.basics.specs.Lists.{range, keep, kept_if, bit, count}
+use Rattle.basics.specs.Lists.{range, kept_if, bit, count}
 
 -- One number more.
 pub count_next : (p : ℕ → Bool) (v : ℕ) → count p (suc v) ≡ count p v + bit (p v)
@@ -42,15 +43,15 @@ length_kept_bit true x xs = omega arith
 length_kept_bit false x xs = sym (zero-add (length xs))
 
 -- The s lowest that pass, from any start: so many are left to take as s exceeds the count so far.
-pub take-keep_from : (p : ℕ → Bool) (s first n : ℕ) → keep (λ v. p v && ltb (count p v) s) (range first n) ≡ take (s - count p first) (keep p (range first n))
+pub take-filter_from : (p : ℕ → Bool) (s first n : ℕ) → filter (λ v. p v && ltb (count p v) s) (range first n) ≡ take (s - count p first) (filter p (range first n))
 unfolding range
-take-keep_from p s first zero = sym (take-nil (s - count p first))
-take-keep_from p s first (suc n) =
-    ap (kept_if (p first && ltb (count p first) s) first) (take-keep_from p s (suc first) n)
+take-filter_from p s first zero = sym (take-nil (s - count p first))
+take-filter_from p s first (suc n) =
+    ap (kept_if (p first && ltb (count p first) s) first) (take-filter_from p s (suc first) n)
     ∙ rw (count_next p first) (step (p first) (ltb (count p first) s) refl)
   where
     rest : List ℕ
-    rest = keep p (range (suc first) n)
+    rest = filter p (range (suc first) n)
 
     step : (t l : Bool) → ltb (count p first) s ≡ l
         → kept_if (t && l) first (take (s - (count p first + bit t)) rest) ≡ take (s - count p first) (kept_if t first rest)
@@ -64,6 +65,6 @@ take-keep_from p s first (suc n) =
     step false l e = rw add-zero
 
 -- "The s lowest" as a test and as a list.
-pub keep_lowest : (p : ℕ → Bool) (s k : ℕ) → keep (λ v. p v && ltb (count p v) s) (range 0 k) ≡ take s (keep p (range 0 k))
+pub filter_lowest : (p : ℕ → Bool) (s k : ℕ) → filter (λ v. p v && ltb (count p v) s) (range 0 k) ≡ take s (filter p (range 0 k))
 unfolding count
-keep_lowest p s k = let e = take-keep_from p s 0 k in rw sub-zero at e
+filter_lowest p s k = let e = take-filter_from p s 0 k in rw sub-zero at e

@@ -1,17 +1,18 @@
 -- What the members of an enumerated list are, by induction on the list.
+use Rattle.std.specs.List.{list_all}
 use Prim.Native.Nat.{ℕ, zero, suc, ◌+◌, ◌≤◌, ◌<◌}
 use mathlib.Core.Path.{◌≡◌, refl, sym, ap, ◌∙◌, subst}
 use mathlib.Core.Logic.{◌⊎◌, inl, inr, ◌≢◌}
 use mathlib.Core.Bool.{Bool, true, false, cond, ◌&&◌, false≢true}
 use mathlib.Core.List.Memᴰ
 use mathlib.Core.List.{List, [], ◌∷◌, ◌++◌, map, Memᴰ}
-use mathlib.Core.Option.{none, some}
+use Rattle.std.specs.Prelude.{None, Some, filter, flat_map, find}
 use native.Mathlib.Omega.{arith}
 use lib.Arith.{lt_of_le-ne}
 use lib.Dec.{eqb}
 use lib.ListN.{length, get_or}
 use borrow.Author.Tests.{eqb-true, eqb-false}
-use Rattle.basics.specs.Lists.{range, kept_if, keep, each, all, find, is_empty, greatest}
+use Rattle.basics.specs.Lists.{range, kept_if, is_empty, greatest}
 
 -- The numbers of a range.
 pub range-has : (first count x : ℕ) → first ≤ x → x < first + count → Memᴰ x (range first count)
@@ -40,20 +41,20 @@ range-within first (suc count) x m =
 
 module _ {A B : Type 0} where
   -- A member of what f gives for some member.
-  pub each-has : (f : A → List B) (xs : List A) (x : A) (y : B) → Memᴰ x xs → Memᴰ y (f x) → Memᴰ y (each xs f)
-  each-has f [] x y m n = absurd (Memᴰ.not-nil m)
-  each-has f (z ∷ xs) x y m n = go (λ later. each-has f xs x y later n) (Memᴰ.cases_cons m)
+  pub flat_map-has : (f : A → List B) (xs : List A) (x : A) (y : B) → Memᴰ x xs → Memᴰ y (f x) → Memᴰ y (flat_map f xs)
+  flat_map-has f [] x y m n = absurd (Memᴰ.not-nil m)
+  flat_map-has f (z ∷ xs) x y m n = go (λ later. flat_map-has f xs x y later n) (Memᴰ.cases_cons m)
     where
-      go : (Memᴰ x xs → Memᴰ y (each xs f)) → (x ≡ z) ⊎ Memᴰ x xs → Memᴰ y (f z ++ each xs f)
-      go rest (inl e) = Memᴰ.append_left (each xs f) (subst (λ w. Memᴰ y (f w)) e n)
+      go : (Memᴰ x xs → Memᴰ y (flat_map f xs)) → (x ≡ z) ⊎ Memᴰ x xs → Memᴰ y (f z ++ flat_map f xs)
+      go rest (inl e) = Memᴰ.append_left (flat_map f xs) (subst (λ w. Memᴰ y (f w)) e n)
       go rest (inr later) = Memᴰ.append_right (f z) (rest later)
 
-  pub each_from : (f : A → List B) (xs : List A) (y : B) → Memᴰ y (each xs f) → (x : A) × (Memᴰ x xs × Memᴰ y (f x))
-  each_from f [] y m = absurd (Memᴰ.not-nil m)
-  each_from f (z ∷ xs) y m = go (each_from f xs y) (Memᴰ.append_cases (f z) m)
+  pub flat_map_from : (f : A → List B) (xs : List A) (y : B) → Memᴰ y (flat_map f xs) → (x : A) × (Memᴰ x xs × Memᴰ y (f x))
+  flat_map_from f [] y m = absurd (Memᴰ.not-nil m)
+  flat_map_from f (z ∷ xs) y m = go (flat_map_from f xs y) (Memᴰ.append_cases (f z) m)
     where
-      go : (Memᴰ y (each xs f) → (x : A) × (Memᴰ x xs × Memᴰ y (f x))) →
-          Memᴰ y (f z) ⊎ Memᴰ y (each xs f) → (x : A) × (Memᴰ x (z ∷ xs) × Memᴰ y (f x))
+      go : (Memᴰ y (flat_map f xs) → (x : A) × (Memᴰ x xs × Memᴰ y (f x))) →
+          Memᴰ y (f z) ⊎ Memᴰ y (flat_map f xs) → (x : A) × (Memᴰ x (z ∷ xs) × Memᴰ y (f x))
       go rest (inl here) = (z, (Memᴰ.head refl, here))
       go rest (inr later) = let found = rest later in (found.0, (Memᴰ.tail found.1.0, found.1.1))
 
@@ -75,63 +76,63 @@ module _ {A B : Type 0} where
       go rest (inr later) = let found = rest later in (found.0, (Memᴰ.tail found.1.0, found.1.1))
 
 module _ {A : Type 0} (test : A → Bool) where
-  pub keep-has : (xs : List A) (x : A) → Memᴰ x xs → test x ≡ true → Memᴰ x (keep test xs)
-  keep-has [] x m e = absurd (Memᴰ.not-nil m)
-  keep-has (z ∷ xs) x m e = go (test z) refl (λ later. keep-has xs x later e) (Memᴰ.cases_cons m)
+  pub filter-has : (xs : List A) (x : A) → Memᴰ x xs → test x ≡ true → Memᴰ x (filter test xs)
+  filter-has [] x m e = absurd (Memᴰ.not-nil m)
+  filter-has (z ∷ xs) x m e = go (test z) refl (λ later. filter-has xs x later e) (Memᴰ.cases_cons m)
     where
-      go : (t : Bool) → test z ≡ t → (Memᴰ x xs → Memᴰ x (keep test xs)) → (x ≡ z) ⊎ Memᴰ x xs →
-          Memᴰ x (kept_if t z (keep test xs))
+      go : (t : Bool) → test z ≡ t → (Memᴰ x xs → Memᴰ x (filter test xs)) → (x ≡ z) ⊎ Memᴰ x xs →
+          Memᴰ x (kept_if t z (filter test xs))
       go true q rest (inl same) = Memᴰ.head same
       go true q rest (inr later) = Memᴰ.tail (rest later)
       go false q rest (inl same) = absurd (false≢true (sym q ∙ ap test (sym same) ∙ e))
       go false q rest (inr later) = rest later
 
-  pub keep_from : (xs : List A) (x : A) → Memᴰ x (keep test xs) → Memᴰ x xs × (test x ≡ true)
-  keep_from [] x m = absurd (Memᴰ.not-nil m)
-  keep_from (z ∷ xs) x m = go (test z) refl (keep_from xs x) m
+  pub filter_from : (xs : List A) (x : A) → Memᴰ x (filter test xs) → Memᴰ x xs × (test x ≡ true)
+  filter_from [] x m = absurd (Memᴰ.not-nil m)
+  filter_from (z ∷ xs) x m = go (test z) refl (filter_from xs x) m
     where
-      step : test z ≡ true → (Memᴰ x (keep test xs) → Memᴰ x xs × (test x ≡ true)) →
-          (x ≡ z) ⊎ Memᴰ x (keep test xs) → Memᴰ x (z ∷ xs) × (test x ≡ true)
+      step : test z ≡ true → (Memᴰ x (filter test xs) → Memᴰ x xs × (test x ≡ true)) →
+          (x ≡ z) ⊎ Memᴰ x (filter test xs) → Memᴰ x (z ∷ xs) × (test x ≡ true)
       step q rest (inl same) = (Memᴰ.head same, ap test same ∙ q)
       step q rest (inr later) = let found = rest later in (Memᴰ.tail found.0, found.1)
 
-      go : (t : Bool) → test z ≡ t → (Memᴰ x (keep test xs) → Memᴰ x xs × (test x ≡ true)) →
-          Memᴰ x (kept_if t z (keep test xs)) → Memᴰ x (z ∷ xs) × (test x ≡ true)
+      go : (t : Bool) → test z ≡ t → (Memᴰ x (filter test xs) → Memᴰ x xs × (test x ≡ true)) →
+          Memᴰ x (kept_if t z (filter test xs)) → Memᴰ x (z ∷ xs) × (test x ≡ true)
       go true q rest n = step q rest (Memᴰ.cases_cons n)
       go false q rest n = let found = rest n in (Memᴰ.tail found.0, found.1)
 
   -- Every member passes.
-  pub all_member : (xs : List A) (x : A) → all test xs ≡ true → Memᴰ x xs → test x ≡ true
+  pub all_member : (xs : List A) (x : A) → list_all test xs ≡ true → Memᴰ x xs → test x ≡ true
   all_member [] x e m = absurd (Memᴰ.not-nil m)
   all_member (z ∷ xs) x e m = go (test z) refl e (all_member xs x) (Memᴰ.cases_cons m)
     where
-      go : (t : Bool) → test z ≡ t → t && all test xs ≡ true → (all test xs ≡ true → Memᴰ x xs → test x ≡ true) →
+      go : (t : Bool) → test z ≡ t → t && list_all test xs ≡ true → (list_all test xs ≡ true → Memᴰ x xs → test x ≡ true) →
           (x ≡ z) ⊎ Memᴰ x xs → test x ≡ true
       go true q h rest (inl same) = ap test same ∙ q
       go true q h rest (inr later) = rest h later
       go false q h rest w = absurd (false≢true h)
 
-  pub all-members : (xs : List A) → ((x : A) → Memᴰ x xs → test x ≡ true) → all test xs ≡ true
+  pub all-members : (xs : List A) → ((x : A) → Memᴰ x xs → test x ≡ true) → list_all test xs ≡ true
   all-members [] h = refl
   all-members (z ∷ xs) h = rw (h z (Memᴰ.head refl), all-members xs (λ x m. h x (Memᴰ.tail m)))
 
   -- What is found is a member that passes.
-  pub find_some : (xs : List A) (x : A) → find test xs ≡ some x → Memᴰ x xs × (test x ≡ true)
+  pub find_some : (xs : List A) (x : A) → find test xs ≡ Some x → Memᴰ x xs × (test x ≡ true)
   find_some [] x e = absurd (let z : ◌≡◌ {A = ℕ} 0 1 = cc in omega arith)
   find_some (z ∷ xs) x e = go (test z) refl (find_some xs x) e
     where
-      go : (t : Bool) → test z ≡ t → (find test xs ≡ some x → Memᴰ x xs × (test x ≡ true)) →
-          cond t (some z) (find test xs) ≡ some x → Memᴰ x (z ∷ xs) × (test x ≡ true)
+      go : (t : Bool) → test z ≡ t → (find test xs ≡ Some x → Memᴰ x xs × (test x ≡ true)) →
+          cond t (Some z) (find test xs) ≡ Some x → Memᴰ x (z ∷ xs) × (test x ≡ true)
       go true q rest h = let same : x ≡ z = cc in (Memᴰ.head same, ap test same ∙ q)
       go false q rest h = let found = rest h in (Memᴰ.tail found.0, found.1)
 
   -- Nothing is found only where no member passes.
-  pub find_none : (xs : List A) (x : A) → find test xs ≡ none → Memᴰ x xs → test x ≡ true → ⊥
+  pub find_none : (xs : List A) (x : A) → find test xs ≡ None → Memᴰ x xs → test x ≡ true → ⊥
   find_none [] x e m h = Memᴰ.not-nil m
   find_none (z ∷ xs) x e m h = go (test z) refl (λ f later. find_none xs x f later h) e (Memᴰ.cases_cons m)
     where
-      go : (t : Bool) → test z ≡ t → (find test xs ≡ none → Memᴰ x xs → ⊥) →
-          cond t (some z) (find test xs) ≡ none → (x ≡ z) ⊎ Memᴰ x xs → ⊥
+      go : (t : Bool) → test z ≡ t → (find test xs ≡ None → Memᴰ x xs → ⊥) →
+          cond t (Some z) (find test xs) ≡ None → (x ≡ z) ⊎ Memᴰ x xs → ⊥
       go true q rest f w = let zero_one : ◌≡◌ {A = ℕ} 0 1 = cc in omega arith
       go false q rest f (inl same) = false≢true (sym q ∙ ap test (sym same) ∙ h)
       go false q rest f (inr later) = rest f later

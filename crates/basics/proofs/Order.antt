@@ -6,7 +6,7 @@ use mathlib.Core.Logic.{◌⊎◌, inl, inr}
 use mathlib.Core.Bool.{Bool, true, false, ◌&&◌, ◌||◌, false≢true}
 use mathlib.Core.List.Memᴰ
 use mathlib.Core.List.{List, [], ◌∷◌, Memᴰ}
-use mathlib.Core.Option.{Option, none, some}
+use Rattle.std.specs.Prelude.{Option, None, Some}
 use native.Mathlib.Omega.{arith}
 use native.Mathlib.Decide.{dec_le}
 use native.Mathlib.Nat.{min-eq_left, min-eq_right}
@@ -50,32 +50,32 @@ no_later_both (x ∷ xs) (y ∷ ys) e f =
 
 -- The least of a list: it is a member, and comes no later than any.
 module _ {A : Type 0} (numbers : A → List ℕ) where
-  pub least_member : (list : List A) (c : A) → least_by numbers list ≡ some c → Memᴰ c list
+  pub least_member : (list : List A) (c : A) → least_by numbers list ≡ Some c → Memᴰ c list
   unfolding least_by
   least_member list c e = (find_some _ list c e).0
 
-  pub least_first : (list : List A) (c d : A) → least_by numbers list ≡ some c → Memᴰ d list → no_later (numbers c) (numbers d) ≡ true
+  pub least_first : (list : List A) (c d : A) → least_by numbers list ≡ Some c → Memᴰ d list → no_later (numbers c) (numbers d) ≡ true
   unfolding least_by
   least_first list c d e m = all_member _ list d (find_some _ list c e).1 m
 
   -- There is one where a member comes no later than any.
   least_there : (list : List A) (c : A) → Memᴰ c list →
-      ((d : A) → Memᴰ d list → no_later (numbers c) (numbers d) ≡ true) → least_by numbers list ≡ none → ⊥
+      ((d : A) → Memᴰ d list → no_later (numbers c) (numbers d) ≡ true) → least_by numbers list ≡ None → ⊥
   unfolding least_by
   least_there list c m first e = find_none _ list c e m (all-members _ list first)
 
   -- That member is the least, if a member is known by its numbers.
   pub least_is : ((c d : A) → numbers c ≡ numbers d → c ≡ d) → (list : List A) (c : A) → Memᴰ c list →
-      ((d : A) → Memᴰ d list → no_later (numbers c) (numbers d) ≡ true) → least_by numbers list ≡ some c
+      ((d : A) → Memᴰ d list → no_later (numbers c) (numbers d) ≡ true) → least_by numbers list ≡ Some c
   least_is known list c m first = go (least_by numbers list) refl
     where
-      go : (o : Option A) → least_by numbers list ≡ o → o ≡ some c
-      go none e = absurd (least_there list c m first e)
-      go (some d) e =
+      go : (o : Option A) → least_by numbers list ≡ o → o ≡ Some c
+      go None e = absurd (least_there list c m first e)
+      go (Some d) e =
           let same : d ≡ c = known d c (no_later_both (numbers d) (numbers c) (least_first list d c e m) (first d (least_member list d e))) in
           rw same
 
-  pub least_of_none : least_by numbers [] ≡ none
+  pub least_of_none : least_by numbers [] ≡ None
   unfolding least_by
   least_of_none = refl
 
@@ -140,7 +140,7 @@ module _ {A : Type 0} (numbers : A → List ℕ) where
           either false q = (e, (Memᴰ.tail m, λ d n. from_e q d (Memᴰ.cases_cons n)))
 
   -- There is no least one only where there is no member.
-  pub least_none : (list : List A) → least_by numbers list ≡ none → list ≡ []
+  pub least_none : (list : List A) → least_by numbers list ≡ None → list ≡ []
   least_none [] e = refl
   least_none (c ∷ cs) e =
       let found = least_among c cs in
@@ -161,7 +161,7 @@ module _ (cap : ℕ) (numbers : List ℕ) (x : ℕ) (to : x ≤ cap) (below : (y
   unfolding least
   capped_is = go (least_by (λ y. y ∷ []) numbers) refl whole
     where
-      smallest : (y : ℕ) → least_by (λ z. z ∷ []) numbers ≡ some y → Memᴰ x numbers → y ≤ x
+      smallest : (y : ℕ) → least_by (λ z. z ∷ []) numbers ≡ Some y → Memᴰ x numbers → y ≤ x
       smallest y e m = first (no_later_then y x [] [] (least_first (λ z. z ∷ []) numbers y x e m))
         where
           first : (y < x) ⊎ ((y ≡ x) × (no_later [] [] ≡ true)) → y ≤ x
@@ -169,12 +169,12 @@ module _ (cap : ℕ) (numbers : List ℕ) (x : ℕ) (to : x ≤ cap) (below : (y
           first (inr (h, _)) = omega arith
 
       go : (o : Option ℕ) → least_by (λ y. y ∷ []) numbers ≡ o → Memᴰ x numbers ⊎ (x ≡ cap) → x ≡ capped_at cap o
-      go none e (inl m) = absurd (Memᴰ.not-nil (subst (Memᴰ x) (least_none (λ y. y ∷ []) numbers e) m))
-      go none e (inr same) = same
-      go (some y) e (inl m) =
+      go None e (inl m) = absurd (Memᴰ.not-nil (subst (Memᴰ x) (least_none (λ y. y ∷ []) numbers e) m))
+      go None e (inr same) = same
+      go (Some y) e (inl m) =
           let equal : x ≡ y = omega (arith, smallest y e m, below y (least_member (λ z. z ∷ []) numbers y e)) in
           let fits : y ≤ cap = omega arith in
           equal ∙ sym (min-eq_left fits)
-      go (some y) e (inr same) =
+      go (Some y) e (inr same) =
           let past : cap ≤ y = omega (arith, below y (least_member (λ z. z ∷ []) numbers y e)) in
           same ∙ sym (min-eq_right past)

@@ -10,7 +10,7 @@ use lib.Dec.{ltb}
 use lib.ListN.{length, take, drop, length-drop}
 use lib.Seq.{drop-cons, drop-drop, take-add, length-take-le}
 use borrow.Author.Tests.{ltb-true}
-use Rattle.basics.specs.Lists.{all}
+use Rattle.std.specs.List.{list_all}
 use Rattle.basics.specs.Numbers.{byte_at, u16_at, u32_at, u16_bytes, u32_bytes}
 use Rattle.basics.proofs.Logic.{left_true, right_true}
 
@@ -46,7 +46,7 @@ u32_again a b c d ha hb hc hd =
     )
 
 -- A member of bytes is below 256, and so is the 0 that stands behind them.
-byte_small : (s : List ℕ) (i : ℕ) → all (λ b. ltb b 256) s ≡ true → byte_at s i < 256
+byte_small : (s : List ℕ) (i : ℕ) → list_all (λ b. ltb b 256) s ≡ true → byte_at s i < 256
 unfolding byte_at
 byte_small [] i bytes = omega arith
 byte_small (b ∷ s) zero bytes = ltb-true b 256 (left_true (ltb b 256) _ bytes)
@@ -71,7 +71,7 @@ module _ (s : List ℕ) where
       let next : at + 1 ≡ suc at = omega arith in
       rw (next, drop-cons s at 0 (omega arith), drop-cons s (suc at) 0 (omega arith))
 
-  module _ (bytes : all (λ b. ltb b 256) s ≡ true) where
+  module _ (bytes : list_all (λ b. ltb b 256) s ≡ true) where
     pub u16_part : (at : ℕ) → at + 2 ≤ length s → u16_bytes (u16_at s at) ≡ part s at 2
     unfolding u16_at
     u16_part at inside =

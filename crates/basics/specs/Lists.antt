@@ -1,6 +1,5 @@
 -- Lists by enumeration, and tests and counts over the numbers below a bound.
-use Rattle.std.specs.Prelude.{ℕ, zero, suc, ◌+◌, max, Bool, true, false, cond, ◌&&◌, ◌||◌, List, [], ◌∷◌, ◌++◌, ltb, eqb}
-use Rattle.std.proofs.Math.Option.{Option, none, some}
+use Rattle.std.specs.Prelude.{ℕ, zero, suc, ◌+◌, max, Bool, true, false, cond, ◌&&◌, ◌||◌, List, [], ◌∷◌, ltb, eqb}
 
 -- The count numbers from first on, in rising order.
 unfoldable pub range : ℕ → ℕ → List ℕ
@@ -9,33 +8,7 @@ range first (suc count) = first ∷ range (suc first) count
 
 -- A member in front of a list where the test says so.
 abbrev pub kept_if : {A : Type 0} → Bool → A → List A → List A
-kept_if true x xs = x ∷ xs
-kept_if false x xs = xs
-
--- The members that pass a test, in their order.
-abbrev pub keep : {A : Type 0} → (A → Bool) → List A → List A
-keep test [] = []
-keep test (x ∷ xs) = kept_if (test x) x (keep test xs)
-
--- What f gives for the members, joined in their order.
-abbrev pub each : {A B : Type 0} → List A → (A → List B) → List B
-each [] f = []
-each (x ∷ xs) f = f x ++ each xs f
-
--- Whether every member passes a test.
-abbrev pub all : {A : Type 0} → (A → Bool) → List A → Bool
-all test [] = true
-all test (x ∷ xs) = test x && all test xs
-
--- Whether some member passes a test.
-abbrev pub any : {A : Type 0} → (A → Bool) → List A → Bool
-any test [] = false
-any test (x ∷ xs) = test x || any test xs
-
--- The first member that passes a test, or none.
-abbrev pub find : {A : Type 0} → (A → Bool) → List A → Option A
-find test [] = none
-find test (x ∷ xs) = cond (test x) (some x) (find test xs)
+kept_if t x xs = cond t (x ∷ xs) xs
 
 -- Whether a list has no member.
 abbrev pub is_empty : {A : Type 0} → List A → Bool
@@ -51,11 +24,6 @@ is_in i (j ∷ list) = eqb i j || is_in i list
 abbrev pub greatest : List ℕ → ℕ
 greatest [] = 0
 greatest (x ∷ xs) = max x (greatest xs)
-
--- Whether there is nothing.
-abbrev pub is_none : {A : Type 0} → Option A → Bool
-is_none none = true
-is_none (some x) = false
 
 -- size cells with the numbers from first on: those below count hold what f gives them, and the others are empty.
 unfoldable pub cells_from : {A : Type 0} → ℕ → ℕ → (ℕ → A) → A → ℕ → List A

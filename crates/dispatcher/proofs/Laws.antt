@@ -9,7 +9,7 @@ use Rattle.std.specs.Prelude.{Option, Some, None, Result, Ok, Err, ⊤}
 use native.Mathlib.Omega.{arith}
 use borrow.Author.Tests.{not-true}
 use lib.ListN.{length, get_or, take, drop, length-map, length-take, get_or-map}
-use Rattle.basics.specs.Lists.{any}
+use Rattle.std.specs.List.{list_any}
 use Rattle.basics.proofs.Logic.{within_bounds}
 use Rattle.sheet.specs.declared.refusal.Refusal.{Refusal}
 use Rattle.sheet.specs.declared.refusal.Refusal.TheVariants.{NotSound}
@@ -181,7 +181,7 @@ release_back s i {r} refused = go (is_sound s) (release_refusal (model_of s) i) 
 
 -- An accepted tick is answered by no refusal.
 not_refused : (critical : Bool) (rows : List Row) {r : Refusal} → tick_answer (turning critical rows).answer ≡ TickRefused r → ⊥
-not_refused true rows {r} e = go (any has_high_job rows) e
+not_refused true rows {r} e = go (list_any has_high_job rows) e
   where
     go : (t : Bool) → tick_answer (returned_to rows t).answer ≡ TickRefused r → ⊥
     go true e = let never : ◌≡◌ {A = ℕ} 0 1 = cc in omega arith

@@ -12,7 +12,7 @@ use borrow.Author.Tests.{eq-eqb, ne_eqb}
 use lib.Dec.{leb}
 use lib.ListN.{length, get_or, set, take, drop, length-map}
 use lib.Seq.{drop-cons, take_all, length-take-le}
-use Rattle.basics.specs.Lists.{any}
+use Rattle.std.specs.List.{list_any}
 use Rattle.sheet.specs.declared.refusal.Refusal.{Refusal}
 use Rattle.sheet.specs.declared.refusal.Refusal.TheVariants.{NotSound, WrongCount, NotRunning}
 use Rattle.sheet.specs.Refusal.{refused_if, ◌or_else◌}
@@ -62,7 +62,7 @@ late_from s reports i = lowest_late i (ticked_rows (map row_of (drop i (entries_
 
 -- Whether a task from i on has a high job after the tasks' parts of the tick.
 unfoldable pub high_from : State → List ℕ → ℕ → Bool
-high_from s reports i = any has_high_job (ticked_rows (map row_of (drop i (entries_of s))) (drop i reports))
+high_from s reports i = list_any has_high_job (ticked_rows (map row_of (drop i (entries_of s))) (drop i reports))
 
 -- All three over the tasks, one after the other.
 module _ (s : State) (reports : List ℕ) (long : s.count ≤ length s.entries) (same : length reports ≡ s.count) where
@@ -257,7 +257,7 @@ module _ (s : State) (reports : List ℕ) (long : s.count ≤ length s.entries) 
   unfolding model_of late_from
   lowest = sym (own_find p.late) ∙ ap (found_or Some p.late) (sym (late_end s reports long same i all)) ∙ scanned.lates
 
-  alive : p.high ≡ any has_high_job (ticked_rows (model_of s).rows reports)
+  alive : p.high ≡ list_any has_high_job (ticked_rows (model_of s).rows reports)
   unfolding model_of high_from
   alive = sym (or-false p.high) ∙ ap (λ (t : Bool). p.high || t) (sym (high_end s reports long same i all)) ∙ scanned.highs
 
@@ -284,7 +284,7 @@ unfolding with_model model_of entries_of
 mode_set s critical =
     ap (λ (es : List TaskState). record { processors = s.processors; count = s.count; critical = critical; entries = es }) (rows_own s.count s.entries)
 
-pub turn_critical : (s : State) (high : Bool) → s.critical ≡ true → high ≡ any has_high_job (model_of s).rows
+pub turn_critical : (s : State) (high : Bool) → s.critical ≡ true → high ≡ list_any has_high_job (model_of s).rows
     → record { processors = s.processors; count = s.count; critical = high; entries = s.entries } ≡ with_model s (turning s.critical (model_of s).rows).model
 turn_critical s high mode e =
     go high
@@ -318,7 +318,7 @@ module _ (s : State) (reports : List ℕ) (p : Pass) (next : State) (passed : Ha
       ∙ model_with s (record { critical = s.critical; rows = ticked_rows (model_of s).rows reports }) (ticked_fixed (model_of s).rows reports)
 
   turned_length : (t : Bool) (rows : List Row) → length (turning t rows).model.rows ≡ length rows
-  turned_length true rows = go (any has_high_job rows)
+  turned_length true rows = go (list_any has_high_job rows)
     where
       go : (u : Bool) → length (returned_to rows u).model.rows ≡ length rows
       go true = refl

@@ -1,6 +1,6 @@
 //! S8.5 to S8.7, S8.9: Tick.
 ghost use Rattle.std.specs.Prelude.{◌≡◌, ◌≤◌, cond, IfOk, IfErr};
-ghost use Rattle.basics.specs.Lists.{any};
+ghost use Rattle.std.specs.List.{list_any};
 ghost use Rattle.model.specs.Row.{has_high_job};
 ghost use Rattle.model.specs.Step.{lowest_late, turning};
 ghost use Rattle.dispatcher.specs.Holds.{model_of, with_model};
@@ -92,7 +92,7 @@ fn pass_over(state: &mut State, reports: &[u32]) -> Result<Pass, Refusal>
 fn turn(state: &mut State, late: Option<u8>, high: bool) -> TickAnswer
     requires few { state.old.count ≤ 16 }
     requires lowest { late ≡ lowest_late 0 (model_of state.old).rows }
-    requires alive { high ≡ any has_high_job (model_of state.old).rows }
+    requires alive { high ≡ list_any has_high_job (model_of state.old).rows }
     ensures answered { result ≡ tick_answer (turning state.old.critical (model_of state.old).rows).answer }
     ensures turned { state.new ≡ with_model state.old
         (turning state.old.critical (model_of state.old).rows).model }

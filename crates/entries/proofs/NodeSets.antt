@@ -1,5 +1,6 @@
 -- Sets of nodes as the code keeps them: a subset, all nodes ended, the ready nodes gathered one by one, and the lowest
 -- of them.
+use Rattle.std.specs.Prelude.{filter}
 use Prim.Native.Nat.{ℕ, suc, ◌+◌, ◌-◌, ◌≤◌, ◌<◌, ◌^◌, min}
 use mathlib.Core.Path.{◌≡◌, sym, ap, ◌∙◌}
 use mathlib.Core.Bool.{Bool, true, false, not, ◌&&◌, and_comm}
@@ -10,13 +11,13 @@ use native.Mathlib.Omega.{arith}
 use borrow.Author.Tests.{lt-ltb}
 use lib.Bits.{bit_and}
 use lib.ListN.{take}
-use Rattle.basics.specs.Lists.{range, kept_if, keep}
+use Rattle.basics.specs.Lists.{range, kept_if}
 use Rattle.nodes.specs.Sets.{has, members, set_of, is_within}
 use Rattle.nodes.proofs.Bits.{has-without, has_ext}
-use Rattle.basics.proofs.Lists.{keep_none}
-use Rattle.nodes.proofs.Members.{set_of-keep_lt, has-set_of-keep}
+use Rattle.basics.proofs.Lists.{filter_none}
+use Rattle.nodes.proofs.Members.{set_of-filter_lt, has-set_of-filter}
 use Rattle.nodes.proofs.Parts.{and_eq_is_within}
-use Rattle.nodes.proofs.Rising.{Rising, rising_range, rising_keep, rising_take, members-set_of, set_of_lt}
+use Rattle.nodes.proofs.Rising.{Rising, rising_range, rising_filter, rising_take, members-set_of, set_of_lt}
 use Rattle.entries.specs.declared.state.TaskState.{TaskState}
 use Rattle.entries.specs.Entry.{fixed_of, row_of}
 use Rattle.model.specs.Row.{Row, is_subset, all_ended, predecessors_of, is_ready, ready, running, running_set}
@@ -39,7 +40,7 @@ kept_apart false v vs = sym (zero-add (set_of vs))
 
 -- The nodes below k that pass a test, gathered from 0 on: what is gathered, with what is left, is the whole.
 unfoldable pub Gathered : (ℕ → Bool) → ℕ → ℕ → ℕ → Type 0
-Gathered p k v set = set + set_of (keep p (range v (k - v))) ≡ set_of (keep p (range 0 k))
+Gathered p k v set = set + set_of (filter p (range v (k - v))) ≡ set_of (filter p (range 0 k))
 
 module _ (p : ℕ → Bool) (k : ℕ) where
   pub gathered_none : Gathered p k 0 0
@@ -50,10 +51,10 @@ module _ (p : ℕ → Bool) (k : ℕ) where
   unfolding Gathered range
   gathered_more v set h g =
       let step : k - v ≡ suc (k - suc v) = omega arith in
-      let opened : set + set_of (keep p (range v (suc (k - suc v)))) ≡ set_of (keep p (range 0 k)) = rw step at g in
-      rw (add-one v) (omega (arith, kept_apart (p v) v (keep p (range (suc v) (k - suc v)))))
+      let opened : set + set_of (filter p (range v (suc (k - suc v)))) ≡ set_of (filter p (range 0 k)) = rw step at g in
+      rw (add-one v) (omega (arith, kept_apart (p v) v (filter p (range (suc v) (k - suc v)))))
 
-  pub gathered_all : (v set : ℕ) → k ≤ v → Gathered p k v set → set ≡ set_of (keep p (range 0 k))
+  pub gathered_all : (v set : ℕ) → k ≤ v → Gathered p k v set → set ≡ set_of (filter p (range 0 k))
   unfolding Gathered range
   gathered_all v set h g =
       let none : k - v ≡ 0 = omega arith in
@@ -64,7 +65,7 @@ module _ (p : ℕ → Bool) (k : ℕ) where
   unfolding Gathered
   gathered_fits v set few h g =
       let more : Gathered p k (v + 1) (set + set_of (kept_if (p v) v [])) = gathered_more v set h g in
-      omega (arith, set_of_lt 32 (keep p (range 0 k)) (rising_keep p 0 32 (range 0 k) (rising_range 0 k 32 (omega arith))))
+      omega (arith, set_of_lt 32 (filter p (range 0 k)) (rising_filter p 0 32 (range 0 k) (rising_range 0 k 32 (omega arith))))
 
 -- Whether all predecessors of node v have ended.
 unfoldable pub is_unblocked : Row → ℕ → Bool
@@ -74,21 +75,21 @@ is_unblocked r v = is_subset (predecessors_of r.fixed.predecessors v) r.job.ende
 -- ones.
 pub ready_none : (r : Row) → r.job.alive ≡ false → 0 ≡ set_of (ready r)
 unfolding ready is_ready
-ready_none r dead = ap set_of (sym (keep_none (is_ready r) (range 0 r.fixed.nodes) (λ v m. rw dead)))
+ready_none r dead = ap set_of (sym (filter_none (is_ready r) (range 0 r.fixed.nodes) (λ v m. rw dead)))
 
-pub ready_less_ended : (r : Row) (set : ℕ) → r.job.alive ≡ true → set ≡ set_of (keep (is_unblocked r) (range 0 r.fixed.nodes))
+pub ready_less_ended : (r : Row) (set : ℕ) → r.job.alive ≡ true → set ≡ set_of (filter (is_unblocked r) (range 0 r.fixed.nodes))
     → set - bit_and set r.job.ended ≡ set_of (ready r)
 unfolding ready is_ready is_unblocked
 ready_less_ended r set alive e =
     let k = r.fixed.nodes in
     let ended = r.job.ended in
-    has_ext k (set - bit_and set ended) (set_of (keep (is_ready r) (range 0 k)))
-    (omega (arith, e, set_of-keep_lt (is_unblocked r) k))
-    (set_of-keep_lt (is_ready r) k)
+    has_ext k (set - bit_and set ended) (set_of (filter (is_ready r) (range 0 k)))
+    (omega (arith, e, set_of-filter_lt (is_unblocked r) k))
+    (set_of-filter_lt (is_ready r) k)
     (λ v h.
     has-without set ended v
     ∙ ap (λ (n : ℕ). has n v && not (has ended v)) e
-    ∙ rw (has-set_of-keep (is_unblocked r) k v, has-set_of-keep (is_ready r) k v, lt-ltb v k h, alive)
+    ∙ rw (has-set_of-filter (is_unblocked r) k v, has-set_of-filter (is_ready r) k v, lt-ltb v k h, alive)
     (and_comm (is_unblocked r v) (not (has ended v))))
 
 -- The lowest of an entry's ready nodes are the running ones, as sets.
@@ -97,15 +98,15 @@ pub lowest_ready : (grant : ℕ) (e : TaskState) → e.nodes ≤ 32
 unfolding running_set running ready row_of fixed_of
 lowest_ready grant e h =
     ap (λ (vs : List ℕ). set_of (take grant vs))
-    (members-set_of 32 (keep (is_ready (row_of e)) (range 0 e.nodes))
-    (rising_keep (is_ready (row_of e)) 0 32 (range 0 e.nodes) (rising_range 0 e.nodes 32 (omega arith))))
+    (members-set_of 32 (filter (is_ready (row_of e)) (range 0 e.nodes))
+    (rising_filter (is_ready (row_of e)) 0 32 (range 0 e.nodes) (rising_range 0 e.nodes 32 (omega arith))))
 
 -- The running nodes rise, so the set of them gives the list back.
 pub running_rises : (grant : ℕ) (r : Row) (k : ℕ) → r.fixed.nodes ≤ k → Rising 0 k (running grant r)
 unfolding running ready
 running_rises grant r k h =
-    rising_take grant 0 k (keep (is_ready r) (range 0 r.fixed.nodes))
-    (rising_keep (is_ready r) 0 k (range 0 r.fixed.nodes) (rising_range 0 r.fixed.nodes k (omega arith)))
+    rising_take grant 0 k (filter (is_ready r) (range 0 r.fixed.nodes))
+    (rising_filter (is_ready r) 0 k (range 0 r.fixed.nodes) (rising_range 0 r.fixed.nodes k (omega arith)))
 
 pub running-members : (grant : ℕ) (r : Row) → r.fixed.nodes ≤ 32 → members 32 (running_set grant r) ≡ running grant r
 unfolding running_set

@@ -2,38 +2,38 @@
 use Prim.Native.Nat.{ℕ, zero, suc, ◌≤◌}
 use mathlib.Core.Bool.{Bool, true, false, cond, ◌&&◌, and-eq-true_iff}
 use mathlib.Core.List.{List, [], ◌∷◌, map}
-use mathlib.Core.Option.{Option, none, some}
+use Rattle.std.specs.Prelude.{Option, None, Some}
 use mathlib.Core.Path.{◌≡◌, refl}
 use native.Mathlib.Omega.{arith}
 use lib.Dec.{eqb, leb}
 use lib.ListN.{length, take, drop, get_or}
 use borrow.Author.Tests.{leb-true}
-use Rattle.basics.specs.Lists.{all}
+use Rattle.std.specs.List.{list_all}
 use Rattle.basics.specs.Digits.{is_digit, value_of}
 use Rattle.graph_text.specs.Text.{words_of, before_mark, numeral_limit, is_numeral, numbers_of, numerals_of}
 use Rattle.graph_text.specs.Graph.{Entry, Graph, time_lawful, entry_before, entries_from, graph_with, graph_from, graph_of, no_entry, node_of, time_of}
 
 -- Whether no number of a list exceeds a numeral.
 abbrev all_small : List ℕ → Bool
-all_small numbers = all (λ n. leb n numeral_limit) numbers
+all_small numbers = list_all (λ n. leb n numeral_limit) numbers
 
 abbrev SmallNumbers : Option (List ℕ) → Type 0
-SmallNumbers none = Unit
-SmallNumbers (some numbers) = all_small numbers ≡ true
+SmallNumbers None = Unit
+SmallNumbers (Some numbers) = all_small numbers ≡ true
 
-values_small : (words : List (List ℕ)) → all is_numeral words ≡ true → all_small (map value_of words) ≡ true
+values_small : (words : List (List ℕ)) → list_all is_numeral words ≡ true → all_small (map value_of words) ≡ true
 unfolding is_numeral
 values_small [] h = refl
 values_small (word ∷ words) h =
-    let both = (and-eq-true_iff (is_numeral word) (all is_numeral words)).0 h in
-    let word_small = ((and-eq-true_iff (all is_digit word) (leb (value_of word) numeral_limit)).0 both.0).1 in
+    let both = (and-eq-true_iff (is_numeral word) (list_all is_numeral words)).0 h in
+    let word_small = ((and-eq-true_iff (list_all is_digit word) (leb (value_of word) numeral_limit)).0 both.0).1 in
     (and-eq-true_iff (leb (value_of word) numeral_limit) (all_small (map value_of words))).1 (word_small, values_small words both.1)
 
 numbers_small : (words : List (List ℕ)) → SmallNumbers (numbers_of words)
 unfolding numbers_of
-numbers_small words = go (all is_numeral words) refl
+numbers_small words = go (list_all is_numeral words) refl
   where
-    go : (t : Bool) → all is_numeral words ≡ t → SmallNumbers (cond t (some (map value_of words)) none)
+    go : (t : Bool) → list_all is_numeral words ≡ t → SmallNumbers (cond t (Some (map value_of words)) None)
     go true h = values_small words h
     go false h = tt
 
@@ -45,12 +45,12 @@ drop-small (suc n) (x ∷ numbers) h =
 
 -- Entries, none of whose times exceeds a numeral.
 abbrev SmallEntries : Option (List Entry) → Type 0
-SmallEntries none = Unit
-SmallEntries (some entries) = (v : ℕ) → (get_or entries v no_entry).time ≤ numeral_limit
+SmallEntries None = Unit
+SmallEntries (Some entries) = (v : ℕ) → (get_or entries v no_entry).time ≤ numeral_limit
 
 small_before : (e : Entry) (entries : Option (List Entry)) → e.time ≤ numeral_limit → SmallEntries entries → SmallEntries (entry_before e entries)
-small_before e none h others = tt
-small_before e (some entries) h others = go
+small_before e None h others = tt
+small_before e (Some entries) h others = go
   where
     go : (v : ℕ) → (get_or (e ∷ entries) v no_entry).time ≤ numeral_limit
     go zero = h
@@ -74,7 +74,7 @@ entries_small count v (suc more) (number ∷ time ∷ many ∷ rest) h =
     e = record { time = time; predecessors = take many rest }
 
     go : (t : Bool) → time ≤ numeral_limit → SmallEntries (entries_from count (suc v) more (drop many rest)) →
-        SmallEntries (cond t (entry_before e (entries_from count (suc v) more (drop many rest))) none)
+        SmallEntries (cond t (entry_before e (entries_from count (suc v) more (drop many rest))) None)
     go true small others = small_before e (entries_from count (suc v) more (drop many rest)) small others
     go false small others = tt
 
@@ -84,18 +84,18 @@ pub record SmallGraph (g : Graph) : Type 0 where
   pub times : (v : ℕ) → time_of g v ≤ numeral_limit
 
 abbrev pub SmallIfThere : Option Graph → Type 0
-SmallIfThere none = Unit
-SmallIfThere (some g) = SmallGraph g
+SmallIfThere None = Unit
+SmallIfThere (Some g) = SmallGraph g
 
 with_small : (count : ℕ) (entries : Option (List Entry)) → count ≤ numeral_limit → SmallEntries entries → SmallIfThere (graph_with count entries)
 unfolding time_of node_of
-with_small count none h small = tt
-with_small count (some entries) h small = record { count = h; times = λ v. small (suc v) }
+with_small count None h small = tt
+with_small count (Some entries) h small = record { count = h; times = λ v. small (suc v) }
 
 from_small : (numerals : Option (List ℕ)) → SmallNumbers numerals → SmallIfThere (graph_from numerals)
-from_small none h = tt
-from_small (some []) h = tt
-from_small (some (count ∷ numerals)) h =
+from_small None h = tt
+from_small (Some []) h = tt
+from_small (Some (count ∷ numerals)) h =
     let both = (and-eq-true_iff (leb count numeral_limit) (all_small numerals)).0 h in
     with_small count (entries_from count 0 (suc (suc count)) numerals) (leb-true count numeral_limit both.0)
     (entries_small count 0 (suc (suc count)) numerals both.1)

@@ -1,22 +1,23 @@
 -- Entries read one after the other are the definition's: each node with the predecessors that its numerals name, and all of them held
 -- at their places.
+use Rattle.std.specs.List.{list_all}
 use Prim.Native.Nat.{ℕ, zero, suc, ◌-◌, ◌≤◌, ◌<◌, ◌^◌, min}
 use mathlib.Core.Bool.{Bool, true, false, cond, ◌&&◌, and_assoc, or_assoc, and-true, true≢false}
 use mathlib.Core.List.{List, [], ◌∷◌}
-use mathlib.Core.Option.{Option, none, some}
+use Rattle.std.specs.Prelude.{Option, None, Some}
 use mathlib.Core.Path.{◌≡◌, refl, sym, ap, ap₂, ◌∙◌}
 use native.Mathlib.Omega.{arith}
 use lib.Bits.{bit_or, or_zero_r, or_zero_l, or_lt}
 use lib.Dec.{eqb, leb, ltb}
 use lib.ListN.{length, take, drop}
 use borrow.Author.Tests.{eqb-true, eq-eqb, le-leb, lt-leb, lt-ltb, ne_eqb}
-use Rattle.basics.specs.Lists.{range, all, is_in}
+use Rattle.basics.specs.Lists.{range, is_in}
 use Rattle.basics.specs.Numbers.{within}
 use Rattle.basics.proofs.Logic.{within_bounds, leb_same, bool_ext}
-use Rattle.basics.proofs.Lists.{keep_none}
+use Rattle.basics.proofs.Lists.{filter_none}
 use Rattle.nodes.specs.Sets.{has, set_of}
 use Rattle.nodes.proofs.Bits.{has_or, has_power, has_zero, has_ext, below_of_has, within_antisymm}
-use Rattle.nodes.proofs.Members.{set_of-keep_lt, has-set_of-keep}
+use Rattle.nodes.proofs.Members.{set_of-filter_lt, has-set_of-filter}
 use Rattle.graph_text.specs.declared.graph.Node.{Node}
 use Rattle.graph_text.specs.declared.graph.NodeGraph.{NodeGraph}
 use Rattle.graph_text.specs.Graph.{Entry, time_lawful, entry_before, entries_from, mask_of}
@@ -57,15 +58,15 @@ pub mask_more : (p : ℕ) (ps : List ℕ) → mask_of (p ∷ ps) ≡ bit_or (bit
 unfolding mask_of
 mask_more p ps =
     has_ext 32 (mask_of (p ∷ ps)) (bit_or (bit_named p) (mask_of ps))
-    (set_of-keep_lt (λ j. is_in (suc j) (p ∷ ps)) 32)
-    (or_lt 32 (bit_named p) (mask_of ps) (bit_lt p) (set_of-keep_lt (λ j. is_in (suc j) ps) 32))
+    (set_of-filter_lt (λ j. is_in (suc j) (p ∷ ps)) 32)
+    (or_lt 32 (bit_named p) (mask_of ps) (bit_lt p) (set_of-filter_lt (λ j. is_in (suc j) ps) 32))
     (λ v h.
-    has-set_of-keep (λ j. is_in (suc j) (p ∷ ps)) 32 v
-    ∙ rw (has_or (bit_named p) (mask_of ps) v, bit-has p v h, has-set_of-keep (λ j. is_in (suc j) ps) 32 v, lt-ltb v 32 h))
+    has-set_of-filter (λ j. is_in (suc j) (p ∷ ps)) 32 v
+    ∙ rw (has_or (bit_named p) (mask_of ps) v, bit-has p v h, has-set_of-filter (λ j. is_in (suc j) ps) 32 v, lt-ltb v 32 h))
 
 pub mask_none : mask_of [] ≡ 0
 unfolding mask_of
-mask_none = ap set_of (keep_none (λ j. false) (range 0 32) (λ v m. refl))
+mask_none = ap set_of (filter_none (λ j. false) (range 0 32) (λ v m. refl))
 
 or_chain : (a b c : ℕ) → bit_or (bit_or a b) c ≡ bit_or a (bit_or b c)
 or_chain a b c = within_antisymm (bit_or (bit_or a b) c) (bit_or a (bit_or b c)) (λ v m. sym (same v) ∙ m) (λ v m. same v ∙ m)
@@ -76,7 +77,7 @@ or_chain a b c = within_antisymm (bit_or (bit_or a b) c) (bit_or a (bit_or b c))
 -- A node with these predecessors more.
 abbrev node_named : ℕ → Node → List ℕ → Node
 node_named v node ps =
-    record { time = node.time; mask = bit_or node.mask (mask_of ps); rising = node.rising && all (λ p. ltb p v) ps }
+    record { time = node.time; mask = bit_or node.mask (mask_of ps); rising = node.rising && list_all (λ p. ltb p v) ps }
 
 named_none : (v : ℕ) (node : Node) → node_named v node [] ≡ node
 named_none v node = rw (mask_none, or_zero_r node.mask, and-true node.rising)
@@ -86,11 +87,11 @@ unfolding with_named
 named_more v node p ps =
     ap₂ (λ (mask : ℕ) (rising : Bool). record { time = node.time; mask = mask; rising = rising })
     (or_chain node.mask (bit_named p) (mask_of ps) ∙ ap (bit_or node.mask) (sym (mask_more p ps)))
-    (and_assoc node.rising (ltb p v) (all (λ q. ltb q v) ps))
+    (and_assoc node.rising (ltb p v) (list_all (λ q. ltb q v) ps))
 
 named_all : (v many : ℕ) (node : Node) (numerals : List ℕ) →
     named_from v many node numerals
-    ≡ cond (leb many (length numerals)) (some (record { value = node_named v node (take many numerals); rest = drop many numerals })) none
+    ≡ cond (leb many (length numerals)) (Some (record { value = node_named v node (take many numerals); rest = drop many numerals })) None
 unfolding named_from
 named_all v zero node numerals = rw (le-leb 0 (length numerals) (omega arith), named_none v node)
 named_all v (suc many) node [] = rw (lt-leb (suc many) 0 (omega arith))
@@ -101,7 +102,7 @@ named_all v (suc many) node (p ∷ numerals) =
 -- An entry, number v, as a node.
 abbrev pub node_as : ℕ → Entry → Node
 node_as v e =
-    record { time = e.time; mask = mask_of e.predecessors; rising = all (λ p. ltb p v) e.predecessors }
+    record { time = e.time; mask = mask_of e.predecessors; rising = list_all (λ p. ltb p v) e.predecessors }
 
 node_begun : (v time : ℕ) (ps : List ℕ) → node_named v (node_with time) ps ≡ node_as v (record { time = time; predecessors = ps })
 node_begun v time ps = rw (or_zero_l (mask_of ps))
@@ -112,13 +113,13 @@ held_all count v held [] = held
 held_all count v held (e ∷ entries) = held_all count (suc v) (held_with count v (node_as v e) held) entries
 
 abbrev pub held_for : ℕ → ℕ → NodeGraph → Option (List Entry) → Option NodeGraph
-held_for count v held none = none
-held_for count v held (some entries) = some (held_all count v held entries)
+held_for count v held None = None
+held_for count v held (Some entries) = Some (held_all count v held entries)
 
 held_before : (count v : ℕ) (held : NodeGraph) (e : Entry) (entries : Option (List Entry)) →
     held_for count (suc v) (held_with count v (node_as v e) held) entries ≡ held_for count v held (entry_before e entries)
-held_before count v held e none = refl
-held_before count v held e (some entries) = refl
+held_before count v held e None = refl
+held_before count v held e (Some entries) = refl
 
 -- Entries read one after the other are those of the definition.
 pub held_entries : (count v more : ℕ) (held : NodeGraph) (numerals : List ℕ) →
@@ -140,9 +141,9 @@ held_entries count v (suc more) held (number ∷ time ∷ many ∷ rest) =
     go : (lawful enough : Bool) →
         held_from count (suc v) more (held_with count v (node_as v e) held) (drop many rest)
         ≡ held_for count (suc v) (held_with count v (node_as v e) held) (entries_from count (suc v) more (drop many rest)) →
-        after_taken (cond lawful (cond enough (some (record { value = node_as v e; rest = drop many rest })) none) none)
+        after_taken (cond lawful (cond enough (Some (record { value = node_as v e; rest = drop many rest })) None) None)
         (λ node others. held_from count (suc v) more (held_with count v node held) others)
-        ≡ held_for count v held (cond (lawful && enough) (entry_before e (entries_from count (suc v) more (drop many rest))) none)
+        ≡ held_for count v held (cond (lawful && enough) (entry_before e (entries_from count (suc v) more (drop many rest))) None)
     go true true others = others ∙ held_before count v held e (entries_from count (suc v) more (drop many rest))
     go true false others = refl
     go false enough others = refl

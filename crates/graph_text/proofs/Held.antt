@@ -1,15 +1,16 @@
 -- What is held of all entries is the graph by its nodes: entry v + 1 stands at place v, and the dummies stand nowhere.
+use Rattle.std.specs.List.{list_all}
 use Prim.Native.Nat.{ℕ, zero, suc, ◌+◌, ◌-◌, ◌≤◌, ◌<◌, min}
 use mathlib.Core.Bool.{Bool, true, false, cond, ◌&&◌, and_assoc, and-true}
 use mathlib.Core.List.{List, [], ◌∷◌}
-use mathlib.Core.Option.{Option, none, some}
+use Rattle.std.specs.Prelude.{Option, None, Some}
 use mathlib.Core.Path.{◌≡◌, refl, sym, ap, ◌∙◌}
 use native.Mathlib.Decide.{dec_le}
 use native.Mathlib.Omega.{arith}
 use lib.Dec.{eqb, leb, ltb}
 use lib.ListN.{length, take, drop, get_or, set, replicate}
 use borrow.Author.Tests.{leb-true, leb-false, le-leb}
-use Rattle.basics.specs.Lists.{all, cells}
+use Rattle.basics.specs.Lists.{cells}
 use Rattle.basics.proofs.Cells.{cells_none, cells_store, cells_full}
 use Rattle.graph_text.specs.declared.graph.NodeGraph.{NodeGraph}
 use Rattle.graph_text.specs.Graph.{Entry, Graph, time_lawful, entry_before, entries_from, graph_with, graph_from, rising_from, is_rising, no_entry, node_of, mask_of, masks_of, times_of}
@@ -20,12 +21,12 @@ use Rattle.graph_text.proofs.Entries.{node_as, held_all, held_for, held_entries}
 
 -- As many entries are read as were asked for.
 abbrev OfLength : ℕ → Option (List Entry) → Type 0
-OfLength more none = Unit
-OfLength more (some entries) = length entries ≡ more
+OfLength more None = Unit
+OfLength more (Some entries) = length entries ≡ more
 
 length_before : (more : ℕ) (e : Entry) (entries : Option (List Entry)) → OfLength more entries → OfLength (suc more) (entry_before e entries)
-length_before more e none h = tt
-length_before more e (some entries) h = ap suc h
+length_before more e None h = tt
+length_before more e (Some entries) h = ap suc h
 
 entries_length : (count v more : ℕ) (numerals : List ℕ) → OfLength more (entries_from count v more numerals)
 unfolding entries_from
@@ -41,7 +42,7 @@ entries_length count v (suc more) (number ∷ time ∷ many ∷ rest) =
     e = record { time = time; predecessors = take many rest }
 
     go : (t : Bool) → OfLength more (entries_from count (suc v) more (drop many rest)) →
-        OfLength (suc more) (cond t (entry_before e (entries_from count (suc v) more (drop many rest))) none)
+        OfLength (suc more) (cond t (entry_before e (entries_from count (suc v) more (drop many rest))) None)
     go true h = length_before more e (entries_from count (suc v) more (drop many rest)) h
     go false h = tt
 
@@ -122,7 +123,7 @@ unfolding held_with
 held_rising count v held [] = sym (and-true held.rising)
 held_rising count v held (e ∷ entries) =
     held_rising count (suc v) (held_with count v (node_as v e) held) entries
-    ∙ and_assoc held.rising (all (λ p. ltb p v) e.predecessors) (rising_from (suc v) entries)
+    ∙ and_assoc held.rising (list_all (λ p. ltb p v) e.predecessors) (rising_from (suc v) entries)
 
 held_count : (count v : ℕ) (held : NodeGraph) (entries : List Entry) → held.count ≡ count → (held_all count v held entries).count ≡ count
 unfolding held_with
@@ -144,8 +145,8 @@ stored_whole count x entries long =
 held_whole : (count : ℕ) (entries : Option (List Entry)) → OfLength (suc (suc count)) entries →
     held_graph (held_for count 0 (none_held count) entries) ≡ node_graph (graph_with count entries)
 unfolding times_of masks_of node_of is_rising
-held_whole count none long = refl
-held_whole count (some entries) long =
+held_whole count None long = refl
+held_whole count (Some entries) long =
     fields (held_times count 0 (none_held count) entries ∙ stored_whole count (λ e. e.time) entries long)
     (held_masks count 0 (none_held count) entries ∙ stored_whole count (λ e. mask_of e.predecessors) entries long)
     (held_rising count 0 (none_held count) entries)
@@ -155,18 +156,18 @@ held_whole count (some entries) long =
     g = record { count = count; entries = entries }
 
     fields : {times masks : List ℕ} {rising : Bool} {n : ℕ} → times ≡ times_of g → masks ≡ masks_of g → rising ≡ is_rising g → n ≡ count →
-        held_graph (some (record { times = times; masks = masks; rising = rising; count = n })) ≡ node_graph (some g)
+        held_graph (Some (record { times = times; masks = masks; rising = rising; count = n })) ≡ node_graph (Some g)
     fields a b c d = rw (a, b, c, d)
 
 pub graph_held : (count : ℕ) (numerals : Option (List ℕ)) →
     held_graph (held_of count 0 (suc (suc count)) (none_held count) numerals) ≡ node_graph (graph_from (number_before count numerals))
-graph_held count none = refl
-graph_held count (some numerals) =
+graph_held count None = refl
+graph_held count (Some numerals) =
     ap held_graph (held_entries count 0 (suc (suc count)) (none_held count) numerals)
     ∙ held_whole count (entries_from count 0 (suc (suc count)) numerals) (entries_length count 0 (suc (suc count)) numerals)
 
 -- A text with no numeral in front says no graph.
-pub graph_none : (numerals : Option (List ℕ)) → has_first numerals ≡ false → graph_from numerals ≡ none
-graph_none none none-first = refl
-graph_none (some []) none-first = refl
-graph_none (some (n ∷ numerals)) none-first = absurd (cc)
+pub graph_none : (numerals : Option (List ℕ)) → has_first numerals ≡ false → graph_from numerals ≡ None
+graph_none None none-first = refl
+graph_none (Some []) none-first = refl
+graph_none (Some (n ∷ numerals)) none-first = absurd (cc)

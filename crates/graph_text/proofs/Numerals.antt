@@ -3,17 +3,16 @@
 use Prim.Native.Nat.{ℕ, ◌+◌, ◌-◌, ◌*◌, ◌≤◌, ◌<◌}
 use mathlib.Core.Bool.{Bool, true, false, cond, ◌&&◌, and-false, true≢false}
 use mathlib.Core.List.{List, [], ◌∷◌, ◌++◌, map}
-use mathlib.Core.Option.{Option, none, some}
+use Rattle.std.specs.List.{list_all}
 use mathlib.Core.Path.{◌≡◌, refl, sym, ap, ◌∙◌}
 use native.Mathlib.Omega.{arith}
 use lib.Dec.{eqb, leb}
 use lib.ListN.{length}
 use Rattle.std.specs.Char.{is_ascii_digit}
-use Rattle.std.specs.Prelude.{Option as Maybe, Some, None, Ok, Err}
+use Rattle.std.specs.Prelude.{Some, None, Ok, Err, Option}
 use Rattle.std.specs.Option.{SomeIff, ok_or}
 use Rattle.graph_text.specs.declared.text.BadFormat.{BadFormat}
 use borrow.Author.Tests.{eqb-true, leb-true, le-leb, lt-leb}
-use Rattle.basics.specs.Lists.{all}
 use Rattle.basics.specs.Digits.{digit, is_digit, value_of}
 use Rattle.basics.proofs.Digits.{value_both, digits_both}
 use Rattle.basics.proofs.Logic.{left_true, right_true}
@@ -47,60 +46,60 @@ digit_no_blank b h =
     rw (unlike is_digit b 9 refl h, unlike is_digit b 10 refl h, unlike is_digit b 13 refl h, unlike is_digit b 32 refl h)
 
 -- One byte more behind a word that is no digits, or a byte that is none.
-still_bad : (word : List ℕ) (b : ℕ) → all is_digit word ≡ false → all is_digit (word ++ b ∷ []) ≡ false
+still_bad : (word : List ℕ) (b : ℕ) → list_all is_digit word ≡ false → list_all is_digit (word ++ b ∷ []) ≡ false
 still_bad [] b bad = absurd (true≢false bad)
 still_bad (x ∷ word) b bad = go (is_digit x) bad (still_bad word b)
   where
-    go : (t : Bool) → (t && all is_digit word) ≡ false → (all is_digit word ≡ false → all is_digit (word ++ b ∷ []) ≡ false) →
-        (t && all is_digit (word ++ b ∷ [])) ≡ false
+    go : (t : Bool) → (t && list_all is_digit word) ≡ false → (list_all is_digit word ≡ false → list_all is_digit (word ++ b ∷ []) ≡ false) →
+        (t && list_all is_digit (word ++ b ∷ [])) ≡ false
     go true e rest = rest e
     go false e rest = refl
 
-now_bad : (word : List ℕ) (b : ℕ) → is_digit b ≡ false → all is_digit (word ++ b ∷ []) ≡ false
+now_bad : (word : List ℕ) (b : ℕ) → is_digit b ≡ false → list_all is_digit (word ++ b ∷ []) ≡ false
 now_bad [] b bad = rw bad
 now_bad (x ∷ word) b bad = rw (now_bad word b bad) (and-false (is_digit x))
 
 -- A word that is no digits is no numeral, whatever follows.
-bad_word : (x : ℕ) (word bytes : List ℕ) → all is_digit (x ∷ word) ≡ false → all is_numeral (words_after (x ∷ word) bytes) ≡ false
+bad_word : (x : ℕ) (word bytes : List ℕ) → list_all is_digit (x ∷ word) ≡ false → list_all is_numeral (words_after (x ∷ word) bytes) ≡ false
 unfolding is_numeral
 bad_word x word [] bad = rw bad
 bad_word x word (b ∷ bytes) bad = go (is_blank b) (bad_word x (word ++ b ∷ []) bytes (still_bad (x ∷ word) b bad))
   where
-    go : (t : Bool) → all is_numeral (words_after (x ∷ word ++ b ∷ []) bytes) ≡ false →
-        all is_numeral (cond t (word_before (x ∷ word) (words_after [] bytes)) (words_after (x ∷ word ++ b ∷ []) bytes)) ≡ false
+    go : (t : Bool) → list_all is_numeral (words_after (x ∷ word ++ b ∷ []) bytes) ≡ false →
+        list_all is_numeral (cond t (word_before (x ∷ word) (words_after [] bytes)) (words_after (x ∷ word ++ b ∷ []) bytes)) ≡ false
     go true rest = rw bad
     go false rest = rest
 
-no_numbers : (words : List (List ℕ)) → all is_numeral words ≡ false → numbers_of words ≡ none
+no_numbers : (words : List (List ℕ)) → list_all is_numeral words ≡ false → numbers_of words ≡ None
 unfolding numbers_of
 no_numbers words bad = rw bad
 
 -- A word of digits in front of others.
-numbers_cons : (word : List ℕ) (words : List (List ℕ)) → all is_digit word ≡ true →
+numbers_cons : (word : List ℕ) (words : List (List ℕ)) → list_all is_digit word ≡ true →
     numbers_of (word ∷ words) ≡ numeral_before (value_of word) (numbers_of words)
 unfolding numbers_of is_numeral
-numbers_cons word words digits = rw digits (go (leb (value_of word) numeral_limit) (all is_numeral words))
+numbers_cons word words digits = rw digits (go (leb (value_of word) numeral_limit) (list_all is_numeral words))
   where
     go : (small others : Bool) →
-        cond (small && others) (some (value_of word ∷ map value_of words)) none
-        ≡ cond small (number_before (value_of word) (cond others (some (map value_of words)) none)) none
+        cond (small && others) (Some (value_of word ∷ map value_of words)) None
+        ≡ cond small (number_before (value_of word) (cond others (Some (map value_of words)) None)) None
     go true true = refl
     go true false = refl
     go false others = refl
 
 -- Digits that have begun a word, and then the other bytes.
-word_numbers : (x : ℕ) (word bytes : List ℕ) → all is_digit (x ∷ word) ≡ true →
+word_numbers : (x : ℕ) (word bytes : List ℕ) → list_all is_digit (x ∷ word) ≡ true →
     numbers_of (words_after (x ∷ word) bytes) ≡ numerals_after (value_of (x ∷ word)) bytes
 unfolding numbers_of
 word_numbers x word [] digits = numbers_cons (x ∷ word) [] digits
 word_numbers x word (b ∷ bytes) digits = go (is_blank b) (is_digit b) refl (word_numbers x (word ++ b ∷ []) bytes)
   where
     go : (blank one : Bool) → is_digit b ≡ one →
-        (all is_digit (x ∷ word ++ b ∷ []) ≡ true →
+        (list_all is_digit (x ∷ word ++ b ∷ []) ≡ true →
         numbers_of (words_after (x ∷ word ++ b ∷ []) bytes) ≡ numerals_after (value_of (x ∷ word ++ b ∷ [])) bytes) →
         numbers_of (cond blank (word_before (x ∷ word) (words_after [] bytes)) (words_after (x ∷ word ++ b ∷ []) bytes))
         ≡ cond blank (numeral_before (value_of (x ∷ word)) (numbers_of (words_of bytes)))
-        (cond one (numerals_after (10 * value_of (x ∷ word) + (b - digit 0)) bytes) none)
+        (cond one (numerals_after (10 * value_of (x ∷ word) + (b - digit 0)) bytes) None)
     go true one e rest = numbers_cons (x ∷ word) (words_after [] bytes) digits
     go false true e rest =
         rest (digits_both (x ∷ word) (b ∷ []) digits (rw e))
@@ -109,12 +108,12 @@ word_numbers x word (b ∷ bytes) digits = go (is_blank b) (is_digit b) refl (wo
         no_numbers (words_after (x ∷ word ++ b ∷ []) bytes) (bad_word x (word ++ b ∷ []) bytes (now_bad (x ∷ word) b e))
 
 -- A number that no numeral says stays so, whatever follows.
-pub too_great : (v : ℕ) (bytes : List ℕ) → numeral_limit < v → numerals_after v bytes ≡ none
+pub too_great : (v : ℕ) (bytes : List ℕ) → numeral_limit < v → numerals_after v bytes ≡ None
 too_great v [] h = rw (lt-leb v numeral_limit h)
 too_great v (b ∷ bytes) h = rw (lt-leb v numeral_limit h, too_great (10 * v + (b - digit 0)) bytes (omega arith)) (go (is_blank b) (is_digit b))
   where
     nothing : Option (List ℕ)
-    nothing = none
+    nothing = None
 
     go : (blank one : Bool) → cond blank nothing (cond one nothing nothing) ≡ nothing
     go true one = refl
@@ -135,12 +134,12 @@ module _ (b : ℕ) (rest : List ℕ) where
   mark_ends : b ≡ end_mark → before_mark (b ∷ rest) ≡ []
   mark_ends e = rw e
 
-  pub none_at_mark : b ≡ end_mark → numerals_of (b ∷ rest) ≡ some []
+  pub none_at_mark : b ≡ end_mark → numerals_of (b ∷ rest) ≡ Some []
   unfolding numerals_of numbers_of
   none_at_mark e = rw (mark_ends e)
 
   -- What is no blank, no digit and no `#` is no numeral.
-  pub fault_at : is_blank b ≡ false → is_digit b ≡ false → eqb b end_mark ≡ false → numerals_of (b ∷ rest) ≡ none
+  pub fault_at : is_blank b ≡ false → is_digit b ≡ false → eqb b end_mark ≡ false → numerals_of (b ∷ rest) ≡ None
   unfolding numerals_of numbers_of
   fault_at blank one mark = rw (before_from mark, blank, bad_word b [] (before_mark rest) (rw one))
 
@@ -174,7 +173,7 @@ module _ (b : ℕ) (rest : List ℕ) where
       go false false m bl = rw (fault_at bl other m, m, bl, other)
 
 -- At the end there is none.
-pub none_at_end : numerals_of [] ≡ some []
+pub none_at_end : numerals_of [] ≡ Some []
 unfolding numerals_of numbers_of
 none_at_end = refl
 
@@ -191,12 +190,12 @@ unfolding is_digit
 digit_is b = refl
 
 -- A value with one digit more that is a numeral's, and one that is too great.
-pub more_taken : (o : Maybe ℕ) (v n : ℕ) (e : BadFormat) → SomeIff o (v ≤ numeral_limit) v → ok_or o e ≡ Ok n →
+pub more_taken : (o : Option ℕ) (v n : ℕ) (e : BadFormat) → SomeIff o (v ≤ numeral_limit) v → ok_or o e ≡ Ok n →
     (n ≡ v) × (v ≤ numeral_limit)
 more_taken None v n e h same = absurd (cc)
 more_taken (Some x) v n e (small, x-is) same = (cc, small)
 
-pub more_refused : (o : Maybe ℕ) (v : ℕ) (e f : BadFormat) → SomeIff o (v ≤ numeral_limit) v → ok_or o e ≡ Err f → numeral_limit < v
+pub more_refused : (o : Option ℕ) (v : ℕ) (e f : BadFormat) → SomeIff o (v ≤ numeral_limit) v → ok_or o e ≡ Err f → numeral_limit < v
 more_refused None v e f h same = omega (arith, h)
 more_refused (Some x) v e f h same = absurd (cc)
 

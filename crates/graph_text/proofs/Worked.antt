@@ -2,7 +2,7 @@
 use Prim.Native.Nat.{ℕ}
 use mathlib.Core.Bool.{true, false}
 use mathlib.Core.List.{List, [], ◌∷◌}
-use mathlib.Core.Option.{none, some}
+use Rattle.std.specs.Prelude.{None, Some}
 use mathlib.Core.Path.{◌≡◌, refl}
 use Rattle.basics.specs.Digits.{is_digit}
 use Rattle.basics.specs.Lists.{range}
@@ -28,24 +28,24 @@ two_nodes =
 
 pub record Worked : Type 0 where
   -- S14.1: `12`, a tab, `007`, a carriage return and a line feed, and a comment: 12 and 7.
-  pub numerals : numerals_of (49 ∷ 50 ∷ 9 ∷ 48 ∷ 48 ∷ 55 ∷ 13 ∷ 10 ∷ 35 ∷ 120 ∷ []) ≡ some (12 ∷ 7 ∷ [])
+  pub numerals : numerals_of (49 ∷ 50 ∷ 9 ∷ 48 ∷ 48 ∷ 55 ∷ 13 ∷ 10 ∷ 35 ∷ 120 ∷ []) ≡ Some (12 ∷ 7 ∷ [])
   -- S14.1: an empty text, and one that is a comment, have none.
-  pub empty : numerals_of [] ≡ some []
-  pub comment : numerals_of (35 ∷ 49 ∷ []) ≡ some []
+  pub empty : numerals_of [] ≡ Some []
+  pub comment : numerals_of (35 ∷ 49 ∷ []) ≡ Some []
   -- S14.1: `1-`, `x`, and byte 11 are not of the format; nor is `1,2`.
-  pub sign : numerals_of (49 ∷ 45 ∷ []) ≡ none
-  pub letter : numerals_of (120 ∷ []) ≡ none
-  pub other_blank : numerals_of (49 ∷ 11 ∷ 50 ∷ []) ≡ none
-  pub comma : numerals_of (49 ∷ 44 ∷ 50 ∷ []) ≡ none
+  pub sign : numerals_of (49 ∷ 45 ∷ []) ≡ None
+  pub letter : numerals_of (120 ∷ []) ≡ None
+  pub other_blank : numerals_of (49 ∷ 11 ∷ 50 ∷ []) ≡ None
+  pub comma : numerals_of (49 ∷ 44 ∷ 50 ∷ []) ≡ None
   -- S14.1: 65,535 is a numeral, 65,536 is none.
-  pub greatest : numerals_of (54 ∷ 53 ∷ 53 ∷ 51 ∷ 53 ∷ []) ≡ some (65535 ∷ [])
-  pub past : numerals_of (54 ∷ 53 ∷ 53 ∷ 51 ∷ 54 ∷ []) ≡ none
+  pub greatest : numerals_of (54 ∷ 53 ∷ 53 ∷ 51 ∷ 53 ∷ []) ≡ Some (65535 ∷ [])
+  pub past : numerals_of (54 ∷ 53 ∷ 53 ∷ 51 ∷ 54 ∷ []) ≡ None
   -- S14.2: the graph; and none where a numeral is missing, where one follows, and where an entry has another number.
-  pub graph : graph_from (some two) ≡ some two_nodes
-  pub cut : graph_from (some (1 ∷ 0 ∷ 0 ∷ 0 ∷ 1 ∷ 3 ∷ 0 ∷ 2 ∷ 0 ∷ [])) ≡ none
-  pub followed : graph_from (some (0 ∷ 0 ∷ 0 ∷ 0 ∷ 1 ∷ 0 ∷ 0 ∷ 7 ∷ [])) ≡ none
-  pub number : graph_from (some (1 ∷ 0 ∷ 0 ∷ 0 ∷ 2 ∷ 3 ∷ 0 ∷ 2 ∷ 0 ∷ 0 ∷ [])) ≡ none
-  pub nothing : graph_from (some []) ≡ none
+  pub graph : graph_from (Some two) ≡ Some two_nodes
+  pub cut : graph_from (Some (1 ∷ 0 ∷ 0 ∷ 0 ∷ 1 ∷ 3 ∷ 0 ∷ 2 ∷ 0 ∷ [])) ≡ None
+  pub followed : graph_from (Some (0 ∷ 0 ∷ 0 ∷ 0 ∷ 1 ∷ 0 ∷ 0 ∷ 7 ∷ [])) ≡ None
+  pub number : graph_from (Some (1 ∷ 0 ∷ 0 ∷ 0 ∷ 2 ∷ 3 ∷ 0 ∷ 2 ∷ 0 ∷ 0 ∷ [])) ≡ None
+  pub nothing : graph_from (Some []) ≡ None
   -- S14.3: a dummy with a time, and a node without one.
   pub dummy_time : time_lawful 2 3 1 ≡ false
   pub node_time : time_lawful 2 2 0 ≡ false

@@ -1,7 +1,7 @@
 -- S14.2 to S14.5: the graph that a text says, its entries and its nodes.
-use Rattle.std.specs.Prelude.{ℕ, zero, suc, ◌+◌, Bool, true, cond, ◌&&◌, ◌||◌, List, [], ◌∷◌, eqb, leb, ltb, length, take, drop, get_or}
-use Rattle.std.proofs.Math.Option.{Option, none, some}
-use Rattle.basics.specs.Lists.{range, keep, all, is_in, cells}
+use Rattle.std.specs.Prelude.{ℕ, zero, suc, ◌+◌, Bool, true, cond, ◌&&◌, ◌||◌, List, [], ◌∷◌, eqb, leb, ltb, length, take, drop, get_or, Option, None, Some, filter}
+use Rattle.std.specs.List.{list_all}
+use Rattle.basics.specs.Lists.{range, is_in, cells}
 use Rattle.nodes.specs.Sets.{set_of}
 use Rattle.graph_text.specs.Text.{numerals_of}
 
@@ -22,32 +22,32 @@ time_lawful count v time = cond (eqb v 0 || eqb v (count + 1)) (eqb time 0) (leb
 
 -- An entry in front of others, where these could be read.
 abbrev pub entry_before : Entry → Option (List Entry) → Option (List Entry)
-entry_before e none = none
-entry_before e (some entries) = some (e ∷ entries)
+entry_before e None = None
+entry_before e (Some entries) = Some (e ∷ entries)
 
 -- S14.2: some entries, from number v on, that numerals say: for each its number, its time, how many predecessors it has, and their
 -- numbers. No numeral follows the last.
 unfoldable pub entries_from : ℕ → ℕ → ℕ → List ℕ → Option (List Entry)
-entries_from count v zero [] = some []
-entries_from count v zero (n ∷ numerals) = none
-entries_from count v (suc more) [] = none
-entries_from count v (suc more) (number ∷ []) = none
-entries_from count v (suc more) (number ∷ time ∷ []) = none
+entries_from count v zero [] = Some []
+entries_from count v zero (n ∷ numerals) = None
+entries_from count v (suc more) [] = None
+entries_from count v (suc more) (number ∷ []) = None
+entries_from count v (suc more) (number ∷ time ∷ []) = None
 entries_from count v (suc more) (number ∷ time ∷ many ∷ rest) =
     cond (eqb number v && time_lawful count v time && leb many (length rest))
     (entry_before (record { time = time; predecessors = take many rest }) (entries_from count (suc v) more (drop many rest)))
-    none
+    None
 
 -- A graph of these entries, where they could be read.
 abbrev pub graph_with : ℕ → Option (List Entry) → Option Graph
-graph_with count none = none
-graph_with count (some entries) = some (record { count = count; entries = entries })
+graph_with count None = None
+graph_with count (Some entries) = Some (record { count = count; entries = entries })
 
 -- S14.2: the graph that numerals say, or none: the count, and then two entries more than the count.
 abbrev pub graph_from : Option (List ℕ) → Option Graph
-graph_from none = none
-graph_from (some []) = none
-graph_from (some (count ∷ numerals)) = graph_with count (entries_from count 0 (suc (suc count)) numerals)
+graph_from None = None
+graph_from (Some []) = None
+graph_from (Some (count ∷ numerals)) = graph_with count (entries_from count 0 (suc (suc count)) numerals)
 
 -- S14.1, S14.2: the graph that a text says, or none where it is not of the format.
 unfoldable pub graph_of : List ℕ → Option Graph
@@ -56,7 +56,7 @@ graph_of text = graph_from (numerals_of text)
 -- S14.4: whether each entry, from number v on, names only lower numbers as its predecessors.
 abbrev pub rising_from : ℕ → List Entry → Bool
 rising_from v [] = true
-rising_from v (e ∷ entries) = all (λ p. ltb p v) e.predecessors && rising_from (suc v) entries
+rising_from v (e ∷ entries) = list_all (λ p. ltb p v) e.predecessors && rising_from (suc v) entries
 
 -- S14.4, of all entries.
 unfoldable pub is_rising : Graph → Bool
@@ -76,7 +76,7 @@ time_of g v = (node_of g v).time
 
 -- S14.5: the mask of a node with these predecessors: the nodes whose entries are named. The dummy 0 is no node.
 unfoldable pub mask_of : List ℕ → ℕ
-mask_of predecessors = set_of (keep (λ j. is_in (suc j) predecessors) (range 0 32))
+mask_of predecessors = set_of (filter (λ j. is_in (suc j) predecessors) (range 0 32))
 
 -- The numbers of the first 32 nodes of a graph, and 0 where there are fewer.
 abbrev pub node_cells : Graph → (Entry → ℕ) → List ℕ

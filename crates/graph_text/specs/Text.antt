@@ -1,7 +1,7 @@
 -- S14.1: the numerals of a text of the Standard Task Graph format.
-use Rattle.std.specs.Prelude.{ℕ, Bool, cond, not, ◌&&◌, ◌||◌, List, [], ◌∷◌, ◌++◌, map, eqb, leb}
-use Rattle.std.proofs.Math.Option.{Option, none, some}
-use Rattle.basics.specs.Lists.{kept_if, all, is_empty}
+use Rattle.std.specs.Prelude.{ℕ, Bool, cond, not, ◌&&◌, ◌||◌, List, [], ◌∷◌, ◌++◌, map, eqb, leb, Option, None, Some}
+use Rattle.std.specs.List.{list_all}
+use Rattle.basics.specs.Lists.{kept_if, is_empty}
 use Rattle.basics.specs.Digits.{is_digit, value_of}
 
 -- The byte `#`, which ends the text.
@@ -36,11 +36,11 @@ numeral_limit = 65535
 
 -- S14.1: whether a word is a numeral: digits, in value at most 65,535.
 unfoldable pub is_numeral : List ℕ → Bool
-is_numeral word = all is_digit word && leb (value_of word) numeral_limit
+is_numeral word = list_all is_digit word && leb (value_of word) numeral_limit
 
 -- The numbers that words say, or none where one of them is no numeral.
 unfoldable pub numbers_of : List (List ℕ) → Option (List ℕ)
-numbers_of words = cond (all is_numeral words) (some (map value_of words)) none
+numbers_of words = cond (list_all is_numeral words) (Some (map value_of words)) None
 
 -- S14.1: the numerals of a text, or none where it has anything else.
 unfoldable pub numerals_of : List ℕ → Option (List ℕ)

@@ -1,7 +1,6 @@
 //! S14.1: the numerals of a text, read one after the other.
-ghost use Rattle.std.specs.Prelude.{◌≡◌, ◌≤◌, ◌+◌, ◌-◌, ◌*◌, true, [], Ok, None, MatchResult, OnErr};
+ghost use Rattle.std.specs.Prelude.{◌≡◌, ◌≤◌, ◌+◌, ◌-◌, ◌*◌, true, [], Ok, None, MatchResult, OnErr, Some};
 ghost use Rattle.std.specs.Option.{SomeIff};
-ghost use Rattle.std.proofs.Math.Option.{none, some};
 ghost use Rattle.graph_text.specs.Text.{before_mark, is_blank, numeral_limit, numerals_of};
 ghost use Rattle.graph_text.specs.means.Scan.{BeginsFull, number_before, numerals_after, Takes, TakesMaybe};
 
@@ -29,8 +28,7 @@ pub struct Numerals<'a> {
 }
 
 impl<'a> Model for Numerals<'a> {
-    ghost use Rattle.std.specs.Prelude.{ℕ, List};
-    ghost use Rattle.std.proofs.Math.Option.{Option};
+    ghost use Rattle.std.specs.Prelude.{ℕ, List, Option};
     ghost use Rattle.graph_text.specs.Text.{numerals_of};
 
     ghost Value = { Option (List ℕ) };
@@ -48,7 +46,7 @@ impl<'a> Numerals<'a> {
 
     /// Whether no byte is left.
     pub fn is_empty(&self) -> bool
-        ensures { result ≡ true → self.now ≡ some [] }
+        ensures { result ≡ true → self.now ≡ Some [] }
     {
         self.rest.is_empty()
     }
@@ -119,7 +117,7 @@ fn with_digit(value: u16, b: u8) -> Option<u16>
 fn read_digits(text: &[u8], first: u16) -> Result<(u16, &[u8]), BadFormat>
     ensures { MatchResult result
         (λ r. numerals_after first (before_mark text.now) ≡ number_before r.0 (numerals_of r.1.now))
-        (λ _. numerals_after first (before_mark text.now) ≡ none) }
+        (λ _. numerals_after first (before_mark text.now) ≡ None) }
 {
     // A walk of its own: `after_blanks` keeps no value and can't fail.
     let mut value = first;

@@ -1,6 +1,7 @@
 -- What S10.5, S10.9 and S10.10 ask of a run, by tests that compute. Reports are true if each accepted tick reports just the set of
 -- nodes whose length is reached with it; a mode that is typical throughout is so until any tick; and what holds at each accepted
 -- Release of a run holds of every job in it.
+use Rattle.std.specs.Prelude.{filter}
 use Prim.Native.Nat.{ℕ, ◌+◌}
 use mathlib.Core.Path.{◌≡◌, refl, sym, ap, subst, ◌∙◌}
 use mathlib.Core.Bool.{Bool, true, false, cond, not, ◌&&◌, ◌||◌, true≢false, and-eq-true_iff}
@@ -10,9 +11,9 @@ use native.Mathlib.Omega.{arith}
 use borrow.Author.Tests.{eqb-true, not-true}
 use lib.Dec.{eqb, ltb}
 use lib.ListN.{get_or}
-use Rattle.basics.specs.Lists.{range, keep}
+use Rattle.basics.specs.Lists.{range}
 use Rattle.nodes.specs.Sets.{has, set_of}
-use Rattle.nodes.proofs.Members.{has-set_of-keep}
+use Rattle.nodes.proofs.Members.{has-set_of-filter}
 use Rattle.model.specs.Row.{running_set}
 use Rattle.model.specs.Step.{Model, Call, release, tick, step, row_at, granted, running_at}
 use Rattle.model.specs.Run.{after, is_accepted, is_release_of, releases_in, is_running, runs_on, runs_in, is_due, TrueReports}
@@ -26,7 +27,7 @@ is_reached i len c m v = is_due (is_running i v m) (c v) (len v)
 
 -- The set of these nodes.
 abbrev reached_set : ℕ → (ℕ → ℕ) → (ℕ → ℕ) → Model → ℕ
-reached_set i len c m = set_of (keep (is_reached i len c m) (range 0 (row_at m i).fixed.nodes))
+reached_set i len c m = set_of (filter (is_reached i len c m) (range 0 (row_at m i).fixed.nodes))
 
 -- Whether a call is no accepted tick, or one that reports just that set.
 abbrev is_true : ℕ → (ℕ → ℕ) → (ℕ → ℕ) → Model → Call → Bool
@@ -52,7 +53,7 @@ runs_only false false r t e = refl
 reached_at : (i : ℕ) (len c : ℕ → ℕ) (m : Model) (v : ℕ) → has (reached_set i len c m) v ≡ is_reached i len c m v
 unfolding is_running running_at running_set is_due
 reached_at i len c m v =
-    has-set_of-keep (is_reached i len c m) (row_at m i).fixed.nodes v
+    has-set_of-filter (is_reached i len c m) (row_at m i).fixed.nodes v
     ∙ runs_only (is_running i v m) (ltb v (row_at m i).fixed.nodes) _ _ (runs_test (granted m i) (row_at m i) v)
 
 -- An accepted tick that passes the test.

@@ -2,7 +2,6 @@
 use Prim.Native.Nat.{ℕ, ◌≤◌}
 use mathlib.Core.Bool.{Bool, true, false, not, ◌&&◌, ◌||◌}
 use mathlib.Core.List.{List}
-use mathlib.Core.Option.{Option, some}
 use mathlib.Core.Path.{◌≡◌, sym, ap, ◌∙◌}
 use lib.Dec.{eqb, leb}
 use borrow.Author.Tests.{leb-true, eqb-true}
@@ -10,7 +9,7 @@ use Rattle.basics.specs.Numbers.{within}
 use Rattle.basics.proofs.Logic.{left_true, right_true, within_bounds}
 use Rattle.sheet.specs.declared.refusal.Refusal.{Refusal}
 use Rattle.sheet.specs.declared.refusal.Refusal.TheVariants.{BadText, BadGraph, FigureOutside}
-use Rattle.std.specs.Prelude.{Ok}
+use Rattle.std.specs.Prelude.{Ok, Option, Some}
 use Rattle.sheet.specs.Refusal.{Answer, refused_if, ◌or_else◌}
 use Rattle.sheet.specs.Level.{is_high}
 use Rattle.sheet.proofs.Faults.{both_accepted, rule_kept}
@@ -55,7 +54,7 @@ pub record Kept (g : Graph) (t : Terms) : Type 0 where
   pub rising : is_rising g ≡ true
   pub ranged : in_range t.level (figures_of g t) ≡ true
 
-graph_kept : (g : Graph) (t : Terms) (room : ℕ) → answer_for (some g) t room ≡ Ok tt → Kept g t
+graph_kept : (g : Graph) (t : Terms) (room : ℕ) → answer_for (Some g) t room ≡ Ok tt → Kept g t
 unfolding is_asked_well graph_lawful
 graph_kept g t room e =
     let asked = first_kept_lem (is_asked_well g t room) BadText _ e in
@@ -70,6 +69,6 @@ graph_kept g t room e =
     }
 
 pub accepted_kept : (text : List ℕ) (t : Terms) (room : ℕ) (g : Graph) →
-    import_answer text t room ≡ Ok tt → graph_of text ≡ some g → Kept g t
+    import_answer text t room ≡ Ok tt → graph_of text ≡ Some g → Kept g t
 unfolding import_answer
 accepted_kept text t room g e said = graph_kept g t room (sym (ap (λ (o : Option Graph). answer_for o t room) said) ∙ e)

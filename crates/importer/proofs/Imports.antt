@@ -3,7 +3,6 @@
 use Prim.Native.Nat.{ℕ, ◌+◌, ◌*◌, ◌≤◌, ◌<◌}
 use mathlib.Core.Bool.{true, not, ◌&&◌, and-eq-true_iff}
 use mathlib.Core.List.{List, ◌++◌}
-use mathlib.Core.Option.{Option, none, some}
 use mathlib.Core.Path.{◌≡◌, refl, sym, ap, ◌∙◌}
 use native.Mathlib.Omega.{arith}
 use lib.Dec.{leb}
@@ -12,7 +11,7 @@ use lib.Seq.{sets, sets-eq}
 use borrow.Author.Tests.{leb-true}
 use Rattle.basics.specs.Numbers.{within}
 use Rattle.basics.proofs.Cells.{cells-length, cells_at}
-use Rattle.std.specs.Prelude.{Ok, Err}
+use Rattle.std.specs.Prelude.{Ok, Err, Option, None, Some}
 use Rattle.sheet.specs.declared.refusal.Refusal.{Refusal}
 use Rattle.sheet.specs.declared.refusal.Refusal.TheVariants.{BadText, BadGraph, FigureOutside}
 use Rattle.sheet.specs.declared.task.Task.{Task}
@@ -102,13 +101,13 @@ unfolding read_of import_answer
 read_none text t room {e} = go (graph_of text)
   where
     go : (found : Option Graph) → node_graph found ≡ Err e → answer_for found t room ≡ Err BadText
-    go none h = refl
-    go (some g) h = absurd (cc)
+    go None h = refl
+    go (Some g) h = absurd (cc)
 
 -- The graph that was read is one that the text says, by its nodes.
 pub record Said (text : List ℕ) (graph : NodeGraph) : Type 0 where
   pub whole : Graph
-  pub says : graph_of text ≡ some whole
+  pub says : graph_of text ≡ Some whole
   pub nodes : graph ≡ held whole
 
 pub graph_said : (text : List ℕ) (graph : NodeGraph) → read_of text ≡ Ok graph → Said text graph
@@ -116,8 +115,8 @@ unfolding read_of
 graph_said text graph = go (graph_of text) refl
   where
     go : (found : Option Graph) → graph_of text ≡ found → node_graph found ≡ Ok graph → Said text graph
-    go none e h = absurd (cc)
-    go (some g) e h = record { whole = g; says = e; nodes = cc }
+    go None e h = absurd (cc)
+    go (Some g) e h = record { whole = g; says = e; nodes = cc }
 
 -- What was read, and its answer.
 module _ (text : List ℕ) (graph : NodeGraph) (t : Terms) (room : ℕ) (read : read_of text ≡ Ok graph) where

@@ -1,17 +1,18 @@
 -- S14.8: the record of an accepted import can be held and is read back as its task, whose level, nodes, figures and masks are lawful.
+use Rattle.std.specs.List.{list_all}
 use Prim.Native.Nat.{ℕ, zero, suc, ◌+◌, ◌*◌, ◌<◌, ◌^◌}
 use mathlib.Core.Bool.{Bool, true, false, cond, not, ◌&&◌, ◌||◌}
 use mathlib.Core.List.{List, ◌++◌}
-use mathlib.Core.Option.{Option}
+use Rattle.std.specs.Prelude.{Option}
 use mathlib.Core.Path.{◌≡◌, refl, sym, ap, ◌∙◌}
 use native.Mathlib.Omega.{arith}
 use lib.Dec.{eqb, ltb}
 use lib.ListN.{length}
 use borrow.Author.Tests.{le-leb, lt-ltb, eq-eqb}
-use Rattle.basics.specs.Lists.{all, is_in, cells_from}
+use Rattle.basics.specs.Lists.{is_in, cells_from}
 use Rattle.basics.proofs.Below.{all_intro}
 use Rattle.basics.proofs.Cells.{cells-length, cells_rest}
-use Rattle.nodes.proofs.Members.{set_of-keep_lt}
+use Rattle.nodes.proofs.Members.{set_of-filter_lt}
 use Rattle.sheet.specs.declared.task.Budget.{Budget}
 use Rattle.sheet.specs.declared.refusal.Refusal.TheVariants.{NotHeavy}
 use Rattle.sheet.specs.Refusal.{refused_if}
@@ -38,7 +39,7 @@ use Rattle.importer.proofs.Acceptance.{Kept, accepted_kept}
 
 -- Cells of masks: each fits its four bytes.
 cells_fit : (test : ℕ → Bool) (f : ℕ → ℕ) (first size count : ℕ) → ((v : ℕ) → test (f v) ≡ true) → test 0 ≡ true →
-    all test (cells_from first size f 0 count) ≡ true
+    list_all test (cells_from first size f 0 count) ≡ true
 unfolding cells_from
 cells_fit test f first zero count fits none = refl
 cells_fit test f first (suc size) count fits none = rw (go (ltb first count), cells_fit test f (suc first) size count fits none)
@@ -49,7 +50,7 @@ cells_fit test f first (suc size) count fits none = rw (go (ltb first count), ce
 
 mask_fits : (predecessors : List ℕ) → mask_of predecessors < 2 ^ 32
 unfolding mask_of
-mask_fits predecessors = set_of-keep_lt (λ j. is_in (suc j) predecessors) 32
+mask_fits predecessors = set_of-filter_lt (λ j. is_in (suc j) predecessors) 32
 
 module _ (g : Graph) (t : Terms) (kept : Kept g t) where
   -- S2.6: a record can hold the task.

@@ -6,7 +6,7 @@ use mathlib.Core.Path.{◌≡◌, refl, ap, ap₂, sym, ◌∙◌}
 use lib.Dec.{eqb, eqb-suc-zero}
 use borrow.Author.Tests.{eqb-true}
 use Rattle.basics.specs.Lists.{is_in, cells_from}
-use Rattle.basics.proofs.Lists.{keep_ext_below}
+use Rattle.basics.proofs.Lists.{filter_ext_below}
 use Rattle.basics.proofs.Cells.{cells_same}
 use Rattle.nodes.specs.Sets.{set_of}
 use Rattle.chains.specs.Chains.{budget_of}
@@ -18,7 +18,7 @@ use Rattle.importer.specs.Laws.{MaskKept, MasksKept, SameTask}
 -- Lists that name the same nodes have the same mask.
 mask_same : (ps qs : List ℕ) → ((j : ℕ) → is_in (suc j) ps ≡ is_in (suc j) qs) → mask_of ps ≡ mask_of qs
 unfolding mask_of
-mask_same ps qs same = ap set_of (keep_ext_below (λ j. is_in (suc j) ps) (λ j. is_in (suc j) qs) 32 (λ j h. same j))
+mask_same ps qs same = ap set_of (filter_ext_below (λ j. is_in (suc j) ps) (λ j. is_in (suc j) qs) 32 (λ j h. same j))
 
 pub mask_kept : (p : ℕ) (predecessors : List ℕ) → MaskKept p predecessors
 mask_kept p predecessors =

@@ -2,7 +2,7 @@
 use Prim.Native.Nat.{ℕ, zero, suc, ◌+◌, ◌≤◌, ◌<◌}
 use mathlib.Core.Bool.{Bool, true, false, cond, ◌&&◌}
 use mathlib.Core.List.{List, [], ◌∷◌}
-use mathlib.Core.Option.{Option, none, some}
+use Rattle.std.specs.Prelude.{Option, None, Some}
 use mathlib.Core.Path.{◌≡◌, refl}
 use native.Mathlib.Omega.{arith}
 use lib.Dec.{eqb, leb}
@@ -23,14 +23,14 @@ lawful_timed count number time h from to =
 
 -- The same of some entries from number v on.
 abbrev TimedEntries : ℕ → ℕ → ℕ → Option (List Entry) → Type 0
-TimedEntries count v more none = Unit
-TimedEntries count v more (some entries) =
+TimedEntries count v more None = Unit
+TimedEntries count v more (Some entries) =
     (n number : ℕ) → n < more → number ≡ v + n → Timed count number (get_or entries n no_entry).time
 
 timed_before : (count v more : ℕ) (e : Entry) (entries : Option (List Entry)) → Timed count v e.time →
     TimedEntries count (suc v) more entries → TimedEntries count v (suc more) (entry_before e entries)
-timed_before count v more e none here others = tt
-timed_before count v more e (some entries) here others = go
+timed_before count v more e None here others = tt
+timed_before count v more e (Some entries) here others = go
   where
     go : (n number : ℕ) → n < suc more → number ≡ v + n → Timed count number (get_or (e ∷ entries) n no_entry).time
     go zero number l same from to = here (omega arith) (omega arith)
@@ -52,7 +52,7 @@ entries_timed count v (suc more) (number ∷ time ∷ many ∷ rest) =
     go : (named lawful : Bool) → time_lawful count v time ≡ lawful → (enough : Bool) →
         TimedEntries count (suc v) more (entries_from count (suc v) more (drop many rest)) →
         TimedEntries count v (suc more)
-        (cond (named && lawful && enough) (entry_before e (entries_from count (suc v) more (drop many rest))) none)
+        (cond (named && lawful && enough) (entry_before e (entries_from count (suc v) more (drop many rest))) None)
     go true true h true others =
         timed_before count v more e (entries_from count (suc v) more (drop many rest)) (lawful_timed count v time h) others
     go true true h false others = tt
@@ -60,24 +60,24 @@ entries_timed count v (suc more) (number ∷ time ∷ many ∷ rest) =
     go false lawful h enough others = tt
 
 abbrev TimedGraph : Option Graph → Type 0
-TimedGraph none = Unit
-TimedGraph (some g) = (v : ℕ) → v < g.count → 1 ≤ time_of g v
+TimedGraph None = Unit
+TimedGraph (Some g) = (v : ℕ) → v < g.count → 1 ≤ time_of g v
 
 with_timed : (count : ℕ) (entries : Option (List Entry)) → TimedEntries count 0 (suc (suc count)) entries →
     TimedGraph (graph_with count entries)
 unfolding time_of node_of
-with_timed count none h = tt
-with_timed count (some entries) h = λ v l. h (suc v) (suc v) (omega arith) (omega arith) (omega arith) (omega arith)
+with_timed count None h = tt
+with_timed count (Some entries) h = λ v l. h (suc v) (suc v) (omega arith) (omega arith) (omega arith) (omega arith)
 
 from_timed : (numerals : Option (List ℕ)) → TimedGraph (graph_from numerals)
-from_timed none = tt
-from_timed (some []) = tt
-from_timed (some (count ∷ numerals)) =
+from_timed None = tt
+from_timed (Some []) = tt
+from_timed (Some (count ∷ numerals)) =
     with_timed count (entries_from count 0 (suc (suc count)) numerals) (entries_timed count 0 (suc (suc count)) numerals)
 
 text_timed : (text : List ℕ) → TimedGraph (graph_of text)
 unfolding graph_of
 text_timed text = from_timed (numerals_of text)
 
-pub times_positive : (text : List ℕ) (g : Graph) → graph_of text ≡ some g → (v : ℕ) → v < g.count → 1 ≤ time_of g v
+pub times_positive : (text : List ℕ) (g : Graph) → graph_of text ≡ Some g → (v : ℕ) → v < g.count → 1 ≤ time_of g v
 times_positive text g e = rw e at (text_timed text)

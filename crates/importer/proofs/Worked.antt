@@ -3,7 +3,6 @@ use Prim.Native.Nat.{ℕ, zero, suc, ◌<◌}
 use mathlib.Core.Path.{◌≡◌, refl, sym, ap}
 use mathlib.Core.Bool.{Bool, true, false, ◌||◌}
 use mathlib.Core.List.{List, [], ◌∷◌, ◌++◌}
-use mathlib.Core.Option.{some}
 use native.Mathlib.Omega.{arith}
 use lib.Dec.{eqb, lit≤, eqb-suc-zero}
 use lib.ListN.{length, replicate}
@@ -11,7 +10,7 @@ use Rattle.basics.specs.Lists.{range, is_in, cells_from}
 use Rattle.basics.specs.Numbers.{byte_at, u16_at, u16_bytes, u32_bytes}
 use Rattle.basics.specs.Digits.{is_digit}
 use Rattle.nodes.specs.Sets.{has, members}
-use Rattle.std.specs.Prelude.{Err}
+use Rattle.std.specs.Prelude.{Err, Some}
 use Rattle.sheet.specs.declared.refusal.Refusal.TheVariants.{BadText, BadGraph, FigureOutside, NotHeavy}
 use Rattle.std.specs.Prelude.{Ok}
 use Rattle.sheet.specs.Refusal.{first_over}
@@ -114,9 +113,9 @@ pub record Worked : Type 0 where
   pub rounded_none : scaled 100 7 ≡ 7
   pub rounded_four : scaled 400 7 ≡ 28
   -- S14.2: the graphs that the texts say.
-  pub graph_of_row : graph_of row ≡ some row_graph
-  pub graph_of_again : graph_of row_again ≡ some again_graph
-  pub graph_of_fork : graph_of fork ≡ some fork_graph
+  pub graph_of_row : graph_of row ≡ Some row_graph
+  pub graph_of_again : graph_of row_again ≡ Some again_graph
+  pub graph_of_fork : graph_of fork ≡ Some fork_graph
   -- S14.7: D, CN, CO, LN and LO. Overload times of the row are 5 and 6, of the fork 3, 5 and 8.
   pub row_figures : figures_of row_graph (terms 1 9 150) ≡ figures 9 7 11 7 11
   pub light_figures : figures_of row_graph (terms 1 11 150) ≡ figures 11 7 11 7 11

@@ -1,6 +1,5 @@
 -- S14.9 and S9.17 to S9.19: what import answers, and what it leaves in the buffer.
-use Rattle.std.specs.Prelude.{ℕ, ◌+◌, ◌*◌, Bool, not, ◌&&◌, List, [], leb, length, Err}
-use Rattle.std.proofs.Math.Option.{Option, none, some}
+use Rattle.std.specs.Prelude.{ℕ, ◌+◌, ◌*◌, Bool, not, ◌&&◌, List, [], leb, length, Err, Option, None, Some}
 use Rattle.basics.specs.Numbers.{within}
 use Rattle.sheet.specs.declared.refusal.Refusal.TheVariants.{BadText, BadGraph, FigureOutside}
 use Rattle.sheet.specs.Refusal.{Answer, refused_if, ◌or_else◌, written_if}
@@ -28,8 +27,8 @@ graph_lawful g = within 1 32 g.count && is_rising g
 
 -- S14.9: refusals 17, then 18, then 19, of the graph that a text says, if it says one.
 abbrev pub answer_for : Option Graph → Terms → ℕ → Answer
-answer_for none t room = Err BadText
-answer_for (some g) t room =
+answer_for None t room = Err BadText
+answer_for (Some g) t room =
     refused_if (not (is_asked_well g t room)) BadText
     or_else refused_if (not (graph_lawful g)) BadGraph
     or_else refused_if (not (in_range t.level (figures_of g t))) FigureOutside
@@ -40,8 +39,8 @@ import_answer text t room = answer_for (graph_of text) t room
 
 -- The record of a graph, if there is one.
 abbrev pub record_for : Option Graph → Terms → List ℕ
-record_for none t = []
-record_for (some g) t = record_bytes (task_from g t)
+record_for None t = []
+record_for (Some g) t = record_bytes (task_from g t)
 
 -- S14.9: the record that a text becomes.
 unfoldable pub imported_record : List ℕ → Terms → List ℕ

@@ -1,6 +1,5 @@
 -- What holds of every import. Each law is proved in proofs/.
-use Rattle.std.specs.Prelude.{ℕ, suc, ◌≤◌, ◌<◌, true, not, List, ◌∷◌, ◌++◌, ◌≡◌, length}
-use Rattle.std.proofs.Math.Option.{some}
+use Rattle.std.specs.Prelude.{ℕ, suc, ◌≤◌, ◌<◌, true, not, List, ◌∷◌, ◌++◌, ◌≡◌, length, Some}
 use Rattle.basics.specs.Lists.{is_in}
 use Rattle.sheet.specs.declared.refusal.Refusal.TheVariants.{NotHeavy}
 use Rattle.std.specs.Prelude.{Ok}
@@ -25,7 +24,7 @@ unfoldable pub ReaderTakes : Type 0
 ReaderTakes =
     (text : List ℕ) (t : Terms) (room : ℕ) (g : Graph) (front back : List ℕ) (i : ℕ) →
     import_answer text t room ≡ Ok tt →
-    graph_of text ≡ some g →
+    graph_of text ≡ Some g →
     offset_of (front ++ (imported_record text t ++ back)) i ≡ length front →
     length_of (front ++ (imported_record text t ++ back)) i ≡ length (imported_record text t) →
     record_answer (front ++ (imported_record text t ++ back)) i ≡ refused_if (not (is_heavy (figures_of g t))) (NotHeavy i)
@@ -42,7 +41,7 @@ pub record BudgetsFit (g : Graph) (t : Terms) : Type 0 where
 unfoldable pub TimesKeepBudgets : Type 0
 TimesKeepBudgets =
     (text : List ℕ) (t : Terms) (room : ℕ) (g : Graph) →
-    import_answer text t room ≡ Ok tt → graph_of text ≡ some g → BudgetsFit g t
+    import_answer text t room ≡ Ok tt → graph_of text ≡ Some g → BudgetsFit g t
 
 -- S14.5: predecessor 0, and one that is named already, change no mask.
 pub record MaskKept (p : ℕ) (predecessors : List ℕ) : Type 0 where

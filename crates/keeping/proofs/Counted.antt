@@ -6,9 +6,9 @@ use mathlib.Core.Bool.{false}
 use native.Mathlib.Omega.{arith}
 use lib.ListN.{length, take}
 use borrow.Author.Tests.{eqb-true, eq-eqb}
-use Rattle.basics.specs.Lists.{keep}
+use Rattle.std.specs.Prelude.{filter}
 use Rattle.basics.specs.Order.{least, capped_at}
-use Rattle.basics.proofs.Members.{map-has, map_from, keep-has, keep_from}
+use Rattle.basics.proofs.Members.{map-has, map_from, filter-has, filter_from}
 use Rattle.basics.proofs.Order.{capped_is}
 use Rattle.shares.specs.declared.share.Share.{Share}
 use Rattle.shares.specs.Totals.{share_at, critical_total}
@@ -16,10 +16,10 @@ use Rattle.keeping.specs.Kept.{subsets, processors_for, typical_share_at, kept_s
 use Rattle.keeping.specs.Running.{without, totals_keeping}
 use Rattle.keeping.specs.Promise.{RunningLeast}
 use Rattle.keeping.specs.means.Keeping.{Next, none, found, KeptAfter, none_kept, one_more, Keepable}
-use Rattle.keeping.proofs.Parts.{Part, part_subset, subset_part, keep_part}
+use Rattle.keeping.proofs.Parts.{Part, part_subset, subset_part, filter_part}
 use Rattle.keeping.proofs.Greedy.{fewest, too_many}
 use Rattle.keeping.proofs.Running.{low_from}
-use Rattle.keeping.proofs.Steps.{also, keep_also, also_length, KeptSoFar, rising, kept_none, line_typical, free_has, Least, split_more, kept_more, line-length}
+use Rattle.keeping.proofs.Steps.{also, filter_also, also_length, KeptSoFar, rising, kept_none, line_typical, free_has, Least, split_more, kept_more, line-length}
 use Rattle.keeping.proofs.Steps as steps
 
 -- The totals with k tasks kept, by sets.
@@ -29,7 +29,7 @@ module _ (n : ℕ) (shares : List Share) (k : ℕ) where
   unfolding totals_keeping
   keeping_has tasks p many =
       map-has (λ set. critical_total (take n shares) + processors_for (typical_share_at shares) set) _ tasks
-      (keep-has _ (subsets (without n shares)) tasks (part_subset p) (eq-eqb (length tasks) k many))
+      (filter-has _ (subsets (without n shares)) tasks (part_subset p) (eq-eqb (length tasks) k many))
 
   keeping_from : (P : ℕ → Type 0) →
       ((tasks : List ℕ) → Part (without n shares) tasks → length tasks ≡ k → P (critical_total (take n shares) + processors_for (typical_share_at shares) tasks)) →
@@ -37,7 +37,7 @@ module _ (n : ℕ) (shares : List Share) (k : ℕ) where
   unfolding totals_keeping
   keeping_from P each y m =
       let image = map_from (λ set. critical_total (take n shares) + processors_for (typical_share_at shares) set) _ y m in
-      let kept = keep_from _ (subsets (without n shares)) image.0 image.1.0 in
+      let kept = filter_from _ (subsets (without n shares)) image.0 image.1.0 in
       rw image.1.1 (each image.0 (subset_part (without n shares) image.0 kept.0) (eqb-true _ k kept.1))
 
 module _ (M n : ℕ) (shares : List Share) (able : Keepable M n shares) where
@@ -71,20 +71,20 @@ module _ (M n : ℕ) (shares : List Share) (able : Keepable M n shares) where
         )))
         (λ less.
         subst (λ (y : ℕ). Memᴰ y (totals_keeping n shares (k + 1))) (sym whole)
-        (keeping_has n shares (k + 1) (keep (also kept.test i) (without n shares)) (keep_part (also kept.test i) (without n shares)) long))
+        (keeping_has n shares (k + 1) (filter (also kept.test i) (without n shares)) (filter_part (also kept.test i) (without n shares)) long))
       where
         task : Least M n shares able kept i
         task = steps.least M n shares able kept i (critical_total (take n line) + typical_share_at line i) fits (found inside low fits first)
 
-        long : length (keep (also kept.test i) (without n shares)) ≡ k + 1
+        long : length (filter (also kept.test i) (without n shares)) ≡ k + 1
         long = also_length kept.test i (without n shares) (rising M n shares able) task.low task.out ∙ ap (λ (j : ℕ). j + 1) kept.many
 
         whole : critical_total (take n line) + typical_share_at line i
-            ≡ critical_total (take n shares) + processors_for (typical_share_at shares) (keep (also kept.test i) (without n shares))
+            ≡ critical_total (take n shares) + processors_for (typical_share_at shares) (filter (also kept.test i) (without n shares))
         whole =
             omega (
               arith,
-              keep_also (typical_share_at shares) kept.test i (without n shares) (rising M n shares able) task.low task.out,
+              filter_also (typical_share_at shares) kept.test i (without n shares) (rising M n shares able) task.low task.out,
               line_typical M n shares able kept i,
               kept.sum,
             )

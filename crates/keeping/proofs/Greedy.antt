@@ -1,6 +1,7 @@
 -- Keeping the least shares first is right. The tasks are split by a share and a number: those up to it are in, those
 -- beyond it are out. Against any other set each task that is in alone takes no more than that share, and each that is
 -- out alone no less, so that the split comes no later in the order of the sets than any set that can be held.
+use Rattle.std.specs.Prelude.{filter}
 use Prim.Native.Nat.{ℕ, zero, suc, ◌+◌, ◌-◌, ◌≤◌, ◌<◌}
 use mathlib.Core.Path.{◌≡◌, refl, sym, ap, subst}
 use mathlib.Core.Logic.{◌⊎◌, inl, inr}
@@ -11,12 +12,12 @@ use native.Mathlib.Decide.{dec_le}
 use lib.Dec.{leb}
 use lib.ListN.{length}
 use borrow.Author.Tests.{leb-true, le-leb}
-use Rattle.basics.specs.Lists.{kept_if, keep}
-use Rattle.basics.proofs.Members.{keep-has, keep_from}
+use Rattle.basics.specs.Lists.{kept_if}
+use Rattle.basics.proofs.Members.{filter-has, filter_from}
 use Rattle.basics.specs.Order.{no_later}
 use Rattle.keeping.specs.Kept.{subsets, processors_for, holdable, kept_rank, set_found, first_held}
 use Rattle.basics.proofs.Order.{no_later_if, least_is}
-use Rattle.keeping.proofs.Parts.{Part, nothing, taken, left, part_subset, subset_part, part_length, part_member, keep_part, Rising}
+use Rattle.keeping.proofs.Parts.{Part, nothing, taken, left, part_subset, subset_part, part_length, part_member, filter_part, Rising}
 
 -- As many processors for each task.
 abbrev even : ℕ → ℕ → ℕ
@@ -45,25 +46,25 @@ module _ (share : ℕ → ℕ) (test : ℕ → Bool) where
 
   -- What the tasks that are in take, against those of another set.
   exchange : (width : ℕ) {numbers set : List ℕ} → Part numbers set → Between width numbers →
-      processors_for share (keep test numbers) + processors_for (even width) set
-      ≤ processors_for share set + processors_for (even width) (keep test numbers)
+      processors_for share (filter test numbers) + processors_for (even width) set
+      ≤ processors_for share set + processors_for (even width) (filter test numbers)
   exchange width nothing b = omega arith
   exchange width (taken {i} {numbers} {set} p) b = go (test i) refl (exchange width p (between_rest b))
     where
       go : (t : Bool) → test i ≡ t →
-          processors_for share (keep test numbers) + processors_for (even width) set
-          ≤ processors_for share set + processors_for (even width) (keep test numbers) →
-          processors_for share (kept_if t i (keep test numbers)) + processors_for (even width) (i ∷ set)
-          ≤ processors_for share (i ∷ set) + processors_for (even width) (kept_if t i (keep test numbers))
+          processors_for share (filter test numbers) + processors_for (even width) set
+          ≤ processors_for share set + processors_for (even width) (filter test numbers) →
+          processors_for share (kept_if t i (filter test numbers)) + processors_for (even width) (i ∷ set)
+          ≤ processors_for share (i ∷ set) + processors_for (even width) (kept_if t i (filter test numbers))
       go true e rest = omega arith
       go false e rest = let more = b.outside i (Memᴰ.head refl) e in omega arith
   exchange width (left {i} {numbers} {set} p) b = go (test i) refl (exchange width p (between_rest b))
     where
       go : (t : Bool) → test i ≡ t →
-          processors_for share (keep test numbers) + processors_for (even width) set
-          ≤ processors_for share set + processors_for (even width) (keep test numbers) →
-          processors_for share (kept_if t i (keep test numbers)) + processors_for (even width) set
-          ≤ processors_for share set + processors_for (even width) (kept_if t i (keep test numbers))
+          processors_for share (filter test numbers) + processors_for (even width) set
+          ≤ processors_for share set + processors_for (even width) (filter test numbers) →
+          processors_for share (kept_if t i (filter test numbers)) + processors_for (even width) set
+          ≤ processors_for share set + processors_for (even width) (kept_if t i (filter test numbers))
       go true e rest = let less = b.inside i (Memᴰ.head refl) e in omega arith
       go false e rest = rest
 
@@ -96,20 +97,20 @@ module _ (share : ℕ → ℕ) (test : ℕ → Bool) where
         }
 
     -- As many tasks take no fewer processors.
-    pub fewest : (set : List ℕ) → Part numbers set → length set ≡ length (keep test numbers) →
-        processors_for share (keep test numbers) ≤ processors_for share set
-    fewest set p same = omega (arith, exchange split.width p split_between, even_same split.width set (keep test numbers) same)
+    pub fewest : (set : List ℕ) → Part numbers set → length set ≡ length (filter test numbers) →
+        processors_for share (filter test numbers) ≤ processors_for share set
+    fewest set p same = omega (arith, exchange split.width p split_between, even_same split.width set (filter test numbers) same)
 
     -- Where each task that is out takes more than what is left, a larger set takes more than all.
     pub too_many : (rest : ℕ) → ((i : ℕ) → Memᴰ i numbers → test i ≡ false → rest < share i) →
-        (set : List ℕ) → Part numbers set → length (keep test numbers) < length set →
-        processors_for share (keep test numbers) + rest < processors_for share set
+        (set : List ℕ) → Part numbers set → length (filter test numbers) < length set →
+        processors_for share (filter test numbers) + rest < processors_for share set
     too_many rest none set p more = go (dec_le split.width rest)
       where
-        by : (width : ℕ) → rest < width → Between width numbers → processors_for share (keep test numbers) + rest < processors_for share set
-        by width past b = omega (arith, exchange width p b, even_more width (keep test numbers) set more)
+        by : (width : ℕ) → rest < width → Between width numbers → processors_for share (filter test numbers) + rest < processors_for share set
+        by width past b = omega (arith, exchange width p b, even_more width (filter test numbers) set more)
 
-        go : Dec (split.width ≤ rest) → processors_for share (keep test numbers) + rest < processors_for share set
+        go : Dec (split.width ≤ rest) → processors_for share (filter test numbers) + rest < processors_for share set
         go (yes h) =
             by (suc rest) (omega arith)
             (record { inside = λ i m e. omega (arith, split_between.inside i m e); outside = λ i m e. none i m e })
@@ -118,23 +119,23 @@ module _ (share : ℕ → ℕ) (test : ℕ → Bool) where
   -- With as many tasks and as many processors the list of the split comes first: at the first difference the task is
   -- in, since one that is out would take as much as the split's last, and all behind it that are in less.
   in_order : {numbers set : List ℕ} → Part numbers set → Rising numbers → Split numbers →
-      length set ≡ length (keep test numbers) → processors_for share set ≡ processors_for share (keep test numbers) →
-      no_later (keep test numbers) set ≡ true
+      length set ≡ length (filter test numbers) → processors_for share set ≡ processors_for share (filter test numbers) →
+      no_later (filter test numbers) set ≡ true
   in_order nothing rising split same total = refl
   in_order (taken {i} {numbers} {set} p) rising split same total =
       go (test i) refl same total (in_order p rising.1 (split_rest split refl))
     where
-      go : (t : Bool) → test i ≡ t → length (i ∷ set) ≡ length (kept_if t i (keep test numbers)) →
-          processors_for share (i ∷ set) ≡ processors_for share (kept_if t i (keep test numbers)) →
-          (length set ≡ length (keep test numbers) → processors_for share set ≡ processors_for share (keep test numbers) →
-          no_later (keep test numbers) set ≡ true) →
-          no_later (kept_if t i (keep test numbers)) (i ∷ set) ≡ true
-      go true e same' total' rest = no_later_if i i (keep test numbers) set (omega arith) (λ _. rest (omega arith) (omega arith))
+      go : (t : Bool) → test i ≡ t → length (i ∷ set) ≡ length (kept_if t i (filter test numbers)) →
+          processors_for share (i ∷ set) ≡ processors_for share (kept_if t i (filter test numbers)) →
+          (length set ≡ length (filter test numbers) → processors_for share set ≡ processors_for share (filter test numbers) →
+          no_later (filter test numbers) set ≡ true) →
+          no_later (kept_if t i (filter test numbers)) (i ∷ set) ≡ true
+      go true e same' total' rest = no_later_if i i (filter test numbers) set (omega arith) (λ _. rest (omega arith) (omega arith))
       go false e same' total' rest = absurd (impossible (split.outside i (Memᴰ.head refl) e))
         where
           -- The tasks behind i that are in.
           behind : List ℕ
-          behind = keep test numbers
+          behind = filter test numbers
 
           impossible : (split.width < share i) ⊎ ((share i ≡ split.width) × (split.last < i)) → ⊥
           impossible (inl more) =
@@ -154,12 +155,12 @@ module _ (share : ℕ → ℕ) (test : ℕ → Bool) where
                   either (inr (_, h)) = absurd (omega (arith, rising.0 j m))
 
               by_width : (w : ℕ) → split.width ≡ w → ⊥
-              by_width zero none = first (keep test numbers) refl
+              by_width zero none = first (filter test numbers) refl
                 where
-                  first : (l : List ℕ) → keep test numbers ≡ l → ⊥
+                  first : (l : List ℕ) → filter test numbers ≡ l → ⊥
                   first [] q = omega (arith, same', ap length q)
                   first (j ∷ l) q =
-                      let found = keep_from test numbers j (subst (Memᴰ j) (sym q) (Memᴰ.head refl)) in
+                      let found = filter_from test numbers j (subst (Memᴰ j) (sym q) (Memᴰ.head refl)) in
                       omega (arith, less j found.0 found.1)
               by_width (suc w) some =
                   omega (
@@ -181,51 +182,51 @@ module _ (share : ℕ → ℕ) (test : ℕ → Bool) where
           let more = above j (Memᴰ.head refl) in
           no_later_if i j rest s (omega arith) (λ equal. absurd (omega arith))
 
-      go : (t : Bool) → test i ≡ t → length set ≡ length (kept_if t i (keep test numbers)) →
-          processors_for share set ≡ processors_for share (kept_if t i (keep test numbers)) →
-          (length set ≡ length (keep test numbers) → processors_for share set ≡ processors_for share (keep test numbers) →
-          no_later (keep test numbers) set ≡ true) →
-          no_later (kept_if t i (keep test numbers)) set ≡ true
-      go true e same' total' rest = ahead set (λ j m. rising.0 j (part_member p j m)) (keep test numbers) same'
+      go : (t : Bool) → test i ≡ t → length set ≡ length (kept_if t i (filter test numbers)) →
+          processors_for share set ≡ processors_for share (kept_if t i (filter test numbers)) →
+          (length set ≡ length (filter test numbers) → processors_for share set ≡ processors_for share (filter test numbers) →
+          no_later (filter test numbers) set ≡ true) →
+          no_later (kept_if t i (filter test numbers)) set ≡ true
+      go true e same' total' rest = ahead set (λ j m. rising.0 j (part_member p j m)) (filter test numbers) same'
       go false e same' total' rest = rest same' total'
 
   -- So it is the first of the sets that can be held.
   module _ (numbers : List ℕ) (rising : Rising numbers) (split : Split numbers) (room rest : ℕ)
-      (sum : processors_for share (keep test numbers) + rest ≡ room)
+      (sum : processors_for share (filter test numbers) + rest ≡ room)
       (full : (i : ℕ) → Memᴰ i numbers → test i ≡ false → rest < share i) where
-    split_held : Memᴰ (keep test numbers) (holdable share room numbers)
+    split_held : Memᴰ (filter test numbers) (holdable share room numbers)
     unfolding holdable
     split_held =
-        keep-has _ (subsets numbers) (keep test numbers) (part_subset (keep_part test numbers))
-        (le-leb (processors_for share (keep test numbers)) room (omega arith))
+        filter-has _ (subsets numbers) (filter test numbers) (part_subset (filter_part test numbers))
+        (le-leb (processors_for share (filter test numbers)) room (omega arith))
 
     split_first : (set : List ℕ) → Memᴰ set (holdable share room numbers) →
-        no_later (kept_rank share numbers (keep test numbers)) (kept_rank share numbers set) ≡ true
+        no_later (kept_rank share numbers (filter test numbers)) (kept_rank share numbers set) ≡ true
     unfolding holdable
     split_first set m =
-        no_later_if (length numbers - length (keep test numbers)) (length numbers - length set)
-        (processors_for share (keep test numbers) ∷ keep test numbers) (processors_for share set ∷ set) (omega (arith, as_many))
+        no_later_if (length numbers - length (filter test numbers)) (length numbers - length set)
+        (processors_for share (filter test numbers) ∷ filter test numbers) (processors_for share set ∷ set) (omega (arith, as_many))
         (λ equal.
-        let same : length set ≡ length (keep test numbers) = omega (arith, equal, as_many, part_length part, part_length (keep_part test numbers)) in
-        no_later_if (processors_for share (keep test numbers)) (processors_for share set) (keep test numbers) set (fewest split set part same)
+        let same : length set ≡ length (filter test numbers) = omega (arith, equal, as_many, part_length part, part_length (filter_part test numbers)) in
+        no_later_if (processors_for share (filter test numbers)) (processors_for share set) (filter test numbers) set (fewest split set part same)
         (λ total. in_order part rising split same (sym total)))
       where
         found : Memᴰ set (subsets numbers) × (leb (processors_for share set) room ≡ true)
-        found = keep_from _ (subsets numbers) set m
+        found = filter_from _ (subsets numbers) set m
 
         part : Part numbers set
         part = subset_part numbers set found.0
 
-        as_many : length set ≤ length (keep test numbers)
-        as_many = go (dec_le (length set) (length (keep test numbers)))
+        as_many : length set ≤ length (filter test numbers)
+        as_many = go (dec_le (length set) (length (filter test numbers)))
           where
-            go : Dec (length set ≤ length (keep test numbers)) → length set ≤ length (keep test numbers)
+            go : Dec (length set ≤ length (filter test numbers)) → length set ≤ length (filter test numbers)
             go (yes h) = h
             go (no h) =
                 absurd (omega (arith, too_many split rest full set part (omega arith), leb-true (processors_for share set) room found.1))
 
-    pub first_held_lem : first_held share room numbers ≡ keep test numbers
+    pub first_held_lem : first_held share room numbers ≡ filter test numbers
     unfolding first_held
     first_held_lem =
         ap set_found
-        (least_is (kept_rank share numbers) (λ c d e. cc) (holdable share room numbers) (keep test numbers) split_held split_first)
+        (least_is (kept_rank share numbers) (λ c d e. cc) (holdable share room numbers) (filter test numbers) split_held split_first)

@@ -6,7 +6,7 @@ use mathlib.Core.Logic.{◌⊎◌, inl, inr}
 use mathlib.Core.Bool.{Bool, true, false, cond}
 use mathlib.Core.List.Memᴰ
 use mathlib.Core.List.{List, [], ◌∷◌, map, Memᴰ}
-use mathlib.Core.Option.{Option, none, some}
+use Rattle.std.specs.Prelude.{Option, None, Some}
 use native.Mathlib.Omega.{arith}
 use native.Mathlib.Decide.{dec_lt}
 use lib.ListN.{length, get_or, take, length-map, get_or-eq_default}
@@ -15,7 +15,7 @@ use borrow.Author.Tests.{leb-true, le-leb}
 use Rattle.basics.specs.Lists.{range, is_in}
 use Rattle.basics.proofs.Logic.{bool_ext}
 use Rattle.basics.proofs.Lists.{length-range}
-use Rattle.basics.proofs.Members.{range-has, range-within, keep-has, keep_from}
+use Rattle.basics.proofs.Members.{range-has, range-within, filter-has, filter_from}
 use Rattle.sheet.specs.declared.task.Task.{Task}
 use Rattle.sheet.specs.Format.{missing_task}
 use Rattle.sheet.specs.Level.{is_low}
@@ -26,13 +26,13 @@ use Rattle.basics.specs.Order.{no_later, least_by}
 use Rattle.keeping.specs.Kept.{low_numbers, subsets, processors_for, holdable, kept_rank, set_found, first_held, typical_share_at, left_over, kept_tasks, kept_share, with_kept}
 use Rattle.keeping.specs.KeptSet.{LowSet, HeldSet, BestKept, KeptShares}
 use Rattle.basics.proofs.Order.{no_later_then, least_member, least_first, least_none}
-use Rattle.keeping.proofs.Parts.{Part, nothing, taken, left, part_subset, subset_part, part_length, part_member, part_rising, keep_part, Rising, range_rising, rising_part, neighbours_rising, rising_neighbours, is_in_lem, in_is}
+use Rattle.keeping.proofs.Parts.{Part, nothing, taken, left, part_subset, subset_part, part_length, part_member, part_rising, filter_part, Rising, range_rising, rising_part, neighbours_rising, rising_neighbours, is_in_lem, in_is}
 
 -- The first of the sets that can be held is one of them, and comes no later than any.
 module _ (share : ℕ → ℕ) (room : ℕ) (numbers : List ℕ) where
   none_held_lem : Memᴰ [] (holdable share room numbers)
   unfolding holdable
-  none_held_lem = keep-has _ (subsets numbers) [] (empty numbers) (le-leb 0 room (omega arith))
+  none_held_lem = filter-has _ (subsets numbers) [] (empty numbers) (le-leb 0 room (omega arith))
     where
       empty : (l : List ℕ) → Memᴰ [] (subsets l)
       empty l = part_subset (skip l)
@@ -51,10 +51,10 @@ module _ (share : ℕ → ℕ) (room : ℕ) (numbers : List ℕ) where
           Memᴰ (set_found o) (holdable share room numbers)
           × ((set : List ℕ) → Memᴰ set (holdable share room numbers) →
           no_later (kept_rank share numbers (set_found o)) (kept_rank share numbers set) ≡ true)
-      go none e =
+      go None e =
           absurd (Memᴰ.not-nil
           (subst (Memᴰ []) (least_none (kept_rank share numbers) (holdable share room numbers) e) none_held_lem))
-      go (some set) e = (
+      go (Some set) e = (
         least_member (kept_rank share numbers) (holdable share room numbers) set e,
         λ other m. least_first (kept_rank share numbers) (holdable share room numbers) set other e m,
       )
@@ -62,12 +62,12 @@ module _ (share : ℕ → ℕ) (room : ℕ) (numbers : List ℕ) where
   holdable_from : (set : List ℕ) → Memᴰ set (holdable share room numbers) → Part numbers set × (processors_for share set ≤ room)
   unfolding holdable
   holdable_from set m =
-      let found = keep_from _ (subsets numbers) set m in
+      let found = filter_from _ (subsets numbers) set m in
       (subset_part numbers set found.0, leb-true (processors_for share set) room found.1)
 
   holdable-has : (set : List ℕ) → Part numbers set → processors_for share set ≤ room → Memᴰ set (holdable share room numbers)
   unfolding holdable
-  holdable-has set p few = keep-has _ (subsets numbers) set (part_subset p) (le-leb (processors_for share set) room few)
+  holdable-has set p few = filter-has _ (subsets numbers) set (part_subset p) (le-leb (processors_for share set) room few)
 
   pub first_part : Part numbers (first_held share room numbers)
   first_part = (holdable_from (first_held share room numbers) found_held.0).0
@@ -128,17 +128,17 @@ module _ (share : ℕ → ℕ) (room : ℕ) (numbers : List ℕ) where
 module _ (tasks : List Task) where
   pub low_rising : Rising (low_numbers tasks)
   unfolding low_numbers
-  low_rising = part_rising (keep_part _ (range 0 (length tasks))) (range_rising 0 (length tasks))
+  low_rising = part_rising (filter_part _ (range 0 (length tasks))) (range_rising 0 (length tasks))
 
   pub low_known : (i : ℕ) → Memᴰ i (low_numbers tasks) → (i < length tasks) × (is_low (get_or tasks i missing_task).level ≡ true)
   unfolding low_numbers
   low_known i m =
-      let found = keep_from _ (range 0 (length tasks)) i m in
+      let found = filter_from _ (range 0 (length tasks)) i m in
       (omega (arith, (range-within 0 (length tasks) i found.0).1), found.1)
 
   low_has : (i : ℕ) → i < length tasks → is_low (get_or tasks i missing_task).level ≡ true → Memᴰ i (low_numbers tasks)
   unfolding low_numbers
-  low_has i inside low = keep-has _ (range 0 (length tasks)) i (range-has 0 (length tasks) i (omega arith) (omega arith)) low
+  low_has i inside low = filter-has _ (range 0 (length tasks)) i (range-has 0 (length tasks) i (omega arith) (omega arith)) low
 
   part_low : (set : List ℕ) → Part (low_numbers tasks) set → LowSet tasks set
   part_low set p =

@@ -1,5 +1,6 @@
 -- Sets of numbers as parts of a list: each number of the list is in or not. Every set that is enumerated is a part and
 -- every part is enumerated; a rising list of members of a rising list is a part; what a test keeps is one.
+use Rattle.std.specs.Prelude.{filter}
 use Prim.Native.Nat.{ℕ, zero, suc, ◌+◌, ◌≤◌, ◌<◌}
 use mathlib.Core.Path.{◌≡◌, refl, sym, ◌∙◌, subst}
 use mathlib.Core.Logic.{◌⊎◌, inl, inr}
@@ -10,7 +11,7 @@ use native.Mathlib.Omega.{arith}
 use lib.Dec.{eqb}
 use lib.ListN.{length, get_or}
 use borrow.Author.Tests.{eqb-true, eq-eqb}
-use Rattle.basics.specs.Lists.{range, kept_if, keep, is_in}
+use Rattle.basics.specs.Lists.{range, kept_if, is_in}
 use Rattle.basics.proofs.Members.{map-has, map_from, range-within}
 use Rattle.keeping.specs.Kept.{subsets}
 
@@ -52,11 +53,11 @@ part_member (taken {i = j} {numbers} {set} p) i m = go (part_member p i) (Memᴰ
 part_member (left p) i m = Memᴰ.tail (part_member p i m)
 
 -- What a test keeps is a part.
-pub keep_part : (test : ℕ → Bool) (numbers : List ℕ) → Part numbers (keep test numbers)
-keep_part test [] = nothing
-keep_part test (i ∷ numbers) = go (test i) (keep_part test numbers)
+pub filter_part : (test : ℕ → Bool) (numbers : List ℕ) → Part numbers (filter test numbers)
+filter_part test [] = nothing
+filter_part test (i ∷ numbers) = go (test i) (filter_part test numbers)
   where
-    go : (t : Bool) → Part numbers (keep test numbers) → Part (i ∷ numbers) (kept_if t i (keep test numbers))
+    go : (t : Bool) → Part numbers (filter test numbers) → Part (i ∷ numbers) (kept_if t i (filter test numbers))
     go true p = taken p
     go false p = left p
 

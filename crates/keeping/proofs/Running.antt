@@ -9,7 +9,7 @@ use lib.ListN.{length, set, take}
 use borrow.Author.Tests.{eqb-true, eq-eqb}
 use Rattle.basics.specs.Lists.{range}
 use Rattle.basics.specs.Order.{least, capped_at}
-use Rattle.basics.proofs.Members.{map-has, map_from, range-has, range-within, keep-has, keep_from}
+use Rattle.basics.proofs.Members.{map-has, map_from, range-has, range-within, filter-has, filter_from}
 use Rattle.basics.proofs.Order.{capped_is}
 use Rattle.shares.specs.declared.share.Share.{Share}
 use Rattle.shares.specs.Totals.{share_at, critical_total}
@@ -31,13 +31,13 @@ module _ (n : ℕ) (shares : List Share) where
   pub low_from : (i : ℕ) → Memᴰ i (without n shares) → (i < n) × (critical_share_at shares i ≡ 0)
   unfolding without
   low_from i m =
-      let here = keep_from _ (range 0 n) i m in
+      let here = filter_from _ (range 0 n) i m in
       (omega (arith, (range-within 0 n i here.0).1), eqb-true (critical_share_at shares i) 0 here.1)
 
   pub low_has : (i : ℕ) → i < n → critical_share_at shares i ≡ 0 → Memᴰ i (without n shares)
   unfolding without
   low_has i inside zero-share =
-      keep-has _ (range 0 n) i (range-has 0 n i (omega arith) (omega arith)) (eq-eqb (critical_share_at shares i) 0 zero-share)
+      filter-has _ (range 0 n) i (range-has 0 n i (omega arith) (omega arith)) (eq-eqb (critical_share_at shares i) 0 zero-share)
 
   -- S5.7: the total with one task more kept.
   pub one_more_kept : n ≤ length shares → (i : ℕ) → i < n → critical_share_at shares i ≡ 0 →

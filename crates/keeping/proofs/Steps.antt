@@ -1,5 +1,6 @@
 -- The least shares are kept first, one task after the other: what is kept after each step is a split of the tasks
 -- without a critical share, and where no more can be kept it is the first of the sets that can be held.
+use Rattle.std.specs.Prelude.{filter}
 use Prim.Native.Nat.{ℕ, ◌+◌, ◌-◌, ◌≤◌, ◌<◌}
 use mathlib.Core.Path.{◌≡◌, refl, sym, ap, ◌∙◌}
 use mathlib.Core.Logic.{◌⊎◌, inl, inr}
@@ -12,16 +13,16 @@ use lib.Dec.{eqb}
 use lib.ListN.{length, get_or, set, take, length-set}
 use lib.Seq.{ext_get_or, get_or-set_same, get_or-set_other}
 use borrow.Author.Tests.{eq-eqb, ne_eqb}
-use Rattle.basics.specs.Lists.{range, kept_if, keep, is_in}
+use Rattle.basics.specs.Lists.{range, kept_if, is_in}
 use Rattle.basics.proofs.Logic.{bool_ext}
-use Rattle.basics.proofs.Lists.{keep_agree, keep_none}
-use Rattle.basics.proofs.Members.{keep-has, keep_from}
+use Rattle.basics.proofs.Lists.{filter_agree, filter_none}
+use Rattle.basics.proofs.Members.{filter-has, filter_from}
 use Rattle.shares.specs.declared.share.Share.{Share}
 use Rattle.shares.specs.Totals.{no_processors, share_at, critical_total}
 use Rattle.keeping.specs.Kept.{processors_for, typical_share_at, left_over, kept_share, with_kept}
 use Rattle.keeping.specs.Running.{critical_share_at, without, total_with_task}
 use Rattle.keeping.specs.means.Keeping.{kept_line, NotAfter, Next, none, found, Keepable}
-use Rattle.keeping.proofs.Parts.{part_rising, keep_part, Rising, range_rising, is_in_lem, in_is}
+use Rattle.keeping.proofs.Parts.{part_rising, filter_part, Rising, range_rising, is_in_lem, in_is}
 use Rattle.keeping.proofs.Greedy.{Split, first_held_lem}
 use Rattle.keeping.proofs.Laws.{with_length, with_share_lem, with_typical}
 use Rattle.keeping.proofs.Running.{low_from, low_has, one_more_kept}
@@ -45,29 +46,29 @@ also_new test x = ap (λ (t : Bool). test x || t) (eq-eqb x x refl) ∙ go (test
     go false = refl
 
 -- What it takes is added.
-pub keep_also : (share : ℕ → ℕ) (test : ℕ → Bool) (x : ℕ) (numbers : List ℕ) → Rising numbers → Memᴰ x numbers → test x ≡ false →
-    processors_for share (keep (also test x) numbers) ≡ share x + processors_for share (keep test numbers)
-keep_also share test x [] rising m out = absurd (Memᴰ.not-nil m)
-keep_also share test x (i ∷ numbers) rising m out = go (keep_also share test x numbers rising.1) (Memᴰ.cases_cons m)
+pub filter_also : (share : ℕ → ℕ) (test : ℕ → Bool) (x : ℕ) (numbers : List ℕ) → Rising numbers → Memᴰ x numbers → test x ≡ false →
+    processors_for share (filter (also test x) numbers) ≡ share x + processors_for share (filter test numbers)
+filter_also share test x [] rising m out = absurd (Memᴰ.not-nil m)
+filter_also share test x (i ∷ numbers) rising m out = go (filter_also share test x numbers rising.1) (Memᴰ.cases_cons m)
   where
     -- Behind x nothing changes.
-    same : (l : List ℕ) → ((j : ℕ) → Memᴰ j l → x < j) → keep (also test x) l ≡ keep test l
-    same l above = keep_agree (also test x) test l (λ j n. also_old test x j (λ e. let more = above j n in omega arith))
+    same : (l : List ℕ) → ((j : ℕ) → Memᴰ j l → x < j) → filter (also test x) l ≡ filter test l
+    same l above = filter_agree (also test x) test l (λ j n. also_old test x j (λ e. let more = above j n in omega arith))
 
     kept : (t : Bool) (l : List ℕ) → processors_for share (kept_if t i l) ≡ cond t (share i) 0 + processors_for share l
     kept true l = refl
     kept false l = omega arith
 
     go : (Memᴰ x numbers → test x ≡ false →
-        processors_for share (keep (also test x) numbers) ≡ share x + processors_for share (keep test numbers)) →
+        processors_for share (filter (also test x) numbers) ≡ share x + processors_for share (filter test numbers)) →
         (x ≡ i) ⊎ Memᴰ x numbers →
-        processors_for share (keep (also test x) (i ∷ numbers)) ≡ share x + processors_for share (keep test (i ∷ numbers))
+        processors_for share (filter (also test x) (i ∷ numbers)) ≡ share x + processors_for share (filter test (i ∷ numbers))
     go rest (inl here) =
         omega (
           arith,
-          kept (also test x i) (keep (also test x) numbers),
+          kept (also test x i) (filter (also test x) numbers),
           ap {B = ℕ} (λ (t : Bool). cond t (share i) 0) (ap (also test x) (sym here) ∙ also_new test x),
-          kept (test i) (keep test numbers),
+          kept (test i) (filter test numbers),
           ap {B = ℕ} (λ (t : Bool). cond t (share i) 0) (ap test (sym here) ∙ out),
           ap (processors_for share) (same numbers (λ j n. omega (arith, rising.0 j n, here))),
           ap share here,
@@ -75,9 +76,9 @@ keep_also share test x (i ∷ numbers) rising m out = go (keep_also share test x
     go rest (inr later) =
         omega (
           arith,
-          kept (also test x i) (keep (also test x) numbers),
+          kept (also test x i) (filter (also test x) numbers),
           ap {B = ℕ} (λ (t : Bool). cond t (share i) 0) (also_old test x i (λ e. let more = rising.0 x later in omega arith)),
-          kept (test i) (keep test numbers),
+          kept (test i) (filter test numbers),
           rest later out,
         )
 
@@ -87,9 +88,9 @@ ones [] = refl
 ones (i ∷ l) = omega (arith, ones l)
 
 pub also_length : (test : ℕ → Bool) (x : ℕ) (numbers : List ℕ) → Rising numbers → Memᴰ x numbers → test x ≡ false →
-    length (keep (also test x) numbers) ≡ length (keep test numbers) + 1
+    length (filter (also test x) numbers) ≡ length (filter test numbers) + 1
 also_length test x numbers rising m out =
-    omega (arith, keep_also (λ i. 1) test x numbers rising m out, ones (keep (also test x) numbers), ones (keep test numbers))
+    omega (arith, filter_also (λ i. 1) test x numbers rising m out, ones (filter (also test x) numbers), ones (filter test numbers))
 
 -- Two lines of shares that agree are one.
 lines_same : (a b : List Share) → length a ≡ length b → ((i : ℕ) → share_at a i ≡ share_at b i) → a ≡ b
@@ -111,16 +112,16 @@ line_set line x s inside i = go (ℕ_discrete i x)
 -- takes, whose critical total is within M.
 pub record KeptSoFar (M n : ℕ) (shares : List Share) (k : ℕ) (line : List Share) : Type 0 where
   pub test : ℕ → Bool
-  pub many : length (keep test (without n shares)) ≡ k
-  pub line_is : line ≡ with_kept (keep test (without n shares)) shares
-  pub sum : critical_total (take n line) ≡ critical_total (take n shares) + processors_for (typical_share_at shares) (keep test (without n shares))
+  pub many : length (filter test (without n shares)) ≡ k
+  pub line_is : line ≡ with_kept (filter test (without n shares)) shares
+  pub sum : critical_total (take n line) ≡ critical_total (take n shares) + processors_for (typical_share_at shares) (filter test (without n shares))
   pub fits : critical_total (take n line) ≤ M
   pub split : Split (typical_share_at shares) test (without n shares)
 
 module _ (M n : ℕ) (shares : List Share) (able : Keepable M n shares) where
   pub rising : Rising (without n shares)
   unfolding without
-  rising = part_rising (keep_part _ (range 0 n)) (range_rising 0 n)
+  rising = part_rising (filter_part _ (range 0 n)) (range_rising 0 n)
 
   -- At first nothing is.
   pub kept_none : KeptSoFar M n shares 0 shares
@@ -140,29 +141,29 @@ module _ (M n : ℕ) (shares : List Share) (able : Keepable M n shares) where
             };
       }
     where
-      empty : keep (λ i. false) (without n shares) ≡ []
-      empty = keep_none (λ i. false) (without n shares) (λ i m. refl)
+      empty : filter (λ i. false) (without n shares) ≡ []
+      empty = filter_none (λ i. false) (without n shares) (λ i m. refl)
 
   module _ {k : ℕ} {line : List Share} (kept : KeptSoFar M n shares k line) where
-    line_share : (i : ℕ) → share_at line i ≡ cond (is_in i (keep kept.test (without n shares))) (kept_share (share_at shares i)) (share_at shares i)
-    line_share i = ap (λ (l : List Share). share_at l i) kept.line_is ∙ with_share_lem (keep kept.test (without n shares)) shares i
+    line_share : (i : ℕ) → share_at line i ≡ cond (is_in i (filter kept.test (without n shares))) (kept_share (share_at shares i)) (share_at shares i)
+    line_share i = ap (λ (l : List Share). share_at l i) kept.line_is ∙ with_share_lem (filter kept.test (without n shares)) shares i
 
     pub line_typical : (i : ℕ) → typical_share_at line i ≡ typical_share_at shares i
     unfolding typical_share_at
     line_typical i =
-        ap (λ (l : List Share). (share_at l i).typical) kept.line_is ∙ with_typical (keep kept.test (without n shares)) shares i
+        ap (λ (l : List Share). (share_at l i).typical) kept.line_is ∙ with_typical (filter kept.test (without n shares)) shares i
 
     -- A task without a critical share on the line is one of the tasks, and is not kept.
     free_from : (i : ℕ) → i < n → critical_share_at line i ≡ 0 → Memᴰ i (without n shares) × (kept.test i ≡ false)
     unfolding critical_share_at typical_share_at kept_share
     free_from i inside zero-share =
-        go (is_in i (keep kept.test (without n shares))) refl (sym (ap (λ (s : Share). s.critical) (line_share i)) ∙ zero-share)
+        go (is_in i (filter kept.test (without n shares))) refl (sym (ap (λ (s : Share). s.critical) (line_share i)) ∙ zero-share)
       where
-        out : Memᴰ i (without n shares) → is_in i (keep kept.test (without n shares)) ≡ false → (t : Bool) → kept.test i ≡ t → t ≡ false
+        out : Memᴰ i (without n shares) → is_in i (filter kept.test (without n shares)) ≡ false → (t : Bool) → kept.test i ≡ t → t ≡ false
         out m e false q = refl
-        out m e true q = absurd (false≢true (sym e ∙ in_is i _ (keep-has kept.test (without n shares) i m q)))
+        out m e true q = absurd (false≢true (sym e ∙ in_is i _ (filter-has kept.test (without n shares) i m q)))
 
-        go : (t : Bool) → is_in i (keep kept.test (without n shares)) ≡ t →
+        go : (t : Bool) → is_in i (filter kept.test (without n shares)) ≡ t →
             (cond t (kept_share (share_at shares i)) (share_at shares i)).critical ≡ 0 →
             Memᴰ i (without n shares) × (kept.test i ≡ false)
         go true e h = absurd (let one = able.some_share i inside in omega arith)
@@ -172,12 +173,12 @@ module _ (M n : ℕ) (shares : List Share) (able : Keepable M n shares) where
     unfolding critical_share_at
     free_has i m out =
         ap (λ (s : Share). s.critical) (line_share i)
-        ∙ ap {B = ℕ} (λ (t : Bool). (cond t (kept_share (share_at shares i)) (share_at shares i)).critical) (not_in (is_in i (keep kept.test (without n shares))) refl)
+        ∙ ap {B = ℕ} (λ (t : Bool). (cond t (kept_share (share_at shares i)) (share_at shares i)).critical) (not_in (is_in i (filter kept.test (without n shares))) refl)
         ∙ (low_from n shares i m).1
       where
-        not_in : (t : Bool) → is_in i (keep kept.test (without n shares)) ≡ t → t ≡ false
+        not_in : (t : Bool) → is_in i (filter kept.test (without n shares)) ≡ t → t ≡ false
         not_in false e = refl
-        not_in true e = absurd (false≢true (sym out ∙ (keep_from kept.test (without n shares) i (is_in_lem i _ e)).1))
+        not_in true e = absurd (false≢true (sym out ∙ (filter_from kept.test (without n shares) i (is_in_lem i _ e)).1))
 
     -- No more can be kept.
     pub kept_all : (x total : ℕ) → M < total → Next M n line x total → line ≡ kept_line M n shares
@@ -262,29 +263,29 @@ module _ (M n : ℕ) (shares : List Share) (able : Keepable M n shares) where
                       neq (no k) = absurd (other (omega arith))
 
       -- A task is kept now if it was before, or is this one.
-      now_in : is_in x (keep (also kept.test x) (without n shares)) ≡ true
-      now_in = in_is x _ (keep-has (also kept.test x) (without n shares) x task.low (also_new kept.test x))
+      now_in : is_in x (filter (also kept.test x) (without n shares)) ≡ true
+      now_in = in_is x _ (filter-has (also kept.test x) (without n shares) x task.low (also_new kept.test x))
 
-      not_before : is_in x (keep kept.test (without n shares)) ≡ false
-      not_before = go (is_in x (keep kept.test (without n shares))) refl
+      not_before : is_in x (filter kept.test (without n shares)) ≡ false
+      not_before = go (is_in x (filter kept.test (without n shares))) refl
         where
-          go : (t : Bool) → is_in x (keep kept.test (without n shares)) ≡ t → t ≡ false
+          go : (t : Bool) → is_in x (filter kept.test (without n shares)) ≡ t → t ≡ false
           go false e = refl
-          go true e = absurd (false≢true (sym task.out ∙ (keep_from kept.test (without n shares) x (is_in_lem x _ e)).1))
+          go true e = absurd (false≢true (sym task.out ∙ (filter_from kept.test (without n shares) x (is_in_lem x _ e)).1))
 
       others_as_before : (i : ℕ) → (i ≡ x → ⊥) →
-          is_in i (keep (also kept.test x) (without n shares)) ≡ is_in i (keep kept.test (without n shares))
+          is_in i (filter (also kept.test x) (without n shares)) ≡ is_in i (filter kept.test (without n shares))
       others_as_before i other =
           bool_ext _ _
           (λ e.
-          let here = keep_from (also kept.test x) (without n shares) i (is_in_lem i _ e) in
-          in_is i _ (keep-has kept.test (without n shares) i here.0 (sym (also_old kept.test x i other) ∙ here.1)))
+          let here = filter_from (also kept.test x) (without n shares) i (is_in_lem i _ e) in
+          in_is i _ (filter-has kept.test (without n shares) i here.0 (sym (also_old kept.test x i other) ∙ here.1)))
           (λ e.
-          let here = keep_from kept.test (without n shares) i (is_in_lem i _ e) in
-          in_is i _ (keep-has (also kept.test x) (without n shares) i here.0 (also_old kept.test x i other ∙ here.1)))
+          let here = filter_from kept.test (without n shares) i (is_in_lem i _ e) in
+          in_is i _ (filter-has (also kept.test x) (without n shares) i here.0 (also_old kept.test x i other ∙ here.1)))
 
       line_more : set line x (record { typical = typical_share_at line x; critical = typical_share_at line x })
-          ≡ with_kept (keep (also kept.test x) (without n shares)) shares
+          ≡ with_kept (filter (also kept.test x) (without n shares)) shares
       unfolding kept_share typical_share_at
       line_more =
           lines_same _ _
@@ -296,13 +297,13 @@ module _ (M n : ℕ) (shares : List Share) (able : Keepable M n shares) where
               ≡ record { typical = (share_at line x).typical; critical = (share_at line x).typical }))
               ⊎ ((i ≡ x → ⊥) × (share_at (set line x (record { typical = (share_at line x).typical; critical = (share_at line x).typical })) i ≡ share_at line i)) →
               share_at (set line x (record { typical = (share_at line x).typical; critical = (share_at line x).typical })) i
-              ≡ share_at (with_kept (keep (also kept.test x) (without n shares)) shares) i
+              ≡ share_at (with_kept (filter (also kept.test x) (without n shares)) shares) i
           go i (inl (same, e)) =
               e
               ∙ ap kept_share (line_share x ∙ ap (λ (t : Bool). cond t (kept_share (share_at shares x)) (share_at shares x)) not_before)
               ∙ ap (λ (t : Bool). cond t (kept_share (share_at shares x)) (share_at shares x)) (sym now_in)
               ∙ sym (with_share_lem _ shares x)
-              ∙ ap (share_at (with_kept (keep (also kept.test x) (without n shares)) shares)) (sym same)
+              ∙ ap (share_at (with_kept (filter (also kept.test x) (without n shares)) shares)) (sym same)
           go i (inr (other, e)) =
               e
               ∙ line_share i
@@ -324,7 +325,7 @@ module _ (M n : ℕ) (shares : List Share) (able : Keepable M n shares) where
                 omega (
                   arith,
                   grown,
-                  keep_also (typical_share_at shares) kept.test x (without n shares) rising task.low task.out,
+                  filter_also (typical_share_at shares) kept.test x (without n shares) rising task.low task.out,
                   line_typical x,
                   kept.sum,
                 );

@@ -1,18 +1,17 @@
 -- S5.6 by enumeration: the low tasks that are kept in the critical mode, on the processors that the high tasks leave
 -- over.
-use Rattle.std.specs.Prelude.{ℕ, ◌+◌, ◌-◌, cond, List, [], ◌∷◌, ◌++◌, map, leb, length, get_or}
-use Rattle.std.proofs.Math.Option.{Option, none, some}
+use Rattle.std.specs.Prelude.{ℕ, ◌+◌, ◌-◌, cond, List, [], ◌∷◌, ◌++◌, map, leb, length, get_or, Option, None, Some, filter}
 use Rattle.sheet.specs.declared.task.Task.{Task}
 use Rattle.sheet.specs.Format.{missing_task}
 use Rattle.sheet.specs.Level.{is_low}
-use Rattle.basics.specs.Lists.{range, keep, is_in}
+use Rattle.basics.specs.Lists.{range, is_in}
 use Rattle.shares.specs.declared.share.Share.{Share}
 use Rattle.shares.specs.Totals.{share_at, critical_total}
 use Rattle.basics.specs.Order.{least_by}
 
 -- The numbers of the low tasks, rising.
 unfoldable pub low_numbers : List Task → List ℕ
-low_numbers tasks = keep (λ i. is_low (get_or tasks i missing_task).level) (range 0 (length tasks))
+low_numbers tasks = filter (λ i. is_low (get_or tasks i missing_task).level) (range 0 (length tasks))
 
 -- Every set of these numbers, as a rising list.
 abbrev pub subsets : List ℕ → List (List ℕ)
@@ -26,7 +25,7 @@ processors_for share (i ∷ set) = share i + processors_for share set
 
 -- S5.6: the sets of these tasks that so many processors can hold.
 unfoldable pub holdable : (ℕ → ℕ) → ℕ → List ℕ → List (List ℕ)
-holdable share left numbers = keep (λ set. leb (processors_for share set) left) (subsets numbers)
+holdable share left numbers = filter (λ set. leb (processors_for share set) left) (subsets numbers)
 
 -- S5.6: the numbers that the order of the sets goes by, the weightiest first: how many tasks the set leaves out, so
 -- that the most tasks come first; its processors; and its list of task numbers.
@@ -35,8 +34,8 @@ kept_rank share numbers set = (length numbers - length set) ∷ processors_for s
 
 -- A set that was found; no task where none was.
 abbrev pub set_found : Option (List ℕ) → List ℕ
-set_found none = []
-set_found (some set) = set
+set_found None = []
+set_found (Some set) = set
 
 -- S5.6: the first of the sets that so many processors can hold.
 unfoldable pub first_held : (ℕ → ℕ) → ℕ → List ℕ → List ℕ

@@ -9,8 +9,8 @@ use native.Mathlib.Omega.{arith}
 use native.Mathlib.Decide.{dec_lt}
 use lib.ListN.{length, get_or, take, length-take}
 use lib.Seq.{get_or-take}
-use Rattle.basics.specs.Lists.{keep}
-use Rattle.basics.proofs.Members.{map-has, keep-has, get_or-has, greatest-has}
+use Rattle.std.specs.Prelude.{filter}
+use Rattle.basics.proofs.Members.{map-has, filter-has, get_or-has, greatest-has}
 use Rattle.sheet.specs.declared.task.Budget.{Budget}
 use Rattle.sheet.specs.declared.task.Task.{Task}
 use Rattle.sheet.specs.declared.task.TaskSet.{TaskSet}
@@ -95,8 +95,8 @@ module _ (ts : TaskSet) (shares : List Share) (planned : Planned ts shares) wher
   unfolding longest_deadline task_in
   longest_at i h high =
       greatest-has _ _
-      (map-has (λ t. t.figures.deadline) (keep (λ t. is_high t.level) tasks) (get_or ts.tasks i missing_task)
-      (keep-has (λ t. is_high t.level) tasks (get_or ts.tasks i missing_task) member high))
+      (map-has (λ t. t.figures.deadline) (filter (λ t. is_high t.level) tasks) (get_or ts.tasks i missing_task)
+      (filter-has (λ t. is_high t.level) tasks (get_or ts.tasks i missing_task) member high))
     where
       tasks : List Task
       tasks = take ts.count ts.tasks

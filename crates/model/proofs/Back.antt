@@ -10,7 +10,7 @@ use native.Mathlib.Omega.{arith}
 use lib.ListN.{length}
 use Rattle.std.specs.Prelude.{Result, Ok, Err, ⊤, is_ok}
 use Rattle.sheet.specs.declared.refusal.Refusal.{Refusal}
-use Rattle.basics.specs.Lists.{any}
+use Rattle.std.specs.List.{list_any}
 use Rattle.basics.proofs.Lists.{any_some}
 use Rattle.sheet.specs.declared.task.TaskSet.{TaskSet}
 use Rattle.sheet.specs.Level.{is_high}
@@ -92,7 +92,7 @@ waiting_idle m n x w idle low =
     at : ((next m x).critical ≡ m.critical) × (row_at (next m x) w.some.task ≡ row_at m w.some.task)
     at = stays w.some.task w.some.known (high_parts (row_at m w.some.task) w.some.job).0 (turn m w.some.task x w.some.known)
 
-some_high : (rows : List Row) (critical : Bool) → any has_high_job rows ≡ true → SomeHigh (record { critical = critical; rows = rows })
+some_high : (rows : List Row) (critical : Bool) → list_any has_high_job rows ≡ true → SomeHigh (record { critical = critical; rows = rows })
 unfolding row_at
 some_high rows critical e = let found = any_some has_high_job no_row rows e in record { task = found.0; known = found.1.0; job = found.1.1 }
 
@@ -109,7 +109,7 @@ aged_tick m n reports a aged i h high =
     omega (arith, before, age_tick m i reports (tick_at m i reports a known), ap (λ (f : Fixed). f.deadline) fixed)
 
 waiting_tick : (m : Model) (n : ℕ) (reports : List ℕ) → Waiting m n → is_accepted m (tick reports) ≡ true →
-    any has_high_job (ticked_rows m.rows reports) ≡ true → Waiting (next m (tick reports)) (n + 1)
+    list_any has_high_job (ticked_rows m.rows reports) ≡ true → Waiting (next m (tick reports)) (n + 1)
 waiting_tick m n reports w a high =
     record {
       critical = ap (λ (s : Step). s.model.critical) e;
@@ -161,7 +161,7 @@ back limit (x ∷ calls) m n w early waits enough =
     then k e now silent rest = one_more limit n k m x calls e (rest k now (parts.1 silent) (omega (arith, enough, e)))
 
     on_tick : (reports : List ℕ) → x ≡ tick reports → is_accepted m (tick reports) ≡ true → (t : Bool) →
-        any has_high_job (ticked_rows m.rows reports) ≡ t → Rest → ReturnWithin (limit - n) m (x ∷ calls)
+        list_any has_high_job (ticked_rows m.rows reports) ≡ t → Rest → ReturnWithin (limit - n) m (x ∷ calls)
     on_tick reports e a false gone rest =
         record {
           before = [];
@@ -180,7 +180,7 @@ back limit (x ∷ calls) m n w early waits enough =
         rest
 
     go : (y : Call) → x ≡ y → (t : Bool) → is_tick m x ≡ t → Rest → ReturnWithin (limit - n) m (x ∷ calls)
-    go (tick reports) e true is rest = on_tick reports e (ap (is_tick m) (sym e) ∙ is) (any has_high_job (ticked_rows m.rows reports)) refl rest
+    go (tick reports) e true is rest = on_tick reports e (ap (is_tick m) (sym e) ∙ is) (list_any has_high_job (ticked_rows m.rows reports)) refl rest
     go (release i) e true is rest = absurd (false≢true (ap (is_tick m) (sym e) ∙ is))
     go y e false is rest =
         then n (omega (arith, ap {B = ℕ} (λ (b : Bool). cond b 1 0) is)) (waiting_idle m n x w is parts.0) (idle_answer m x is) rest
@@ -189,12 +189,12 @@ not_some : {i : ℕ} → ◌≡◌ {A = Option ℕ} None (Some i) → ⊥
 not_some e = let z : ◌≡◌ {A = ℕ} 0 1 = cc in omega arith
 
 -- Where a lowest late task is found, some task is late.
-late_found : (j : ℕ) (rows : List Row) (i : ℕ) → lowest_late j rows ≡ Some i → any is_late rows ≡ true
+late_found : (j : ℕ) (rows : List Row) (i : ℕ) → lowest_late j rows ≡ Some i → list_any is_late rows ≡ true
 late_found j [] i e = absurd (not_some e)
 late_found j (r ∷ rows) i e = go (is_late r) _ _ e (late_found _ rows i)
   where
-    go : (t : Bool) (q : ℕ) (o : Option ℕ) → cond t (Some q) o ≡ Some i → (o ≡ Some i → any is_late rows ≡ true) →
-        (t || any is_late rows) ≡ true
+    go : (t : Bool) (q : ℕ) (o : Option ℕ) → cond t (Some q) o ≡ Some i → (o ≡ Some i → list_any is_late rows ≡ true) →
+        (t || list_any is_late rows) ≡ true
     go true q o e then = refl
     go false q o e then = then e
 
@@ -205,13 +205,13 @@ late_high r e =
     let job = ((and-eq-true_iff (has_high_job r) _).0 e).0 in
     ap has_high_job (survivor_switched r (high_survives r.fixed (high_parts r job).0)) ∙ job
 
-any_switched : (rows : List Row) → any is_late rows ≡ true → any has_high_job (map switched_row rows) ≡ true
+any_switched : (rows : List Row) → list_any is_late rows ≡ true → list_any has_high_job (map switched_row rows) ≡ true
 any_switched [] e = e
 any_switched (r ∷ rows) e = go (is_late r) refl e (any_switched rows)
   where
-    go : (t : Bool) → is_late r ≡ t → (t || any is_late rows) ≡ true → (any is_late rows ≡ true → any has_high_job (map switched_row rows) ≡ true) →
-        (has_high_job (switched_row r) || any has_high_job (map switched_row rows)) ≡ true
-    go true late e then = ap (λ (t : Bool). t || any has_high_job (map switched_row rows)) (late_high r late)
+    go : (t : Bool) → is_late r ≡ t → (t || list_any is_late rows) ≡ true → (list_any is_late rows ≡ true → list_any has_high_job (map switched_row rows) ≡ true) →
+        (has_high_job (switched_row r) || list_any has_high_job (map switched_row rows)) ≡ true
+    go true late e then = ap (λ (t : Bool). t || list_any has_high_job (map switched_row rows)) (late_high r late)
     go false late e then = ap (λ (t : Bool). has_high_job (switched_row r) || t) (then e) ∙ or-true (has_high_job (switched_row r))
 
 -- A tick that answers that it switched, by the tests of its definition.
@@ -237,7 +237,7 @@ switching m reports said = go (refusal_of m (tick reports)) refl said
     high false e = false≢true e
 
     mode : (t : Bool) → is_switched (turning t rows).answer ≡ true → (t ≡ false) × ((i : ℕ) × (lowest_late 0 rows ≡ Some i))
-    mode true e = absurd (high (any has_high_job rows) e)
+    mode true e = absurd (high (list_any has_high_job rows) e)
     mode false e = (refl, late (lowest_late 0 rows) refl e)
 
     go : (o : Result ⊤ Refusal) → refusal_of m (tick reports) ≡ o → is_switched (step_by o m (tick reports)).answer ≡ true → Switching m reports

@@ -9,7 +9,7 @@ use Rattle.std.specs.Prelude.{Option, Some, None}
 use native.Mathlib.Omega.{arith}
 use lib.Dec.{ltb}
 use lib.ListN.{length}
-use Rattle.basics.specs.Lists.{any}
+use Rattle.std.specs.List.{list_any}
 use Rattle.basics.proofs.Logic.{left_false, right_false}
 use Rattle.sheet.specs.declared.task.Task.{Task}
 use Rattle.shares.specs.declared.share.Share.{Share}
@@ -311,7 +311,7 @@ stays_typical m c e unswitched = go c (is_accepted m c) refl unswitched
 
 -- Where no tick up to the t-th switches, the mode is typical after each of them.
 typical_while : (t s : ℕ) (m : Model) (calls : List Call) → s ≤ t → m.critical ≡ false →
-    any is_switched (answers m (until_tick t m calls)) ≡ false → (after m (until_tick s m calls)).critical ≡ false
+    list_any is_switched (answers m (until_tick t m calls)) ≡ false → (after m (until_tick s m calls)).critical ≡ false
 typical_while t s m [] h e u = e
 typical_while t zero m (c ∷ calls) h e u = e
 typical_while zero (suc s) m (c ∷ calls) h e u = absurd (omega arith)

@@ -11,7 +11,7 @@ use lib.Bits.{bit_or, or_lt}
 use lib.ListN.{length, get_or, length-map, get_or-map, get_or-eq_default}
 use lib.Pow.{pow_pos}
 use lib.Seq.{map-set_same}
-use Rattle.basics.specs.Lists.{any}
+use Rattle.std.specs.List.{list_any}
 use Rattle.nodes.proofs.Bits.{has_zero}
 use Rattle.model.specs.Row.{Fixed, Row, is_subset, all_ended, running_set, released_row, joined, ticked_row, has_high_job, switched_row, fixed_part}
 use Rattle.model.specs.Step.{Model, Call, release, tick, Step, row_at, no_row, granted, released, ticked_rows, lowest_late, switched_to, returned_to, turning, ticked}
@@ -32,7 +32,7 @@ fixed_switched [] = refl
 fixed_switched (r ∷ rows) = ap (λ (fs : List Fixed). r.fixed ∷ fs) (fixed_switched rows)
 
 fixed_turning : (critical : Bool) (rows : List Row) → map fixed_part (turning critical rows).model.rows ≡ map fixed_part rows
-fixed_turning true rows = go (any has_high_job rows)
+fixed_turning true rows = go (list_any has_high_job rows)
   where
     go : (t : Bool) → map fixed_part (returned_to rows t).model.rows ≡ map fixed_part rows
     go true = refl

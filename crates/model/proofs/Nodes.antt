@@ -10,7 +10,7 @@ use lib.Dec.{ltb}
 use Rattle.basics.specs.Lists.{count}
 use Rattle.basics.proofs.Below.{range-all_at, range_all}
 use Rattle.nodes.specs.Sets.{has, set_of}
-use Rattle.nodes.proofs.Members.{set_of-keep_lt, has-set_of-keep}
+use Rattle.nodes.proofs.Members.{set_of-filter_lt, has-set_of-filter}
 use Rattle.model.specs.Row.{Row, is_subset, all_ended, is_ready, running_set}
 use Rattle.model.proofs.Starts.{runs_first, running_is}
 
@@ -21,11 +21,11 @@ pub runs_test : (grant : ℕ) (r : Row) (v : ℕ) →
 unfolding running_set runs_first
 runs_test grant r v =
     ap (λ (vs : List ℕ). has (set_of vs) v) (running_is grant r)
-    ∙ has-set_of-keep (runs_first grant r) r.fixed.nodes v
+    ∙ has-set_of-filter (runs_first grant r) r.fixed.nodes v
 
 pub running_below : (grant : ℕ) (r : Row) → running_set grant r < 2 ^ r.fixed.nodes
 unfolding running_set
-running_below grant r = rw (running_is grant r) (set_of-keep_lt (runs_first grant r) r.fixed.nodes)
+running_below grant r = rw (running_is grant r) (set_of-filter_lt (runs_first grant r) r.fixed.nodes)
 
 -- A subset is no larger as a number.
 pub subset_below : (a b n : ℕ) → is_subset a b ≡ true → b < n → a < n

@@ -14,7 +14,7 @@ use Rattle.std.specs.Prelude.{Result, Ok, Err, ⊤, is_ok}
 use Rattle.sheet.specs.declared.refusal.Refusal.{Refusal}
 use Rattle.sheet.specs.declared.refusal.Refusal.TheVariants.{TooEarly}
 use Rattle.sheet.specs.Refusal.{refused_if}
-use Rattle.basics.specs.Lists.{any}
+use Rattle.std.specs.List.{list_any}
 use Rattle.basics.proofs.Lists.{any_none, none_any}
 use Rattle.sheet.specs.Level.{is_high}
 use Rattle.model.specs.Row.{Row, has_high_job}
@@ -42,7 +42,7 @@ gone_high r gone high = sym (ap (λ (t : Bool). t && r.job.alive) high) ∙ gone
 pub record Returning (m : Model) (reports : List ℕ) : Type 0 where
   pub accepted : is_accepted m (tick reports) ≡ true
   pub critical : m.critical ≡ true
-  pub none : any has_high_job (ticked_rows m.rows reports) ≡ false
+  pub none : list_any has_high_job (ticked_rows m.rows reports) ≡ false
 
 pub returning : (m : Model) (reports : List ℕ) → is_returned (step m (tick reports)).answer ≡ true → Returning m reports
 unfolding step is_accepted ticked
@@ -59,8 +59,8 @@ returning m reports said = go (refusal_of m (tick reports)) refl said
     high true e = absurd (false≢true e)
     high false e = refl
 
-    mode : (t : Bool) → is_returned (turning t rows).answer ≡ true → (t ≡ true) × (any has_high_job rows ≡ false)
-    mode true e = (refl, high (any has_high_job rows) e)
+    mode : (t : Bool) → is_returned (turning t rows).answer ≡ true → (t ≡ true) × (list_any has_high_job rows ≡ false)
+    mode true e = (refl, high (list_any has_high_job rows) e)
     mode false e = absurd (late (lowest_late 0 rows) e)
 
     go : (o : Result ⊤ Refusal) → refusal_of m (tick reports) ≡ o → is_returned (step_by o m (tick reports)).answer ≡ true →
@@ -70,7 +70,7 @@ returning m reports said = go (refusal_of m (tick reports)) refl said
 
 -- What an accepted tick in critical mode does.
 pub critical_tick : (m : Model) (reports : List ℕ) → is_accepted m (tick reports) ≡ true → m.critical ≡ true →
-    step m (tick reports) ≡ returned_to (ticked_rows m.rows reports) (any has_high_job (ticked_rows m.rows reports))
+    step m (tick reports) ≡ returned_to (ticked_rows m.rows reports) (list_any has_high_job (ticked_rows m.rows reports))
 unfolding ticked
 critical_tick m reports accepted critical =
     accepted_step_lem m (tick reports) accepted ∙ ap (λ (t : Bool). turning t (ticked_rows m.rows reports)) critical
@@ -80,7 +80,7 @@ critical_rows : (m : Model) (reports : List ℕ) → is_accepted m (tick reports
     (step m (tick reports)).model.rows ≡ ticked_rows m.rows reports
 critical_rows m reports accepted critical =
     ap (λ (s : Step). s.model.rows) (critical_tick m reports accepted critical)
-    ∙ go (any has_high_job (ticked_rows m.rows reports))
+    ∙ go (list_any has_high_job (ticked_rows m.rows reports))
   where
     go : (t : Bool) → (returned_to (ticked_rows m.rows reports) t).model.rows ≡ ticked_rows m.rows reports
     go true = refl

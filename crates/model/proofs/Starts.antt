@@ -1,5 +1,6 @@
 -- S8.2 and S8.3: a node starts only when each of its predecessors has ended: the test of `is_ready` by sets, read bit
 -- by bit.
+use Rattle.std.specs.Prelude.{filter}
 use Prim.Native.Nat.{ℕ, ◌+◌, ◌≤◌, ◌<◌, min}
 use mathlib.Core.Path.{◌≡◌, sym, ap, ap₂, subst, ◌∙◌}
 use mathlib.Core.Bool.{Bool, true, not, ◌&&◌, and-eq-true_iff}
@@ -9,11 +10,11 @@ use borrow.Author.Tests.{eqb-true, eq-eqb, not-true, ltb-true, lt-ltb}
 use lib.Bits.{bit_and}
 use lib.Dec.{ltb}
 use lib.ListN.{length, length-take}
-use Rattle.basics.specs.Lists.{range, keep, count}
+use Rattle.basics.specs.Lists.{range, count}
 use Rattle.nodes.specs.Sets.{has}
 use Rattle.nodes.proofs.Bits.{has_and, within_and, within_antisymm}
-use Rattle.basics.proofs.Members.{range-has, range-within, keep-has, keep_from}
-use Rattle.basics.proofs.Counts.{count_mono, keep_lowest}
+use Rattle.basics.proofs.Members.{range-has, range-within, filter-has, filter_from}
+use Rattle.basics.proofs.Counts.{count_mono, filter_lowest}
 use Rattle.model.specs.Row.{Row, is_subset, predecessors_of, precedes, is_ready, ready, running}
 use Rattle.model.specs.Beside.{MayStart, Startable}
 
@@ -57,7 +58,7 @@ ready-start r v s =
 start-ready : (r : Row) (v : ℕ) → MayStart r v → Memᴰ v (ready r)
 unfolding ready
 start-ready r v s =
-    keep-has (is_ready r) _ v (range-has _ r.fixed.nodes v (omega arith) (omega (arith, s.node))) (ready-start r v s)
+    filter-has (is_ready r) _ v (range-has _ r.fixed.nodes v (omega arith) (omega (arith, s.node))) (ready-start r v s)
 
 running_many : (grant : ℕ) (r : Row) →
     length (running grant r) ≡ min grant (length (ready r))
@@ -68,9 +69,9 @@ running_many grant r = omega (arith, length-take grant (ready r))
 unfoldable pub runs_first : ℕ → Row → ℕ → Bool
 runs_first grant r v = is_ready r v && ltb (count (is_ready r) v) grant
 
-pub running_is : (grant : ℕ) (r : Row) → running grant r ≡ keep (runs_first grant r) (range 0 r.fixed.nodes)
+pub running_is : (grant : ℕ) (r : Row) → running grant r ≡ filter (runs_first grant r) (range 0 r.fixed.nodes)
 unfolding running ready runs_first
-running_is grant r = sym (keep_lowest (is_ready r) grant r.fixed.nodes)
+running_is grant r = sym (filter_lowest (is_ready r) grant r.fixed.nodes)
 
 record First (grant : ℕ) (r : Row) (v : ℕ) : Type 0 where
   pub node : v < r.fixed.nodes
@@ -83,7 +84,7 @@ running-first grant r v m =
     record { node = omega (arith, below); ready = both.0; few = ltb-true _ _ both.1 }
   where
     kept : Memᴰ v (range 0 r.fixed.nodes) × (runs_first grant r v ≡ true)
-    kept = keep_from (runs_first grant r) (range 0 r.fixed.nodes) v (subst (Memᴰ v) (running_is grant r) m)
+    kept = filter_from (runs_first grant r) (range 0 r.fixed.nodes) v (subst (Memᴰ v) (running_is grant r) m)
 
     below : (0 ≤ v) × (v < 0 + r.fixed.nodes)
     below = range-within 0 r.fixed.nodes v kept.0
@@ -95,7 +96,7 @@ first-running : (grant : ℕ) (r : Row) (v : ℕ) → First grant r v → Memᴰ
 unfolding runs_first
 first-running grant r v f =
     subst (Memᴰ v) (sym (running_is grant r))
-    (keep-has (runs_first grant r) (range 0 r.fixed.nodes) v
+    (filter-has (runs_first grant r) (range 0 r.fixed.nodes) v
     (range-has 0 r.fixed.nodes v (omega arith) (omega (arith, f.node)))
     (ap₂ ◌&&◌ f.ready (lt-ltb (count (is_ready r) v) grant f.few)))
 

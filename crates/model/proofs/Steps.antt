@@ -17,7 +17,7 @@ use Rattle.sheet.specs.declared.refusal.Refusal.{Refusal}
 use Rattle.sheet.specs.declared.refusal.Refusal.TheVariants.{UnknownTask, WrongCount}
 use Rattle.sheet.specs.Refusal.{refused_if, ◌or_else◌}
 use Rattle.model.specs.Step.{Model, Call, release, tick, Step, step, step_by, row_at, no_row, granted, release_refusal, report_refusal, tick_refusal, refusal_of, released, ticked_rows, lowest_late, switched_to, returned_to, turning, ticked}
-use Rattle.basics.specs.Lists.{any}
+use Rattle.std.specs.List.{list_any}
 use Rattle.model.specs.Run.{after, is_accepted, is_tick, is_release_of}
 
 -- The model after one call.
@@ -112,9 +112,9 @@ pub data Settled (after : Model) (i : ℕ) (part : Row) : Type 0 where
 
 settle : (critical : Bool) (rows : List Row) (i : ℕ) → i < length rows → Settled (turning critical rows).model i (get_or rows i no_row)
 unfolding row_at
-settle true rows i h = high (any has_high_job rows) refl
+settle true rows i h = high (list_any has_high_job rows) refl
   where
-    high : (t : Bool) → any has_high_job rows ≡ t → Settled (returned_to rows t).model i (get_or rows i no_row)
+    high : (t : Bool) → list_any has_high_job rows ≡ t → Settled (returned_to rows t).model i (get_or rows i no_row)
     high true e = in_critical refl refl
     high false e = in_typical refl (ap (λ (rs : List Row). get_or rs i no_row) (returned_rows rows)) (early_none (get_or rows i no_row) (any_none has_high_job no_row rows i e h))
 settle false rows i h = late (lowest_late 0 rows) refl
@@ -133,7 +133,7 @@ turned_row false false r = r
 turned_row_lem : (critical : Bool) (rows : List Row) (i : ℕ) →
     row_at (turning critical rows).model i ≡ turned_row critical (turning critical rows).model.critical (get_or rows i no_row)
 unfolding row_at
-turned_row_lem true rows i = high (any has_high_job rows)
+turned_row_lem true rows i = high (list_any has_high_job rows)
   where
     high : (t : Bool) → get_or (returned_to rows t).model.rows i no_row ≡ get_or rows i no_row
     high true = refl

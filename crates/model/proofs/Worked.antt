@@ -1,10 +1,11 @@
 -- Worked facts by computation: the definitions on small models.
+use Rattle.std.specs.Prelude.{filter}
 use Prim.Native.Nat.{ℕ}
 use mathlib.Core.Path.{◌≡◌, refl}
 use mathlib.Core.Bool.{Bool, true, false}
 use mathlib.Core.List.{List, [], ◌∷◌, ◌++◌}
 use lib.ListN.{replicate, get_or}
-use Rattle.basics.specs.Lists.{range, keep}
+use Rattle.basics.specs.Lists.{range}
 use Rattle.nodes.specs.Sets.{has}
 use Rattle.sheet.specs.Level.{is_high, is_low}
 use Rattle.shares.specs.Low.{is_kept}
@@ -50,7 +51,7 @@ ends_late = release 0 ∷ quiet 3 ++ tick (1 ∷ []) ∷ quiet 2 ++ tick (2 ∷ 
 -- The nodes that are due after some ticks of that job, with these lengths.
 abbrev due : List ℕ → List Call → List ℕ
 due lengths calls =
-    keep
+    filter
     (λ v. is_due (is_running 0 v (after (after alone (release 0 ∷ [])) calls)) (runs_in 0 v (after alone (release 0 ∷ [])) calls)
     (get_or lengths v 0))
     (range 0 3)

@@ -1,7 +1,7 @@
 -- The promises of S10.7 to S10.9 and S10.11, read off the model: what holds of a task set, its shares and a list of
 -- calls from the start.
 use Rattle.std.specs.Prelude.{ℕ, ◌+◌, ◌≤◌, ◌≡◌, Bool, true, false, List, [], ◌∷◌, ◌++◌, length}
-use Rattle.basics.specs.Lists.{any}
+use Rattle.std.specs.List.{list_any}
 use Rattle.sheet.specs.declared.task.Budget.{Budget}
 use Rattle.sheet.specs.declared.task.Task.{Task}
 use Rattle.sheet.specs.declared.task.TaskSet.{TaskSet}
@@ -111,8 +111,8 @@ is_returned (refused r) = false
 -- S10.9: the mode is typical after the list, and no answer says that a tick switched or returned.
 pub record StaysTypical (start : Model) (calls : List Call) : Type 0 where
   pub typical : (after start calls).critical ≡ false
-  pub unswitched : any is_switched (answers start calls) ≡ false
-  pub unreturned : any is_returned (answers start calls) ≡ false
+  pub unswitched : list_any is_switched (answers start calls) ≡ false
+  pub unreturned : list_any is_returned (answers start calls) ≡ false
 
 -- S10.9, nominal: if each job of a high task keeps its nominal budget, with true reports, the mode stays typical.
 -- Nothing is asked of low tasks.

@@ -1,7 +1,7 @@
 -- S10.14 and S10.15: one task seen by itself. What the calls of a run give a task at each tick count, and that nothing
 -- bears on it but this and the mode.
 use Rattle.std.specs.Prelude.{ℕ, zero, suc, ◌≤◌, ◌<◌, ◌≡◌, Bool, true, false, cond, List, [], ◌∷◌, ◌++◌, get_or}
-use Rattle.basics.specs.Lists.{any}
+use Rattle.std.specs.List.{list_any}
 use Rattle.sheet.specs.declared.task.Task.{Task}
 use Rattle.sheet.specs.declared.task.TaskSet.{TaskSet}
 use Rattle.shares.specs.declared.share.Share.{Share}
@@ -131,7 +131,7 @@ Isolated t r q =
 
 -- S10.15: no tick up to the t-th answers that it switched.
 unfoldable pub Unswitched : ℕ → TaskRun → Type 0
-Unswitched t r = any is_switched (answers (start r) (until_in r t)) ≡ false
+Unswitched t r = list_any is_switched (answers (start r) (until_in r t)) ≡ false
 
 -- S10.15: where no tick of either run switches, the same typical share is enough.
 unfoldable pub IsolatedTypical : ℕ → TaskRun → TaskRun → Type 0

@@ -1,7 +1,7 @@
 -- S10.12 and S10.13: when a tick returns to the typical mode, what may be released after it, and how soon after a
 -- switch it comes.
-use Rattle.std.specs.Prelude.{ℕ, ◌+◌, ◌≤◌, ◌<◌, ◌≡◌, Bool, true, false, not, ◌&&◌, ◌||◌, List, [], ◌∷◌, ◌++◌, map, leb, length, take}
-use Rattle.basics.specs.Lists.{keep, greatest}
+use Rattle.std.specs.Prelude.{ℕ, ◌+◌, ◌≤◌, ◌<◌, ◌≡◌, Bool, true, false, not, ◌&&◌, ◌||◌, List, [], ◌∷◌, ◌++◌, map, leb, length, take, filter}
+use Rattle.basics.specs.Lists.{greatest}
 use Rattle.sheet.specs.declared.task.TaskSet.{TaskSet}
 use Rattle.shares.specs.declared.share.Share.{Share}
 use Rattle.sheet.specs.Level.{is_high}
@@ -33,7 +33,7 @@ pub record ReturnLaw (m : Model) (reports : List ℕ) : Type 0 where
 -- S10.13: the longest deadline of the high tasks, 0 where there are none.
 unfoldable pub longest_deadline : TaskSet → ℕ
 longest_deadline ts =
-    greatest (map (λ t. t.figures.deadline) (keep (λ t. is_high t.level) (take ts.count ts.tasks)))
+    greatest (map (λ t. t.figures.deadline) (filter (λ t. is_high t.level) (take ts.count ts.tasks)))
 
 -- S10.13: a tick of a list of calls that switched, with the calls before it and those since.
 pub record SwitchIn (start : Model) (calls : List Call) : Type 0 where

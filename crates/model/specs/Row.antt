@@ -1,9 +1,10 @@
 -- One task in the model: what the sheet and the plan fix, what calls change, and which of its nodes are ready and
 -- running.
-use Rattle.std.specs.Prelude.{ℕ, suc, min, Bool, true, not, ◌&&◌, ◌||◌, List, eqb, leb, get_or, take}
+use Rattle.std.specs.List.{list_all}
+use Rattle.std.specs.Prelude.{ℕ, suc, min, Bool, true, not, ◌&&◌, ◌||◌, List, eqb, leb, get_or, take, filter}
 use Rattle.std.specs.Int.Bits.{bit_and, bit_or}
 use Rattle.shares.specs.declared.share.Share.{Share}
-use Rattle.basics.specs.Lists.{range, keep, all}
+use Rattle.basics.specs.Lists.{range}
 use Rattle.nodes.specs.Sets.{has, set_of}
 use Rattle.sheet.specs.Level.{is_high}
 use Rattle.shares.specs.Low.{is_kept}
@@ -39,7 +40,7 @@ is_subset nodes others = eqb (bit_and nodes others) nodes
 
 -- S10.4: whether all k nodes have ended.
 unfoldable pub all_ended : ℕ → ℕ → Bool
-all_ended k ended = all (has ended) (range 0 k)
+all_ended k ended = list_all (has ended) (range 0 k)
 
 -- The set of node v's predecessors: its mask among the masks of a task.
 unfoldable pub predecessors_of : List ℕ → ℕ → ℕ
@@ -58,7 +59,7 @@ is_ready r v =
 
 -- The ready nodes, lowest first.
 unfoldable pub ready : Row → List ℕ
-ready r = keep (is_ready r) (range 0 r.fixed.nodes)
+ready r = filter (is_ready r) (range 0 r.fixed.nodes)
 
 -- S8.3: of the ready nodes the first ones run, as many as the task is granted processors at this moment.
 unfoldable pub running : ℕ → Row → List ℕ

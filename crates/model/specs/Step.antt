@@ -1,6 +1,6 @@
 -- S10.2: the model, a call, and one step: the first of the refusals 11 to 15 that holds, else Release or Tick.
 use Rattle.std.specs.Prelude.{ℕ, suc, Bool, true, false, cond, not, ◌&&◌, ◌||◌, List, [], ◌∷◌, map, eqb, leb, ltb, length, get_or, set, Option, Some, None, Result, Ok, Err, ⊤}
-use Rattle.basics.specs.Lists.{any}
+use Rattle.std.specs.List.{list_any}
 use Rattle.sheet.specs.declared.refusal.Refusal.{Refusal}
 use Rattle.sheet.specs.declared.refusal.Refusal.TheVariants.{UnknownTask, LowInCritical, TooEarly, WrongCount, NotRunning}
 use Rattle.sheet.specs.Refusal.{refused_if, ◌or_else◌}
@@ -122,7 +122,7 @@ returned_to rows false = record { answer = returned; model = record { critical =
 -- S8.6 and S8.9: what becomes of the mode, by the mode before the tick and the rows after their parts of it: the
 -- critical one may return, the typical one may switch, and no tick does both.
 abbrev pub turning : Bool → List Row → Step
-turning true rows = returned_to rows (any has_high_job rows)
+turning true rows = returned_to rows (list_any has_high_job rows)
 turning false rows = switched_to rows (lowest_late 0 rows)
 
 -- S8.5, S8.6 and S8.9: an accepted Tick: first every task's part, then the mode.

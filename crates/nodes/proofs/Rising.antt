@@ -1,5 +1,6 @@
 -- Rising lists of numbers below k are the lists of members: each is `keep` of being in it, so `members k (set_of vs)`
 -- is vs.
+use Rattle.std.specs.Prelude.{filter}
 use Prim.Native.Nat.{ℕ, zero, suc, ◌+◌, ◌^◌, ◌≤◌, ◌<◌}
 use mathlib.Core.Path.{◌≡◌, refl, sym, ap, ap₂, ◌∙◌}
 use mathlib.Core.Bool.{Bool, true, false, ◌||◌}
@@ -9,10 +10,10 @@ use native.Mathlib.Omega.{arith}
 use borrow.Author.Tests.{eq-eqb, ne_eqb}
 use lib.Dec.{eqb}
 use lib.ListN.{take}
-use Rattle.basics.specs.Lists.{range, keep, kept_if}
+use Rattle.basics.specs.Lists.{range, kept_if}
 use Rattle.nodes.specs.Sets.{members, set_of}
-use Rattle.basics.proofs.Lists.{keep_ext, keep_none}
-use Rattle.nodes.proofs.Members.{members-set_of-keep, set_of-keep_lt}
+use Rattle.basics.proofs.Lists.{filter_ext, filter_none}
+use Rattle.nodes.proofs.Members.{members-set_of-filter, set_of-filter_lt}
 
 -- Each number of the list is at least `low`, below k and below those after it.
 abbrev pub Rising : ℕ → ℕ → List ℕ → Type 0
@@ -28,9 +29,9 @@ rising_kept : (t : Bool) (low k v : ℕ) (vs : List ℕ) → low ≤ v → v < k
 rising_kept true low k v vs a b r = (a, b, r)
 rising_kept false low k v vs a b r = rising_weaken (suc v) low k vs (omega arith) r
 
-pub rising_keep : (p : ℕ → Bool) (low k : ℕ) (vs : List ℕ) → Rising low k vs → Rising low k (keep p vs)
-rising_keep p low k [] r = tt
-rising_keep p low k (v ∷ vs) r = rising_kept (p v) low k v (keep p vs) r.0 r.1 (rising_keep p (suc v) k vs r.2)
+pub rising_filter : (p : ℕ → Bool) (low k : ℕ) (vs : List ℕ) → Rising low k vs → Rising low k (filter p vs)
+rising_filter p low k [] r = tt
+rising_filter p low k (v ∷ vs) r = rising_kept (p v) low k v (filter p vs) r.0 r.1 (rising_filter p (suc v) k vs r.2)
 
 pub rising_take : (s low k : ℕ) (vs : List ℕ) → Rising low k vs → Rising low k (take s vs)
 rising_take zero low k [] r = tt
@@ -54,32 +55,32 @@ not_in u low k (v ∷ vs) h r =
     rw (ne_eqb u v (λ e. omega arith)) (not_in u (suc v) k vs (omega arith) r.2)
 
 -- A rising list is what its own test keeps of the range.
-rising_is_keep : (low n k : ℕ) (vs : List ℕ) → low + n ≡ k → Rising low k vs → keep (λ u. is_in u vs) (range low n) ≡ vs
+rising_is_filter : (low n k : ℕ) (vs : List ℕ) → low + n ≡ k → Rising low k vs → filter (λ u. is_in u vs) (range low n) ≡ vs
 unfolding range
-rising_is_keep low zero k [] e r = refl
-rising_is_keep low zero k (v ∷ vs) e r = absurd (omega arith)
-rising_is_keep low (suc n) k [] e r = keep_none (λ u. false) (range low (suc n)) (λ u m. refl)
-rising_is_keep low (suc n) k (v ∷ vs) e r =
-    go (ℕ_discrete low v) (rising_is_keep (suc low) n k vs (omega arith)) (rising_is_keep (suc low) n k (v ∷ vs) (omega arith))
+rising_is_filter low zero k [] e r = refl
+rising_is_filter low zero k (v ∷ vs) e r = absurd (omega arith)
+rising_is_filter low (suc n) k [] e r = filter_none (λ u. false) (range low (suc n)) (λ u m. refl)
+rising_is_filter low (suc n) k (v ∷ vs) e r =
+    go (ℕ_discrete low v) (rising_is_filter (suc low) n k vs (omega arith)) (rising_is_filter (suc low) n k (v ∷ vs) (omega arith))
   where
-    go : Dec (low ≡ v) → (Rising (suc low) k vs → keep (λ u. is_in u vs) (range (suc low) n) ≡ vs)
-        → (Rising (suc low) k (v ∷ vs) → keep (λ u. is_in u (v ∷ vs)) (range (suc low) n) ≡ v ∷ vs)
-        → kept_if (is_in low (v ∷ vs)) low (keep (λ u. is_in u (v ∷ vs)) (range (suc low) n)) ≡ v ∷ vs
+    go : Dec (low ≡ v) → (Rising (suc low) k vs → filter (λ u. is_in u vs) (range (suc low) n) ≡ vs)
+        → (Rising (suc low) k (v ∷ vs) → filter (λ u. is_in u (v ∷ vs)) (range (suc low) n) ≡ v ∷ vs)
+        → kept_if (is_in low (v ∷ vs)) low (filter (λ u. is_in u (v ∷ vs)) (range (suc low) n)) ≡ v ∷ vs
     go (yes d) here later =
         rw (eq-eqb low v d)
         (ap₂ (λ (x : ℕ) (xs : List ℕ). x ∷ xs) d
-        (keep_ext (λ u. is_in u (v ∷ vs)) (λ u. is_in u vs) (suc low) n (λ u a b. rw (ne_eqb u v (λ c. omega arith)))
+        (filter_ext (λ u. is_in u (v ∷ vs)) (λ u. is_in u vs) (suc low) n (λ u a b. rw (ne_eqb u v (λ c. omega arith)))
         ∙ here (rising_weaken (suc v) (suc low) k vs (omega arith) r.2)))
     go (no d) here later =
         rw (not_in low (suc low) k (v ∷ vs) (omega arith) (omega arith, r.1, r.2)) (later (omega arith, r.1, r.2))
 
-below_is_keep : (k : ℕ) (vs : List ℕ) → Rising 0 k vs → vs ≡ keep (λ u. is_in u vs) (range 0 k)
-below_is_keep k vs r = sym (rising_is_keep 0 k k vs (omega arith) r)
+below_is_filter : (k : ℕ) (vs : List ℕ) → Rising 0 k vs → vs ≡ filter (λ u. is_in u vs) (range 0 k)
+below_is_filter k vs r = sym (rising_is_filter 0 k k vs (omega arith) r)
 
 -- A rising list below k, as a set and back; the set lies below 2 ^ k.
 pub members-set_of : (k : ℕ) (vs : List ℕ) → Rising 0 k vs → members k (set_of vs) ≡ vs
 members-set_of k vs r =
-    ap (λ (xs : List ℕ). members k (set_of xs)) (below_is_keep k vs r) ∙ members-set_of-keep (λ u. is_in u vs) k ∙ sym (below_is_keep k vs r)
+    ap (λ (xs : List ℕ). members k (set_of xs)) (below_is_filter k vs r) ∙ members-set_of-filter (λ u. is_in u vs) k ∙ sym (below_is_filter k vs r)
 
 pub set_of_lt : (k : ℕ) (vs : List ℕ) → Rising 0 k vs → set_of vs < 2 ^ k
-set_of_lt k vs r = rw (below_is_keep k vs r) (set_of-keep_lt (λ u. is_in u vs) k)
+set_of_lt k vs r = rw (below_is_filter k vs r) (set_of-filter_lt (λ u. is_in u vs) k)

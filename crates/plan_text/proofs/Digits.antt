@@ -8,7 +8,7 @@ use native.Mathlib.Omega.{arith}
 use lib.Dec.{ltb}
 use lib.ListN.{get_or}
 use borrow.Author.Tests.{ltb-true, ltb-false, lt-ltb, le-ltb, le-leb}
-use Rattle.basics.specs.Lists.{all}
+use Rattle.std.specs.List.{list_all}
 use Rattle.basics.specs.Digits.{digit, is_digit}
 use Rattle.basics.proofs.Digits.{value_both, digits_both}
 use Rattle.plan_text.specs.Decimal.{digits_within, decimal, IsDecimal}
@@ -47,7 +47,7 @@ more_digits (suc n) h =
     let less = tenth (suc n) (omega arith) in
     rw (le-ltb (suc n) 10 h, same_digits n (suc n / 10) (suc n / 10) (omega arith) (omega arith))
 
-digit_is : (d : ℕ) → d < 10 → all is_digit (digit d ∷ []) ≡ true
+digit_is : (d : ℕ) → d < 10 → list_all is_digit (digit d ∷ []) ≡ true
 unfolding is_digit
 digit_is d h = rw (le-leb (digit 0) (digit d) (omega arith), le-leb (digit d) (digit 9) (omega arith))
 

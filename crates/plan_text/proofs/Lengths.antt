@@ -1,11 +1,12 @@
 -- How long lines are: a number below 10 ^ k has at most k digits, so that sixteen lines of a plan fit a text.
+use Rattle.std.specs.Prelude.{flat_map}
 use Prim.Native.Nat.{ℕ, zero, suc, ◌+◌, ◌*◌, ◌/◌, ◌%◌, ◌^◌, ◌≤◌, ◌<◌}
 use mathlib.Core.List.{List, [], ◌∷◌}
 use native.Mathlib.Decide.{dec_lt}
 use native.Mathlib.Nat.{div-lt_iff_lt-mul, pow-suc}
 use native.Mathlib.Omega.{arith}
 use lib.ListN.{length, length-append}
-use Rattle.basics.specs.Lists.{range, each}
+use Rattle.basics.specs.Lists.{range}
 use Rattle.basics.specs.Digits.{digit}
 use Rattle.plan_text.specs.Decimal.{decimal}
 use Rattle.plan_text.specs.Lines.{mark, line}
@@ -48,13 +49,13 @@ seven_length a b c d e v r ha hb hc hd he hv hr = omega (
 )
 
 -- What f gives for the numbers of a range, each of at most b bytes.
-each-length : (f : ℕ → List ℕ) (b first n : ℕ) → ((i : ℕ) → i < first + n → length (f i) ≤ b) → length (each (range first n) f) ≤ b * n
+flat_map-length : (f : ℕ → List ℕ) (b first n : ℕ) → ((i : ℕ) → i < first + n → length (f i) ≤ b) → length (flat_map f (range first n)) ≤ b * n
 unfolding range
-each-length f b first zero h = omega arith
-each-length f b first (suc n) h =
+flat_map-length f b first zero h = omega arith
+flat_map-length f b first (suc n) h =
     let one = h first (omega arith) in
-    let rest = each-length f b (suc first) n (λ i l. h i (omega arith)) in
-    rw (length-append (f first) (each (range (suc first) n) f)) (omega arith)
+    let rest = flat_map-length f b (suc first) n (λ i l. h i (omega arith)) in
+    rw (length-append (f first) (flat_map f (range (suc first) n))) (omega arith)
 
 -- The lines of tasks whose blocks, V and remainders are small.
 module _ (n : ℕ) (allocations : List Allocation) (small : AllBounded allocations n) where
@@ -73,7 +74,7 @@ module _ (n : ℕ) (allocations : List Allocation) (small : AllBounded allocatio
   unfolding plan_lines
   lines_length =
       let few = small.few in
-      let all = each-length (λ i. line (fields_of i (allocation_at allocations i))) 26 0 n (λ i h. fields_length i (omega arith)) in
+      let all = flat_map-length (λ i. line (fields_of i (allocation_at allocations i))) 26 0 n (λ i h. fields_length i (omega arith)) in
       omega arith
 
 -- The line of a refusal whose number and task are bytes.

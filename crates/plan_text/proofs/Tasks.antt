@@ -1,10 +1,11 @@
 -- The lines of the tasks from task i on: all of them, those after the first, and none.
+use Rattle.std.specs.Prelude.{flat_map}
 use Prim.Native.Nat.{ℕ, suc, ◌+◌, ◌-◌, ◌≤◌, ◌<◌}
 use mathlib.Core.List.{List, [], ◌++◌}
 use mathlib.Core.Path.{◌≡◌}
 use native.Mathlib.Numerals.{add-one}
 use native.Mathlib.Omega.{arith}
-use Rattle.basics.specs.Lists.{range, each}
+use Rattle.basics.specs.Lists.{range}
 use Rattle.allocation.specs.declared.allocate.Allocation.{Allocation}
 use Rattle.allocation.specs.Allocation.{allocation_at}
 use Rattle.plan_text.specs.Lines.{line}
@@ -12,7 +13,7 @@ use Rattle.plan_text.specs.Printed.{fields_of, plan_lines}
 
 module _ (n : ℕ) (allocations : List Allocation) where
   pub lines_from : ℕ → List ℕ
-  lines_from i = each (range i (n - i)) (λ j. line (fields_of j (allocation_at allocations j)))
+  lines_from i = flat_map (λ j. line (fields_of j (allocation_at allocations j))) (range i (n - i))
 
   pub lines_all : lines_from 0 ≡ plan_lines n allocations
   unfolding lines_from plan_lines

@@ -1,6 +1,6 @@
 -- S6.3: numbers in decimal, as ASCII bytes.
 use Rattle.std.specs.Prelude.{ℕ, zero, suc, ◌/◌, ◌%◌, ◌≤◌, true, cond, List, [], ◌∷◌, ◌++◌, ◌≡◌, ltb, get_or}
-use Rattle.basics.specs.Lists.{all}
+use Rattle.std.specs.List.{list_all}
 use Rattle.basics.specs.Digits.{digit, is_digit, value_of}
 
 -- The digits of n, the last one last and no zero in front, for an n of at most k + 1 digits.
@@ -16,5 +16,5 @@ decimal n = digits_within n n
 -- n is not 0. `Digits.decimal-reads` has this of `decimal n`, for all n.
 pub record IsDecimal (n : ℕ) (bytes : List ℕ) : Type 0 where
   pub says : value_of bytes ≡ n
-  pub digits : all is_digit bytes ≡ true
+  pub digits : list_all is_digit bytes ≡ true
   pub front : 1 ≤ n → digit 1 ≤ get_or bytes 0 0

@@ -1,8 +1,8 @@
 -- S6.1, S6.2: what is printed for a sheet, a line for each task or the line of a refusal.
-use Rattle.std.specs.Prelude.{ℕ, cond, List, [], ◌∷◌, ◌++◌, leb, length, drop, unwrap_or, Result, Ok, Err}
+use Rattle.std.specs.Prelude.{ℕ, cond, List, [], ◌∷◌, ◌++◌, leb, length, drop, unwrap_or, Result, Ok, Err, flat_map}
 use Rattle.sheet.specs.declared.refusal.Refusal.{Refusal}
 use Rattle.sheet.specs.Refusal.{number, task, no_task}
-use Rattle.basics.specs.Lists.{range, each}
+use Rattle.basics.specs.Lists.{range}
 use Rattle.allocation.specs.declared.allocate.Allocation.{Allocation}
 use Rattle.allocation.specs.declared.allocate.Allocated.{Allocated}
 use Rattle.allocation.specs.Allocation.{allocation_at, allocated_of}
@@ -23,7 +23,7 @@ fields_of i a =
 
 -- S6.1: a line for each of n tasks, in their order.
 unfoldable pub plan_lines : ℕ → List Allocation → List ℕ
-plan_lines n allocations = each (range 0 n) (λ i. line (fields_of i (allocation_at allocations i)))
+plan_lines n allocations = flat_map (λ i. line (fields_of i (allocation_at allocations i))) (range 0 n)
 
 -- S6.2: the bytes of `refused` and of a blank.
 abbrev pub refused_word : List ℕ

@@ -1,4 +1,5 @@
 -- The parts of a plan, task after task: the bytes of one more task stand behind those of the tasks before it.
+use Rattle.std.specs.Prelude.{flat_map}
 use Prim.Native.Nat.{ℕ, ◌+◌, ◌*◌}
 use mathlib.Core.Path.{◌≡◌, refl, sym, ap, ◌∙◌}
 use mathlib.Core.Bool.{Bool}
@@ -7,19 +8,19 @@ use native.Mathlib.Omega.{arith}
 use lib.ListN.{length}
 use lib.Seq.{sets}
 use Rattle.basics.specs.Numbers.{u32_bytes}
-use Rattle.basics.specs.Lists.{range, each}
+use Rattle.basics.specs.Lists.{range}
 use Rattle.basics.proofs.Bytes.{sets-append}
 use Rattle.allocation.specs.declared.allocate.Allocation.{Allocation}
 use Rattle.allocation.specs.Allocation.{allocation_at}
 use Rattle.planner.specs.Plan.{block_of, block_bytes, virtual_bytes, remainder_bytes}
-use Rattle.planner.proofs.Bytes.{each_next, part_length}
+use Rattle.planner.proofs.Bytes.{flat_map_next, part_length}
 
 -- The bytes of task i behind those of i tasks.
 part_more : (f : ℕ → List ℕ) (width : ℕ) → ((i : ℕ) → length (f i) ≡ width) → (old : List ℕ) (from i place : ℕ) →
-    place ≡ from + width * i → sets (sets old from (each (range 0 i) f)) place (f i) ≡ sets old from (each (range 0 (i + 1)) f)
+    place ≡ from + width * i → sets (sets old from (flat_map f (range 0 i))) place (f i) ≡ sets old from (flat_map f (range 0 (i + 1)))
 part_more f width same old from i place here =
-    let so_far : from + length (each (range 0 i) f) ≡ place = omega (arith, part_length f width same i, here) in
-    rw (← so_far) (sym (sets-append old from (each (range 0 i) f) (f i)) ∙ ap (λ (l : List ℕ). sets old from l) (sym (each_next f i)))
+    let so_far : from + length (flat_map f (range 0 i)) ≡ place = omega (arith, part_length f width same i, here) in
+    rw (← so_far) (sym (sets-append old from (flat_map f (range 0 i)) (f i)) ∙ ap (λ (l : List ℕ). sets old from l) (sym (flat_map_next f i)))
 
 module _ (allocations : List Allocation) where
   module _ (mode : Bool) where

@@ -1,4 +1,5 @@
 -- A record that is written is read back: its figures by their places, and the masks one by one.
+use Rattle.std.specs.List.{list_all}
 use Prim.Native.Nat.{ℕ, zero, suc, ◌≤◌, ◌<◌, ◌+◌, ◌*◌, ◌-◌, ◌/◌, ◌%◌, ◌^◌}
 use mathlib.Core.Bool.{Bool, true, false, cond}
 use mathlib.Core.List.{List, [], ◌∷◌, ◌++◌}
@@ -8,7 +9,7 @@ use native.Mathlib.Nat.{mod-lt}
 use lib.Dec.{ltb}
 use lib.ListN.{length, get_or, replicate}
 use borrow.Author.Tests.{ltb-true}
-use Rattle.basics.specs.Lists.{all, cells_from}
+use Rattle.basics.specs.Lists.{cells_from}
 use Rattle.sheet.specs.declared.task.Task.{Task}
 use Rattle.basics.specs.Numbers.{byte_at, u16_at, u32_at, u16_bytes, u32_bytes}
 use Rattle.sheet.specs.Level.{is_wide, bytes_before_masks}
@@ -31,7 +32,7 @@ module _ (mask : ℕ) (s : List ℕ) where
       u32_behind (mask % 256 ∷ mask / 256 % 256 ∷ mask / 65536 % 256 ∷ mask / 16777216 % 256 ∷ []) s (4 * d) (4 * suc d) (omega arith)
 
 -- Mask j of the first k, by its bytes.
-mask_at : (masks : List ℕ) (k j : ℕ) (back : List ℕ) → k ≤ length masks → all (λ mask. ltb mask (2 ^ 32)) masks ≡ true → j < k →
+mask_at : (masks : List ℕ) (k j : ℕ) (back : List ℕ) → k ≤ length masks → list_all (λ mask. ltb mask (2 ^ 32)) masks ≡ true → j < k →
     u32_at (masks_bytes k masks ++ back) (4 * j) ≡ get_or masks j 0
 unfolding masks_bytes u32_bytes
 mask_at masks zero j back few fit h = absurd (omega arith)

@@ -1,6 +1,5 @@
 -- Written: the bytes that the format reads a task and a sheet from.
-use Rattle.std.specs.Prelude.{ℕ, zero, suc, ◌+◌, ◌*◌, Bool, cond, List, [], ◌∷◌, ◌++◌, length, take}
-use Rattle.basics.specs.Lists.{each}
+use Rattle.std.specs.Prelude.{ℕ, zero, suc, ◌+◌, ◌*◌, Bool, cond, List, [], ◌∷◌, ◌++◌, length, take, flat_map}
 use Rattle.basics.specs.Numbers.{u16_bytes, u32_bytes}
 use Rattle.sheet.specs.declared.task.Task.{Task}
 use Rattle.sheet.specs.declared.task.TaskSet.{TaskSet}
@@ -42,4 +41,4 @@ directory_bytes place (t ∷ tasks) =
 unfoldable pub sheet_bytes : TaskSet → List ℕ
 sheet_bytes set =
     let tasks = take set.count set.tasks in
-    set.processors ∷ set.count ∷ directory_bytes (2 + 4 * set.count) tasks ++ each tasks record_bytes
+    set.processors ∷ set.count ∷ directory_bytes (2 + 4 * set.count) tasks ++ flat_map record_bytes tasks

@@ -1,6 +1,6 @@
 -- What the rules and the format come to, put another way. Each law is proved in proofs/.
 use Rattle.std.specs.Prelude.{ℕ, ◌≤◌, ◌<◌, ◌+◌, ◌*◌, ◌-◌, ◌^◌, Bool, true, false, cond, List, ◌++◌, ◌↔◌, ◌≡◌, ltb, length, get_or, drop, replicate}
-use Rattle.basics.specs.Lists.{all}
+use Rattle.std.specs.List.{list_all}
 use Rattle.nodes.specs.Sets.{has}
 use Rattle.sheet.specs.declared.task.Task.{Task}
 use Rattle.basics.specs.Numbers.{byte_at}
@@ -32,7 +32,7 @@ pub record Encodable (t : Task) : Type 0 where
   pub nominal_span : t.figures.nominal.span < figure_room (is_wide t.level)
   pub overload_span : t.figures.overload.span < figure_room (is_wide t.level)
   pub masks : length t.predecessors ≡ 32
-  pub masks_fit : all (λ mask. ltb mask (2 ^ 32)) t.predecessors ≡ true
+  pub masks_fit : list_all (λ mask. ltb mask (2 ^ 32)) t.predecessors ≡ true
   pub masks_none : drop t.nodes t.predecessors ≡ replicate (32 - t.nodes) 0
 
 -- S2.6: a record that is written is read as its task, wherever it stands.

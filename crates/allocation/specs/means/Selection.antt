@@ -1,10 +1,10 @@
 -- S5.3 by totals, as the selection works. An offer says the least critical share of a task at each typical share, and M
 -- + 1 stands for none and for any total above M.
-use Rattle.std.specs.Prelude.{ℕ, zero, suc, ◌+◌, ◌-◌, ◌≤◌, ◌<◌, min, ◌≡◌, Bool, cond, List, [], ◌∷◌, map, leb, ltb, eqb, get_or, drop, take, replicate, Result, Ok}
-use Rattle.std.proofs.Math.Option.{Option, none, some}
+use Rattle.std.specs.Prelude.{ℕ, zero, suc, ◌+◌, ◌-◌, ◌≤◌, ◌<◌, min, ◌≡◌, Bool, cond, List, [], ◌∷◌, map, leb, ltb, eqb, get_or, drop, take, replicate, Result, Ok, Option, None, Some, is_none}
+use Rattle.std.specs.List.{list_all}
 use Rattle.shares.specs.declared.share.Share.{Share}
 use Rattle.shares.specs.Offer.{tabulate, offer_of}
-use Rattle.basics.specs.Lists.{all, is_none, cells}
+use Rattle.basics.specs.Lists.{cells}
 use Rattle.allocation.specs.Allocation.{sixteen, shares_chosen}
 use Rattle.sheet.specs.declared.task.TaskSet.{TaskSet}
 use Rattle.sheet.specs.declared.refusal.Refusal.{Refusal}
@@ -96,7 +96,7 @@ best_total M offers = least_from (least_total M offers) 0 M
 -- The shares that the offers select, or none where every critical total exceeds M.
 unfoldable pub selected : ℕ → List (ℕ → ℕ) → Option (List Share)
 selected M offers =
-    cond (leb (least_total M offers (best_total M offers)) M) (some (shares_at M offers (best_total M offers))) none
+    cond (leb (least_total M offers (best_total M offers)) M) (Some (shares_at M offers (best_total M offers))) None
 
 -- An offer of zeros: what stands in the place of a task that is not there.
 abbrev pub zero_offer : List ℕ
@@ -108,7 +108,7 @@ offers_of set = cells 16 (λ i. offer_of set.processors (task_in set i)) zero_of
 
 -- S9.7: whether an offer offers nothing within M.
 unfoldable pub offers_none : ℕ → List ℕ → Bool
-offers_none M offer = all (λ b. ltb M b) offer
+offers_none M offer = list_all (λ b. ltb M b) offer
 
 -- S9.7: refusal 7 of task i, by its offer.
 unfoldable pub offer_answer : ℕ → List (List ℕ) → ℕ → Answer

@@ -1,6 +1,6 @@
 -- What a pass over a state's tasks leaves of an accepted tick, before the mode may turn.
 use Rattle.std.specs.Prelude.{ℕ, ◌≡◌, true, List, Ok}
-use Rattle.basics.specs.Lists.{any}
+use Rattle.std.specs.List.{list_any}
 use Rattle.model.specs.Row.{has_high_job}
 use Rattle.model.specs.Step.{tick_refusal, ticked_rows, lowest_late}
 use Rattle.entries.specs.declared.pass.Pass.{Pass}
@@ -15,4 +15,4 @@ pub record HasPassed (s : State) (reports : List ℕ) (p : Pass) (next : State) 
   pub accepted : tick_refusal (model_of s) reports ≡ Ok tt
   pub written : next ≡ with_model s (record { critical = s.critical; rows = ticked_rows (model_of s).rows reports })
   pub late : p.late ≡ lowest_late 0 (ticked_rows (model_of s).rows reports)
-  pub high : p.high ≡ any has_high_job (ticked_rows (model_of s).rows reports)
+  pub high : p.high ≡ list_any has_high_job (ticked_rows (model_of s).rows reports)

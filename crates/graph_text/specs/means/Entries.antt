@@ -1,6 +1,5 @@
 -- Entries read from numerals one after the other, and what is held of them.
-use Rattle.std.specs.Prelude.{ℕ, zero, suc, ◌-◌, ◌^◌, min, true, Bool, cond, ◌&&◌, List, [], ◌∷◌, ◌≡◌, eqb, ltb, set, replicate, Result, Ok, Err}
-use Rattle.std.proofs.Math.Option.{Option, none, some}
+use Rattle.std.specs.Prelude.{ℕ, zero, suc, ◌-◌, ◌^◌, min, true, Bool, cond, ◌&&◌, List, [], ◌∷◌, ◌≡◌, eqb, ltb, set, replicate, Result, Ok, Err, Option, None, Some}
 use Rattle.std.specs.Int.Bits.{bit_or}
 use Rattle.basics.specs.Numbers.{within}
 use Rattle.graph_text.specs.declared.graph.Node.{Node}
@@ -15,18 +14,18 @@ pub record Taken (A : Type 0) : Type 0 where
 
 -- The same of numerals that may not be there.
 abbrev pub taken_from : {A : Type 0} → (List ℕ → Option (Taken A)) → Option (List ℕ) → Option (Taken A)
-taken_from take none = none
-taken_from take (some numerals) = take numerals
+taken_from take None = None
+taken_from take (Some numerals) = take numerals
 
 -- A value, and the numerals behind it where they could be read.
 abbrev pub taken_before : {A : Type 0} → A → Option (List ℕ) → Option (Taken A)
-taken_before value none = none
-taken_before value (some rest) = some (record { value = value; rest = rest })
+taken_before value None = None
+taken_before value (Some rest) = Some (record { value = value; rest = rest })
 
 -- What comes of the value and of the rest.
 abbrev pub after_taken : {A B : Type 0} → Option (Taken A) → (A → List ℕ → Option B) → Option B
-after_taken none next = none
-after_taken (some taken) next = next taken.value taken.rest
+after_taken None next = None
+after_taken (Some taken) next = next taken.value taken.rest
 
 -- The mask of the node that a predecessor names; the dummy 0 and numbers past the 32 nodes name none.
 unfoldable pub bit_named : ℕ → ℕ
@@ -39,8 +38,8 @@ with_named v node p =
 
 -- A node with so many predecessors more.
 unfoldable pub named_from : ℕ → ℕ → Node → List ℕ → Option (Taken Node)
-named_from v zero node numerals = some (record { value = node; rest = numerals })
-named_from v (suc many) node [] = none
+named_from v zero node numerals = Some (record { value = node; rest = numerals })
+named_from v (suc many) node [] = None
 named_from v (suc many) node (p ∷ numerals) = named_from v many (with_named v node p) numerals
 
 -- A node of this time, without a predecessor.
@@ -49,16 +48,16 @@ node_with time = record { time = time; mask = 0; rising = true }
 
 -- Entry v from the front of some numerals.
 abbrev pub entry_from : ℕ → ℕ → List ℕ → Option (Taken Node)
-entry_from count v [] = none
-entry_from count v (number ∷ []) = none
-entry_from count v (number ∷ time ∷ []) = none
+entry_from count v [] = None
+entry_from count v (number ∷ []) = None
+entry_from count v (number ∷ time ∷ []) = None
 entry_from count v (number ∷ time ∷ many ∷ rest) =
-    cond (eqb number v && time_lawful count v time) (named_from v many (node_with time) rest) none
+    cond (eqb number v && time_lawful count v time) (named_from v many (node_with time) rest) None
 
 -- What a reading tells of the numerals of a text, old, and of those that are left, new: what was taken, or that it can't be.
 abbrev pub Reads : {A : Type 0} → (List ℕ → Option (Taken A)) → Option (List ℕ) → Option (List ℕ) → Result A BadFormat → Type 0
 Reads take old new (Ok value) = taken_from take old ≡ taken_before value new
-Reads take old new (Err e) = taken_from take old ≡ none
+Reads take old new (Err e) = taken_from take old ≡ None
 
 -- Nothing held.
 abbrev pub none_held : ℕ → NodeGraph
@@ -84,17 +83,17 @@ held_with count v node held =
 
 -- So many entries more, from number v on, and no numeral behind them.
 unfoldable pub held_from : ℕ → ℕ → ℕ → NodeGraph → List ℕ → Option NodeGraph
-held_from count v zero held [] = some held
-held_from count v zero held (n ∷ numerals) = none
+held_from count v zero held [] = Some held
+held_from count v zero held (n ∷ numerals) = None
 held_from count v (suc more) held numerals =
     after_taken (entry_from count v numerals) (λ node rest. held_from count (suc v) more (held_with count v node held) rest)
 
 -- The same of numerals that may not be there.
 abbrev pub held_of : ℕ → ℕ → ℕ → NodeGraph → Option (List ℕ) → Option NodeGraph
-held_of count v more held none = none
-held_of count v more held (some numerals) = held_from count v more held numerals
+held_of count v more held None = None
+held_of count v more held (Some numerals) = held_from count v more held numerals
 
 -- The graph that is held, if one is.
 abbrev pub held_graph : Option NodeGraph → Result NodeGraph BadFormat
-held_graph none = Err (record {})
-held_graph (some held) = Ok held
+held_graph None = Err (record {})
+held_graph (Some held) = Ok held

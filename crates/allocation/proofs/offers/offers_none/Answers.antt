@@ -9,11 +9,10 @@ use lib.Dec.{ltb}
 use Rattle.std.specs.List.{list_all}
 use Rattle.std.proofs.lemmas.Iterator.{YieldsList-from_slice}
 use Rattle.std.proofs.lemmas.Iterator.Search.{all_from_yields_List}
-use Rattle.basics.specs.Lists.{all}
 use Rattle.allocation.specs.means.Selection.{offers_none}
 use Rattle.allocation.proofs.offers.offers_none.Goals as goal
 
-same_all : (test : ℕ → Bool) (xs : List ℕ) → list_all test xs ≡ all test xs
+same_all : (test : ℕ → Bool) (xs : List ℕ) → list_all test xs ≡ list_all test xs
 same_all test [] = refl
 same_all test (x ∷ xs) = ap (λ (t : Bool). test x && t) (same_all test xs)
 

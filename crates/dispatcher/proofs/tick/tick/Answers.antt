@@ -1,7 +1,7 @@
 -- `dispatcher::tick::tick`: what the pass leaves of an accepted tick, turned, is what the tick returns.
 use mathlib.Core.Path.{◌≡◌, sym, ap, ap₂, ◌∙◌}
 use native.Mathlib.Omega.{arith}
-use Rattle.basics.specs.Lists.{any}
+use Rattle.std.specs.List.{list_any}
 use Rattle.model.specs.Row.{has_high_job}
 use Rattle.model.specs.Step.{Model, lowest_late}
 use Rattle.dispatcher.specs.declared.state.State.{State}
@@ -31,7 +31,7 @@ turn-answer-requires-clause-lowest c =
 pub turn-answer-requires-clause-alive : goal.turn-answer-requires-clause-alive
 turn-answer-requires-clause-alive c =
     let p = passed (goal.at.turn-answer-requires-clause-alive c).In-Ok in
-    p.high ∙ ap (λ (m : Model). any has_high_job m.rows) (sym (passed_model _ _ _ _ p))
+    p.high ∙ ap (λ (m : Model). list_any has_high_job m.rows) (sym (passed_model _ _ _ _ p))
 
 whole : (c : After-turn-answer) → ◌≡◌ {A = Ticked} (record { state = c.turn-answer.new.state; answer = c.turn-answer.result }) (tick_of c.args.state c.args.reports.now)
 whole c =
