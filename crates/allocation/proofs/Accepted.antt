@@ -2,13 +2,13 @@
 use Prim.Native.Nat.{ℕ, ◌<◌}
 use mathlib.Core.Path.{◌≡◌, refl, sym, subst}
 use mathlib.Core.Bool.{true, ◌&&◌, not}
-use mathlib.Core.List.{List}
+use mathlib.Core.List.{List, []}
 use native.Mathlib.Omega.{arith}
 use lib.Dec.{leb}
 use lib.ListN.{length}
 use Rattle.sheet.specs.declared.task.Task.{Task}
 use Rattle.sheet.specs.declared.task.TaskSet.{TaskSet}
-use Rattle.std.specs.Prelude.{Ok, Option, None, Some, is_none}
+use Rattle.std.specs.Prelude.{Ok, Option, None, Some, is_none, unwrap_or}
 use Rattle.sheet.specs.declared.refusal.Refusal.TheVariants.{BadHeader, BadRecord, BadFigure, BadMask, NotHeavy, NoFit}
 use Rattle.sheet.specs.Refusal.{refused_if, first_over}
 use Rattle.sheet.specs.Format.{processors_of, count_of, offset_of, length_of, level_at, nodes_at, task_at, tasks_below, task_set_of, task_in, missing_task, zero_task}
@@ -20,7 +20,7 @@ use Rattle.basics.proofs.Cells.{cells-length, cells_at}
 use Rattle.sheet.proofs.Faults.{both_accepted, rule_kept, over_accepted}
 use Rattle.basics.proofs.Logic.{left_true, right_true, all_four, within_bounds}
 use Rattle.shares.specs.declared.share.Share.{Share}
-use Rattle.allocation.specs.Allocation.{chosen_for, share_answer, choice_answer, shares_chosen}
+use Rattle.allocation.specs.Allocation.{chosen_for, share_answer, choice_answer}
 use Rattle.allocation.specs.Lawful.{LawfulTask, LawfulSet}
 
 module _ (s : List ℕ) where
@@ -100,10 +100,10 @@ module _ (s : List ℕ) where
         }
 
 -- The answer on a task set that is accepted comes with a choice.
-pub accepted_choice : (set : TaskSet) → choice_answer set ≡ Ok tt → chosen_for set ≡ Some (shares_chosen (chosen_for set))
+pub accepted_choice : (set : TaskSet) → choice_answer set ≡ Ok tt → chosen_for set ≡ Some (unwrap_or (chosen_for set) [])
 unfolding choice_answer
 accepted_choice set e = go (chosen_for set) (both_accepted (first_over (share_answer set) 0 set.count) _ e).1
   where
-    go : (o : Option (List Share)) → refused_if (is_none o) NoFit ≡ Ok tt → o ≡ Some (shares_chosen o)
+    go : (o : Option (List Share)) → refused_if (is_none o) NoFit ≡ Ok tt → o ≡ Some (unwrap_or o [])
     go None h = absurd (cc)
     go (Some choice) h = refl

@@ -1,6 +1,5 @@
 -- S2: a sheet that is accepted is what is written of its task set. The directory says where the records stand, one
 -- behind the other up to the end, and each part that is read is written as it was.
-use Rattle.std.specs.List.{list_all}
 use Prim.Native.Nat.{ℕ, zero, suc, ◌≤◌, ◌<◌, ◌+◌, ◌-◌, ◌*◌}
 use mathlib.Core.Bool.{true}
 use mathlib.Core.List.{List, ◌++◌, map}
@@ -10,6 +9,7 @@ use lib.Dec.{leb, ltb}
 use lib.ListN.{length, take, drop, take-append-drop}
 use lib.Seq.{drop-length, drop-drop}
 use borrow.Author.Tests.{leb-true, eqb-true}
+use Rattle.std.specs.List.{list_all}
 use Rattle.basics.specs.Lists.{range}
 use Rattle.basics.specs.Numbers.{within}
 use Rattle.basics.proofs.Cells.{cells_taken}
@@ -121,8 +121,8 @@ module _ (s : List ℕ) (accepted : read_answer s ≡ Ok tt) where
   header_fits : (count_of s ≤ 16) × (2 + 4 * count_of s ≤ length s)
   unfolding header_lawful
   header_fits =
-      let list_all = all_four (leb 2 (length s)) (within 1 64 (processors_of s)) (within 1 16 (count_of s)) _ (header_kept s accepted) in
-      ((within_bounds 1 16 (count_of s) list_all.2).1, leb-true (2 + 4 * count_of s) (length s) list_all.3)
+      let all = all_four (leb 2 (length s)) (within 1 64 (processors_of s)) (within 1 16 (count_of s)) _ (header_kept s accepted) in
+      ((within_bounds 1 16 (count_of s) all.2).1, leb-true (2 + 4 * count_of s) (length s) all.3)
 
   place_kept : (i : ℕ) → i < count_of s → offset_of s i ≡ place_of s i
   unfolding place_answer

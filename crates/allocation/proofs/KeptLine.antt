@@ -3,7 +3,7 @@
 use Prim.Native.Nat.{ℕ, ◌+◌, ◌≤◌, ◌<◌}
 use mathlib.Core.Path.{◌≡◌, refl, sym, ap, ◌∙◌, subst, fun_ext}
 use mathlib.Core.Bool.{Bool, true, false, cond}
-use mathlib.Core.List.{List}
+use mathlib.Core.List.{List, []}
 use native.Mathlib.Omega.{arith}
 use lib.Dec.{eqb}
 use lib.ListN.{length, get_or, take}
@@ -21,12 +21,12 @@ use Rattle.shares.proofs.Totals.{total_next, total_part}
 use Rattle.allocation.specs.Blocks.{length_in}
 use Rattle.keeping.specs.Kept.{low_numbers, typical_share_at, kept_tasks, kept_share, with_kept}
 use Rattle.allocation.specs.Lawful.{LawfulSet, LawfulShares}
-use Rattle.allocation.specs.Allocation.{tasks_of, chosen_for, choice_answer, shares_chosen, shares_with, shares_of, sixteen, choice_of}
+use Rattle.allocation.specs.Allocation.{tasks_of, chosen_for, choice_answer, shares_with, shares_of, sixteen, choice_of}
 use Rattle.keeping.specs.Running.{critical_share_at, without}
 use Rattle.keeping.specs.means.Keeping.{kept_line, Keepable}
 use Rattle.allocation.proofs.Laws.{chosen-length, chosen_typical, chosen_critical, chosen_positive, chosen_high}
 use Rattle.allocation.proofs.Accepted.{accepted_choice}
-use Rattle.std.specs.Prelude.{Result, Ok, Err, MatchResult, Some, filter}
+use Rattle.std.specs.Prelude.{Result, Ok, Err, MatchResult, Some, filter, unwrap_or}
 use Rattle.sheet.specs.declared.refusal.Refusal.{Refusal}
 use Rattle.sheet.proofs.Faults.{after_refused, or_else_ok, or_else_err}
 use Rattle.allocation.proofs.Sets.{chosen_line}
@@ -118,7 +118,7 @@ module _ (set : TaskSet) (lawful : LawfulSet set) (choice : List Share) (chosen_
 -- The shares that the tasks of an accepted set get.
 pub accepted_shares : (set : TaskSet) → LawfulSet set → choice_answer set ≡ Ok tt → LawfulShares set (shares_of set)
 unfolding shares_of
-accepted_shares set lawful accepted = shares_lawful set lawful (shares_chosen (chosen_for set)) (accepted_choice set accepted)
+accepted_shares set lawful accepted = shares_lawful set lawful (unwrap_or (chosen_for set) []) (accepted_choice set accepted)
 
 -- The answers of `choose`, by what was selected.
 module _ (set : TaskSet) (lawful : LawfulSet set) where
@@ -128,19 +128,19 @@ module _ (set : TaskSet) (lawful : LawfulSet set) where
 
   -- One that is accepted gets the kept tasks' shares.
   module _ (selected : List Share) (same : chosen_line set ≡ Ok selected) where
-    accepted : (choice_answer set ≡ Ok tt) × (selected ≡ sixteen (shares_chosen (chosen_for set)))
+    accepted : (choice_answer set ≡ Ok tt) × (selected ≡ sixteen (unwrap_or (chosen_for set) []))
     accepted = or_else_ok (choice_answer set) same
 
-    chosen_it : chosen_for set ≡ Some (shares_chosen (chosen_for set))
+    chosen_it : chosen_for set ≡ Some (unwrap_or (chosen_for set) [])
     chosen_it = accepted_choice set accepted.0
 
     pub choice_able : Keepable set.processors set.count selected
-    choice_able = rw accepted.1 (line_able set lawful (shares_chosen (chosen_for set)) chosen_it)
+    choice_able = rw accepted.1 (line_able set lawful (unwrap_or (chosen_for set) []) chosen_it)
 
     pub choice_kept : (shares : List Share) → shares ≡ kept_line set.processors set.count selected → Ok shares ≡ choice_of set
     unfolding choice_of shares_of
     choice_kept shares line =
-        rw (line, accepted.0, accepted.1, line_kept set lawful (shares_chosen (chosen_for set)) chosen_it)
+        rw (line, accepted.0, accepted.1, line_kept set lawful (unwrap_or (chosen_for set) []) chosen_it)
 
 -- What the choice says of the answer.
 pub choice_ok : (set : TaskSet) {shares : List Share} → choice_of set ≡ Ok shares →

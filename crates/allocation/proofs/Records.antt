@@ -86,14 +86,14 @@ module _ (level : ℕ) (f : Figures) where
       let limit = figure_limit level in
       let more : (x : ℕ) → within 1 limit x ≡ true → within 1 (figure_limit (wide_level level)) x ≡ true =
       λ x e. within_more 1 limit (figure_limit (wide_level level)) x (limit_grows level) e in
-      let list_all = all_five (within 1 limit f.deadline) (within 1 limit f.nominal.work) (within 1 limit f.overload.work)
+      let all = all_five (within 1 limit f.deadline) (within 1 limit f.nominal.work) (within 1 limit f.overload.work)
       (within 1 limit f.nominal.span) (within 1 limit f.overload.span) h in
       rw (
-        more f.deadline list_all.0,
-        more f.nominal.work list_all.1,
-        more f.overload.work list_all.2,
-        more f.nominal.span list_all.3,
-        more f.overload.span list_all.4,
+        more f.deadline all.0,
+        more f.nominal.work all.1,
+        more f.overload.work all.2,
+        more f.nominal.span all.3,
+        more f.overload.span all.4,
       )
 
   low_same : low_lawful (wide_level level) f ≡ low_lawful level f

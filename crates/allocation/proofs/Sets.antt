@@ -14,7 +14,7 @@ use lib.Seq.{drop-cons, length-take-le, get_or-take}
 use borrow.Author.Tests.{ltb-true, lt-ltb}
 use Rattle.sheet.specs.declared.task.Task.{Task}
 use Rattle.sheet.specs.declared.task.TaskSet.{TaskSet}
-use Rattle.std.specs.Prelude.{Result, Ok, Err, None}
+use Rattle.std.specs.Prelude.{Result, Ok, Err, None, unwrap_or}
 use Rattle.sheet.specs.declared.refusal.Refusal.{Refusal}
 use Rattle.sheet.specs.declared.refusal.Refusal.TheVariants.{NoShare}
 use Rattle.sheet.specs.Refusal.{Answer, refused_if, ◌or_else◌, first_over}
@@ -29,7 +29,7 @@ use Rattle.shares.proofs.Offers.{offer_at}
 use Rattle.allocation.specs.Choice.{options_of, choices, fits, fitting, chosen}
 use Rattle.shares.specs.Totals.{no_processors}
 use Rattle.keeping.specs.Kept.{with_kept}
-use Rattle.allocation.specs.Allocation.{tasks_of, chosen_for, share_answer, choice_answer, shares_chosen, shares_with, shares_of, sixteen, choice_of}
+use Rattle.allocation.specs.Allocation.{tasks_of, chosen_for, share_answer, choice_answer, shares_with, shares_of, sixteen, choice_of}
 use Rattle.allocation.specs.Lawful.{LawfulTask, LawfulSet}
 use Rattle.allocation.specs.means.Selection.{cell_at, offered, selected, zero_offer, missing_offer, offers_of, offers_none, offer_answer, offers_up_to, selection_of, OfferWithin, OffersWithin}
 use Rattle.basics.proofs.Members.{filter_from, all_member, all-members}
@@ -40,7 +40,7 @@ use Rattle.allocation.proofs.Lines.{table_within, offers_open, offers_length}
 
 -- The answer on a task set beside the choice, before low tasks are kept.
 abbrev pub chosen_line : TaskSet → Result (List Share) Refusal
-chosen_line set = choice_answer set or_else Ok (sixteen (shares_chosen (chosen_for set)))
+chosen_line set = choice_answer set or_else Ok (sixteen (unwrap_or (chosen_for set) []))
 
 -- Where nothing is chosen there are no shares.
 pub none_shares : (set : TaskSet) → chosen_for set ≡ None → shares_of set ≡ []

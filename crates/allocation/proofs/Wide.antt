@@ -22,13 +22,13 @@ use Rattle.keeping.specs.Kept.{low_numbers, kept_tasks}
 use Rattle.shares.specs.declared.share.Share.{Share}
 use Rattle.shares.specs.Deadline.{virtual_deadline_of, remainder_of}
 use Rattle.allocation.specs.Choice.{options_of, fitting, chosen}
-use Rattle.allocation.specs.Allocation.{tasks_of, chosen_for, share_answer, choice_answer, shares_chosen, shares_with, shares_of, allocation_of, no_allocation, allocations_of, allocation_answer, allocations_for, allocated_of}
+use Rattle.allocation.specs.Allocation.{tasks_of, chosen_for, share_answer, choice_answer, shares_with, shares_of, allocation_of, no_allocation, allocations_of, allocation_answer, allocations_for, allocated_of}
 use Rattle.allocation.specs.Lawful.{LawfulSet}
 use Rattle.allocation.specs.Wide.{wide_form, WideRead, WideAllocated}
 use Rattle.allocation.proofs.Accepted.{sheet_lawful}
 use Rattle.allocation.proofs.Directory.{tasks_length}
 use Rattle.allocation.proofs.Sheets.{wide_at, wide_task_lem, wide_read}
-use Rattle.std.specs.Prelude.{Ok}
+use Rattle.std.specs.Prelude.{Ok, unwrap_or}
 use Rattle.reader.proofs.Readings.{read_ok, read_accepted}
 
 -- The wide form of a level is low where the level is.
@@ -106,7 +106,7 @@ module _ (set : TaskSet) (lawful : LawfulSet set) where
 
   shares_wide : shares_of (wide_set set) ≡ shares_of set
   unfolding shares_of
-  shares_wide = rw chosen_for_wide (shares_with_wide (shares_chosen (chosen_for set)))
+  shares_wide = rw chosen_for_wide (shares_with_wide (unwrap_or (chosen_for set) []))
 
   -- Refusals 7 and 8.
   share_answer_wide : (i : ℕ) → i < set.count → share_answer (wide_set set) i ≡ share_answer set i

@@ -1,5 +1,5 @@
 -- What is chosen for a task set, refusals 7 and 8, and what is fixed for each task of a sheet.
-use Rattle.std.specs.Prelude.{ℕ, true, false, List, [], length, get_or, take, Result, Ok, Option, None, Some, is_none}
+use Rattle.std.specs.Prelude.{ℕ, true, false, List, [], length, get_or, take, Result, Ok, Option, is_none, unwrap_or}
 use Rattle.sheet.specs.declared.task.Task.{Task}
 use Rattle.sheet.specs.declared.task.TaskSet.{TaskSet}
 use Rattle.sheet.specs.declared.refusal.Refusal.{Refusal}
@@ -35,11 +35,6 @@ choice_answer set =
     first_over (share_answer set) 0 set.count
     or_else refused_if (is_none (chosen_for set)) NoFit
 
--- The shares of a choice; none have no shares.
-abbrev pub shares_chosen : Option (List Share) → List Share
-shares_chosen None = []
-shares_chosen (Some choice) = choice
-
 -- The shares as a line of sixteen, with zeros in the place of the tasks that are not there.
 unfoldable pub sixteen : List Share → List Share
 sixteen shares = cells 16 (λ i. get_or shares i no_processors) no_processors (length shares)
@@ -50,7 +45,7 @@ shares_with set choice = with_kept (kept_tasks set.processors (tasks_of set) cho
 
 -- S5.3 and S5.6: the shares that the tasks of a set get; none where nothing is chosen.
 unfoldable pub shares_of : TaskSet → List Share
-shares_of set = shares_with set (shares_chosen (chosen_for set))
+shares_of set = shares_with set (unwrap_or (chosen_for set) [])
 
 -- S5.3, S5.6 and S3.3: what a task set is answered: refusal 7 or 8, or the shares that its tasks get, as a line of
 -- sixteen.

@@ -39,7 +39,7 @@ pub all_fails : (k : ℕ) (p : ℕ → Bool) (v : ℕ) → v < k → p v ≡ fal
 all_fails k p v l e = go (all_below k p) refl
   where
     go : (t : Bool) → all_below k p ≡ t → t ≡ false
-    go true list_all = cc (all_at k p list_all v l)
+    go true all = cc (all_at k p all v l)
     go false some = refl
 
 -- One more number.

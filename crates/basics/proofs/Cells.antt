@@ -77,20 +77,20 @@ module _ {A : Type 0} (f : ℕ → A) (none : A) where
   cells_past size count j past = cells_past_from size 0 count j (omega arith)
 
   -- What an empty cell and what f gives keep, each cell keeps.
-  cells-filter_from : (P : A → Type 0) (size first count j : ℕ) → P none → ((v : ℕ) → first + j ≡ v → P (f v)) →
+  cells-keep_from : (P : A → Type 0) (size first count j : ℕ) → P none → ((v : ℕ) → first + j ≡ v → P (f v)) →
       P (get_or (cells_from first size f none count) j none)
   unfolding cells_from
-  cells-filter_from P zero first count j empty full = empty
-  cells-filter_from P (suc size) first count zero empty full = go (ltb first count)
+  cells-keep_from P zero first count j empty full = empty
+  cells-keep_from P (suc size) first count zero empty full = go (ltb first count)
     where
       go : (t : Bool) → P (cond t (f first) none)
       go true = full first (omega arith)
       go false = empty
-  cells-filter_from P (suc size) first count (suc j) empty full = cells-filter_from P size (suc first) count j empty (λ v e. full v (omega arith))
+  cells-keep_from P (suc size) first count (suc j) empty full = cells-keep_from P size (suc first) count j empty (λ v e. full v (omega arith))
 
-  pub cells-filter : (P : A → Type 0) (size count j : ℕ) → P none → P (f j) → P (get_or (cells size f none count) j none)
-  cells-filter P size count j empty full =
-      cells-filter_from P size 0 count j empty (λ v e. let same : j ≡ v = omega arith in rw (← same) full)
+  pub cells-keep : (P : A → Type 0) (size count j : ℕ) → P none → P (f j) → P (get_or (cells size f none count) j none)
+  cells-keep P size count j empty full =
+      cells-keep_from P size 0 count j empty (λ v e. let same : j ≡ v = omega arith in rw (← same) full)
 
   -- Where all cells are filled they are what f gives in turn.
   pub cells_full : (first size count : ℕ) → first + size ≤ count → cells_from first size f none count ≡ map f (range first size)

@@ -1,6 +1,5 @@
--- Counts of the numbers that pass a test, and the s lowest of them: as a list they are the first s of `keep`, as a
--- test those with fewer than s passing below. By induction on the range, its start free.
-use Rattle.std.specs.Prelude.{filter}
+-- Counts of the numbers that pass a test, and the s lowest of them: as a list they are the first s of `filter`, as
+-- a test those with fewer than s passing below. By induction on the range, its start free.
 use Prim.Native.Nat.{ℕ, zero, suc, ◌+◌, ◌-◌, ◌≤◌, ◌<◌}
 use mathlib.Core.Path.{◌≡◌, refl, sym, ap, ap₂, ◌∙◌}
 use mathlib.Core.Bool.{Bool, true, false, ◌&&◌}
@@ -11,6 +10,7 @@ use borrow.Author.Tests.{ltb-true, ltb-false}
 use lib.Dec.{ltb}
 use lib.ListN.{length, take}
 use lib.Seq.{take-nil}
+use Rattle.std.specs.Prelude.{filter}
 use Rattle.basics.specs.Lists.{range, kept_if, bit, count}
 
 -- One number more.
@@ -37,7 +37,7 @@ count_mono p u v h =
     let e : u + (v - u) ≡ v = omega arith in
     rw e at (count_add p u (v - u))
 
--- The length of a keep, from any start.
+-- The length of a filtered list, from any start.
 pub length_kept_bit : (t : Bool) (x : ℕ) (xs : List ℕ) → length (kept_if t x xs) ≡ bit t + length xs
 length_kept_bit true x xs = omega arith
 length_kept_bit false x xs = sym (zero-add (length xs))

@@ -1,5 +1,5 @@
--- Laws of `range`, `keep`, `each` and `any`: lengths, elements, and tests that agree. By induction on the list or on
--- the count of the range.
+-- Laws of `range`, `filter`, `flat_map` and `list_any`: lengths, elements, and tests that agree. By induction on the list
+-- or on the count of the range.
 use Rattle.std.specs.List.{list_any}
 use Rattle.std.specs.Prelude.{filter, flat_map}
 use Prim.Native.Nat.{ℕ, zero, suc, ◌+◌, ◌≤◌, ◌<◌}

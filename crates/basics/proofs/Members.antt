@@ -1,11 +1,11 @@
 -- What the members of an enumerated list are, by induction on the list.
-use Rattle.std.specs.List.{list_all}
 use Prim.Native.Nat.{ℕ, zero, suc, ◌+◌, ◌≤◌, ◌<◌}
 use mathlib.Core.Path.{◌≡◌, refl, sym, ap, ◌∙◌, subst}
 use mathlib.Core.Logic.{◌⊎◌, inl, inr, ◌≢◌}
 use mathlib.Core.Bool.{Bool, true, false, cond, ◌&&◌, false≢true}
 use mathlib.Core.List.Memᴰ
 use mathlib.Core.List.{List, [], ◌∷◌, ◌++◌, map, Memᴰ}
+use Rattle.std.specs.List.{list_all}
 use Rattle.std.specs.Prelude.{None, Some, filter, flat_map, find}
 use native.Mathlib.Omega.{arith}
 use lib.Arith.{lt_of_le-ne}

@@ -23,13 +23,15 @@ tick_answer (switched i) = Switched i
 tick_answer returned = Returned
 tick_answer (refused r) = TickRefused r
 
--- S3.1: what Release, Board and Tick return: an answer beside the state.
+-- S8.4: what Release returns: an answer beside the state.
 abbrev pub Released : Type 0
 Released = Answered Answer
 
+-- S8.8: what Board returns.
 abbrev pub Boarded : Type 0
 Boarded = Answered Answer
 
+-- S8.7: what Tick returns.
 abbrev pub Ticked : Type 0
 Ticked = Answered TickAnswer
 

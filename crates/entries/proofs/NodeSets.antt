@@ -1,6 +1,5 @@
 -- Sets of nodes as the code keeps them: a subset, all nodes ended, the ready nodes gathered one by one, and the lowest
 -- of them.
-use Rattle.std.specs.Prelude.{filter}
 use Prim.Native.Nat.{ℕ, suc, ◌+◌, ◌-◌, ◌≤◌, ◌<◌, ◌^◌, min}
 use mathlib.Core.Path.{◌≡◌, sym, ap, ◌∙◌}
 use mathlib.Core.Bool.{Bool, true, false, not, ◌&&◌, and_comm}
@@ -11,6 +10,7 @@ use native.Mathlib.Omega.{arith}
 use borrow.Author.Tests.{lt-ltb}
 use lib.Bits.{bit_and}
 use lib.ListN.{take}
+use Rattle.std.specs.Prelude.{filter}
 use Rattle.basics.specs.Lists.{range, kept_if}
 use Rattle.nodes.specs.Sets.{has, members, set_of, is_within}
 use Rattle.nodes.proofs.Bits.{has-without, has_ext}

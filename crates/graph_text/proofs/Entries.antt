@@ -1,9 +1,9 @@
 -- Entries read one after the other are the definition's: each node with the predecessors that its numerals name, and all of them held
 -- at their places.
-use Rattle.std.specs.List.{list_all}
 use Prim.Native.Nat.{ℕ, zero, suc, ◌-◌, ◌≤◌, ◌<◌, ◌^◌, min}
 use mathlib.Core.Bool.{Bool, true, false, cond, ◌&&◌, and_assoc, or_assoc, and-true, true≢false}
 use mathlib.Core.List.{List, [], ◌∷◌}
+use Rattle.std.specs.List.{list_all}
 use Rattle.std.specs.Prelude.{Option, None, Some}
 use mathlib.Core.Path.{◌≡◌, refl, sym, ap, ap₂, ◌∙◌}
 use native.Mathlib.Omega.{arith}

@@ -16,14 +16,16 @@ use Rattle.dispatcher.specs.declared.state.State.{State}
 use Rattle.entries.specs.Entry.{row_of}
 use Rattle.dispatcher.specs.Holds.{entries_of, model_of}
 use Rattle.dispatcher.proofs.Entries.{entry_at, entries_length, left_next, left_none}
-use Rattle.std.specs.Prelude.{Ok, Err}
-use Rattle.dispatcher.specs.Answers.{Released}
+use Rattle.std.specs.Prelude.{Ok, Err, unwrap_or}
+use Rattle.dispatcher.specs.Answers.{Released, tick_number, tick_task}
+use Rattle.sheet.specs.Refusal.{no_task}
+use Rattle.dispatcher.specs.declared.tick.TickAnswer.{TickAnswer}
 use Rattle.dispatcher.specs.declared.tick.TickAnswer.TheVariants.{Ran, Switched, Returned, Refused as TickRefused}
 use Rattle.dispatcher.specs.Calls.{release_of}
 use Rattle.guarantee.specs.Record.{Turn}
 use Rattle.guarantee.specs.Runs.{Said, released, ticked}
 use Rattle.basics.specs.Numbers.{u32_bytes}
-use Rattle.guarantee.specs.Record.{outcome_of, outcome_number, outcome_refusal, outcome_task, said_number, said_task, task_bytes, rows_bytes, model_bytes, record_of, turn_of, turn_bytes}
+use Rattle.guarantee.specs.Record.{outcome_of, outcome_number, refusal_number, named_task, said_number, said_task, task_bytes, rows_bytes, model_bytes, record_of, turn_of, turn_bytes}
 
 pub u32_length : (x : ℕ) → length (u32_bytes x) ≡ 4
 unfolding u32_bytes
@@ -63,16 +65,29 @@ pub state_stored : (out : List ℕ) (at mode : ℕ) (m : Model) → mode ≡ bit
 unfolding model_bytes
 state_stored out at mode m e = rw (e, add-one at)
 
+-- As bytes: 0 where there is no refusal, and 255 where there is no task.
+refusal_byte : (a : TickAnswer) → unwrap_or (refusal_number a) 0 ≡ tick_number a
+refusal_byte Ran = refl
+refusal_byte (Switched i) = refl
+refusal_byte Returned = refl
+refusal_byte (TickRefused r) = refl
+
+task_byte : (a : TickAnswer) → unwrap_or (named_task a) no_task ≡ tick_task a
+task_byte Ran = refl
+task_byte (Switched i) = refl
+task_byte Returned = refl
+task_byte (TickRefused r) = refl
+
 -- The record of a turn.
 pub turn_stored : (out : List ℕ) (at : ℕ) (t : Turn) {number refusal task : ℕ} → number ≡ outcome_number t.answer →
-    refusal ≡ outcome_refusal t.answer → task ≡ outcome_task t.answer →
+    refusal ≡ unwrap_or (refusal_number t.answer) 0 → task ≡ unwrap_or (named_task t.answer) no_task →
     sets (set (set (set out at number) (at + 1) refusal) (at + 2) task) (at + 3) (model_bytes (model_of t.state)) ≡ sets out at (turn_bytes t)
 unfolding turn_bytes
 turn_stored out at t number_is refusal_is task_is =
     let one : at + 1 ≡ suc at = omega arith in
     let two : at + 2 ≡ suc (suc at) = omega arith in
     let three : at + 3 ≡ suc (suc (suc at)) = omega arith in
-    rw (number_is, refusal_is, task_is, one, two, three)
+    rw (number_is, refusal_is, task_is, refusal_byte t.answer, task_byte t.answer, one, two, three)
 
 -- On the way through a state's tasks: what is written, with what is left to write, is the whole.
 pub record Putting (whole : List ℕ) (bytes : ℕ) (s : State) (start : ℕ) (out : List ℕ) (i : ℕ) : Type 0 where
@@ -117,10 +132,7 @@ unfolding turn_of
 turn_released s i r e = ap (λ (x : Released). record { state = x.state; answer = outcome_of (released x.answer) }) e
 
 -- An outcome says the number and the task of the answer.
-pub outcome_said : (said : Said) → (outcome_refusal (outcome_of said) ≡ said_number said) × (outcome_task (outcome_of said) ≡ said_task said)
+pub outcome_said : (said : Said) → (tick_number (outcome_of said) ≡ said_number said) × (tick_task (outcome_of said) ≡ said_task said)
 outcome_said (released (Ok x)) = (refl, refl)
 outcome_said (released (Err r)) = (refl, refl)
-outcome_said (ticked Ran) = (refl, refl)
-outcome_said (ticked (Switched i)) = (refl, refl)
-outcome_said (ticked Returned) = (refl, refl)
-outcome_said (ticked (TickRefused r)) = (refl, refl)
+outcome_said (ticked a) = (refl, refl)

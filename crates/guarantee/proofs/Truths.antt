@@ -1,7 +1,6 @@
 -- What S10.5, S10.9 and S10.10 ask of a run, by tests that compute. Reports are true if each accepted tick reports just the set of
 -- nodes whose length is reached with it; a mode that is typical throughout is so until any tick; and what holds at each accepted
 -- Release of a run holds of every job in it.
-use Rattle.std.specs.Prelude.{filter}
 use Prim.Native.Nat.{ℕ, ◌+◌}
 use mathlib.Core.Path.{◌≡◌, refl, sym, ap, subst, ◌∙◌}
 use mathlib.Core.Bool.{Bool, true, false, cond, not, ◌&&◌, ◌||◌, true≢false, and-eq-true_iff}
@@ -11,6 +10,7 @@ use native.Mathlib.Omega.{arith}
 use borrow.Author.Tests.{eqb-true, not-true}
 use lib.Dec.{eqb, ltb}
 use lib.ListN.{get_or}
+use Rattle.std.specs.Prelude.{filter}
 use Rattle.basics.specs.Lists.{range}
 use Rattle.nodes.specs.Sets.{has, set_of}
 use Rattle.nodes.proofs.Members.{has-set_of-filter}

@@ -1,8 +1,8 @@
 -- S12.2: what Replay writes for a call: its answer, and what the state then holds, in 4 + 9n bytes.
-use Rattle.std.specs.Prelude.{ℕ, List, [], ◌∷◌, ◌++◌, Ok, Err, Option, Some, None, unwrap_or}
+use Rattle.std.specs.Prelude.{ℕ, List, [], ◌∷◌, ◌++◌, Ok, Err, Option, Some, None}
 use Rattle.basics.specs.Lists.{bit}
 use Rattle.basics.specs.Numbers.{u32_bytes}
-use Rattle.sheet.specs.Refusal.{Answer, no_task, number, task, number_of, task_of}
+use Rattle.sheet.specs.Refusal.{Answer, number, task, number_of, task_of}
 use Rattle.model.specs.Row.{Row}
 use Rattle.model.specs.Step.{Model, Call}
 use Rattle.dispatcher.specs.declared.state.State.{State}
@@ -33,13 +33,6 @@ named_task Ran = None
 named_task (Switched i) = Some i
 named_task (Refused r) = task r
 named_task Returned = None
-
--- S12.2: as bytes: 0 where there is no refusal, and 255 where there is no task.
-abbrev pub outcome_refusal : TickAnswer → ℕ
-outcome_refusal outcome = unwrap_or (refusal_number outcome) 0
-
-abbrev pub outcome_task : TickAnswer → ℕ
-outcome_task outcome = unwrap_or (named_task outcome) no_task
 
 -- S12.2: the outcome of a call, by its answer. A Release ends as a tick that ran, or that was refused.
 abbrev pub outcome_of : Said → TickAnswer
@@ -88,4 +81,4 @@ turn_of s c = record { state = state_of s c; answer = outcome_of (said_of s c) }
 
 -- S12.2: the record that is then written.
 unfoldable pub turn_bytes : Turn → List ℕ
-turn_bytes t = outcome_number t.answer ∷ outcome_refusal t.answer ∷ outcome_task t.answer ∷ model_bytes (model_of t.state)
+turn_bytes t = outcome_number t.answer ∷ tick_number t.answer ∷ tick_task t.answer ∷ model_bytes (model_of t.state)

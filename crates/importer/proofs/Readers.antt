@@ -1,8 +1,8 @@
 -- S14.8: the record of an accepted import can be held and is read back as its task, whose level, nodes, figures and masks are lawful.
-use Rattle.std.specs.List.{list_all}
 use Prim.Native.Nat.{ℕ, zero, suc, ◌+◌, ◌*◌, ◌<◌, ◌^◌}
 use mathlib.Core.Bool.{Bool, true, false, cond, not, ◌&&◌, ◌||◌}
 use mathlib.Core.List.{List, ◌++◌}
+use Rattle.std.specs.List.{list_all}
 use Rattle.std.specs.Prelude.{Option}
 use mathlib.Core.Path.{◌≡◌, refl, sym, ap, ◌∙◌}
 use native.Mathlib.Omega.{arith}

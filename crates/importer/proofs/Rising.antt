@@ -1,5 +1,4 @@
 -- S14.4 and S2.12: where each entry names only lower ones, the mask of node v lies below 2 ^ v.
-use Rattle.std.specs.List.{list_all}
 use Prim.Native.Nat.{ℕ, zero, suc, ◌+◌, ◌<◌, ◌^◌}
 use mathlib.Core.Bool.{Bool, true, false, ◌||◌, false≢true}
 use mathlib.Core.List.{List, [], ◌∷◌}
@@ -9,9 +8,10 @@ use lib.Dec.{eqb, ltb}
 use lib.ListN.{get_or}
 use lib.Pow.{pow_pos}
 use borrow.Author.Tests.{eqb-true, ltb-true}
+use Rattle.std.specs.List.{list_all}
 use Rattle.basics.specs.Lists.{is_in}
 use Rattle.basics.proofs.Logic.{left_true, right_true}
-use Rattle.basics.proofs.Cells.{cells-filter}
+use Rattle.basics.proofs.Cells.{cells-keep}
 use Rattle.nodes.proofs.Bits.{below_of_has}
 use Rattle.nodes.proofs.Members.{has-set_of-filter}
 use Rattle.model.specs.Row.{predecessors_of}
@@ -52,4 +52,4 @@ pub rising_lower : (g : Graph) → is_rising g ≡ true → LowerOnly (masks_of 
 unfolding LowerOnly predecessors_of masks_of is_rising node_of
 rising_lower g h v l =
     let mask = mask_below v (node_of g v).predecessors (rising_at g.entries 0 (suc v) (suc v) (omega arith) h) in
-    cells-filter (λ u. mask_of (node_of g u).predecessors) 0 (λ x. x < 2 ^ v) 32 g.count v (pow_pos v) mask
+    cells-keep (λ u. mask_of (node_of g u).predecessors) 0 (λ x. x < 2 ^ v) 32 g.count v (pow_pos v) mask

@@ -1,7 +1,6 @@
 -- Keeping the least shares first is right. The tasks are split by a share and a number: those up to it are in, those
 -- beyond it are out. Against any other set each task that is in alone takes no more than that share, and each that is
 -- out alone no less, so that the split comes no later in the order of the sets than any set that can be held.
-use Rattle.std.specs.Prelude.{filter}
 use Prim.Native.Nat.{ℕ, zero, suc, ◌+◌, ◌-◌, ◌≤◌, ◌<◌}
 use mathlib.Core.Path.{◌≡◌, refl, sym, ap, subst}
 use mathlib.Core.Logic.{◌⊎◌, inl, inr}
@@ -12,10 +11,11 @@ use native.Mathlib.Decide.{dec_le}
 use lib.Dec.{leb}
 use lib.ListN.{length}
 use borrow.Author.Tests.{leb-true, le-leb}
+use Rattle.std.specs.Prelude.{filter, Option, unwrap_or}
 use Rattle.basics.specs.Lists.{kept_if}
 use Rattle.basics.proofs.Members.{filter-has, filter_from}
 use Rattle.basics.specs.Order.{no_later}
-use Rattle.keeping.specs.Kept.{subsets, processors_for, holdable, kept_rank, set_found, first_held}
+use Rattle.keeping.specs.Kept.{subsets, processors_for, holdable, kept_rank, first_held}
 use Rattle.basics.proofs.Order.{no_later_if, least_is}
 use Rattle.keeping.proofs.Parts.{Part, nothing, taken, left, part_subset, subset_part, part_length, part_member, filter_part, Rising}
 
@@ -228,5 +228,5 @@ module _ (share : ℕ → ℕ) (test : ℕ → Bool) where
     pub first_held_lem : first_held share room numbers ≡ filter test numbers
     unfolding first_held
     first_held_lem =
-        ap set_found
+        ap (λ (o : Option (List ℕ)). unwrap_or o [])
         (least_is (kept_rank share numbers) (λ c d e. cc) (holdable share room numbers) (filter test numbers) split_held split_first)

@@ -6,7 +6,7 @@ use mathlib.Core.Logic.{◌⊎◌, inl, inr}
 use mathlib.Core.Bool.{Bool, true, false, cond}
 use mathlib.Core.List.Memᴰ
 use mathlib.Core.List.{List, [], ◌∷◌, map, Memᴰ}
-use Rattle.std.specs.Prelude.{Option, None, Some}
+use Rattle.std.specs.Prelude.{Option, None, Some, unwrap_or}
 use native.Mathlib.Omega.{arith}
 use native.Mathlib.Decide.{dec_lt}
 use lib.ListN.{length, get_or, take, length-map, get_or-eq_default}
@@ -23,7 +23,7 @@ use Rattle.shares.specs.declared.share.Share.{Share}
 use Rattle.shares.specs.Totals.{no_processors, share_at, share_in, share_total, typical_total, critical_total}
 use Rattle.shares.proofs.Totals.{total_same}
 use Rattle.basics.specs.Order.{no_later, least_by}
-use Rattle.keeping.specs.Kept.{low_numbers, subsets, processors_for, holdable, kept_rank, set_found, first_held, typical_share_at, left_over, kept_tasks, kept_share, with_kept}
+use Rattle.keeping.specs.Kept.{low_numbers, subsets, processors_for, holdable, kept_rank, first_held, typical_share_at, left_over, kept_tasks, kept_share, with_kept}
 use Rattle.keeping.specs.KeptSet.{LowSet, HeldSet, BestKept, KeptShares}
 use Rattle.basics.proofs.Order.{no_later_then, least_member, least_first, least_none}
 use Rattle.keeping.proofs.Parts.{Part, nothing, taken, left, part_subset, subset_part, part_length, part_member, part_rising, filter_part, Rising, range_rising, rising_part, neighbours_rising, rising_neighbours, is_in_lem, in_is}
@@ -48,9 +48,9 @@ module _ (share : ℕ → ℕ) (room : ℕ) (numbers : List ℕ) where
   found_held = go (least_by (kept_rank share numbers) (holdable share room numbers)) refl
     where
       go : (o : Option (List ℕ)) → least_by (kept_rank share numbers) (holdable share room numbers) ≡ o →
-          Memᴰ (set_found o) (holdable share room numbers)
+          Memᴰ (unwrap_or o []) (holdable share room numbers)
           × ((set : List ℕ) → Memᴰ set (holdable share room numbers) →
-          no_later (kept_rank share numbers (set_found o)) (kept_rank share numbers set) ≡ true)
+          no_later (kept_rank share numbers (unwrap_or o [])) (kept_rank share numbers set) ≡ true)
       go None e =
           absurd (Memᴰ.not-nil
           (subst (Memᴰ []) (least_none (kept_rank share numbers) (holdable share room numbers) e) none_held_lem))

@@ -1,6 +1,5 @@
 -- Sets of numbers as parts of a list: each number of the list is in or not. Every set that is enumerated is a part and
 -- every part is enumerated; a rising list of members of a rising list is a part; what a test keeps is one.
-use Rattle.std.specs.Prelude.{filter}
 use Prim.Native.Nat.{ℕ, zero, suc, ◌+◌, ◌≤◌, ◌<◌}
 use mathlib.Core.Path.{◌≡◌, refl, sym, ◌∙◌, subst}
 use mathlib.Core.Logic.{◌⊎◌, inl, inr}
@@ -11,6 +10,7 @@ use native.Mathlib.Omega.{arith}
 use lib.Dec.{eqb}
 use lib.ListN.{length, get_or}
 use borrow.Author.Tests.{eqb-true, eq-eqb}
+use Rattle.std.specs.Prelude.{filter}
 use Rattle.basics.specs.Lists.{range, kept_if, is_in}
 use Rattle.basics.proofs.Members.{map-has, map_from, range-within}
 use Rattle.keeping.specs.Kept.{subsets}

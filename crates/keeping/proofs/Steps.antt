@@ -1,6 +1,5 @@
 -- The least shares are kept first, one task after the other: what is kept after each step is a split of the tasks
 -- without a critical share, and where no more can be kept it is the first of the sets that can be held.
-use Rattle.std.specs.Prelude.{filter}
 use Prim.Native.Nat.{ℕ, ◌+◌, ◌-◌, ◌≤◌, ◌<◌}
 use mathlib.Core.Path.{◌≡◌, refl, sym, ap, ◌∙◌}
 use mathlib.Core.Logic.{◌⊎◌, inl, inr}
@@ -13,6 +12,7 @@ use lib.Dec.{eqb}
 use lib.ListN.{length, get_or, set, take, length-set}
 use lib.Seq.{ext_get_or, get_or-set_same, get_or-set_other}
 use borrow.Author.Tests.{eq-eqb, ne_eqb}
+use Rattle.std.specs.Prelude.{filter}
 use Rattle.basics.specs.Lists.{range, kept_if, is_in}
 use Rattle.basics.proofs.Logic.{bool_ext}
 use Rattle.basics.proofs.Lists.{filter_agree, filter_none}

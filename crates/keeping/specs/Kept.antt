@@ -1,6 +1,6 @@
 -- S5.6 by enumeration: the low tasks that are kept in the critical mode, on the processors that the high tasks leave
 -- over.
-use Rattle.std.specs.Prelude.{ℕ, ◌+◌, ◌-◌, cond, List, [], ◌∷◌, ◌++◌, map, leb, length, get_or, Option, None, Some, filter}
+use Rattle.std.specs.Prelude.{ℕ, ◌+◌, ◌-◌, cond, List, [], ◌∷◌, ◌++◌, map, leb, length, get_or, filter, unwrap_or}
 use Rattle.sheet.specs.declared.task.Task.{Task}
 use Rattle.sheet.specs.Format.{missing_task}
 use Rattle.sheet.specs.Level.{is_low}
@@ -32,14 +32,9 @@ holdable share left numbers = filter (λ set. leb (processors_for share set) lef
 abbrev pub kept_rank : (ℕ → ℕ) → List ℕ → List ℕ → List ℕ
 kept_rank share numbers set = (length numbers - length set) ∷ processors_for share set ∷ set
 
--- A set that was found; no task where none was.
-abbrev pub set_found : Option (List ℕ) → List ℕ
-set_found None = []
-set_found (Some set) = set
-
--- S5.6: the first of the sets that so many processors can hold.
+-- S5.6: the first of the sets that so many processors can hold; no task where there is none.
 unfoldable pub first_held : (ℕ → ℕ) → ℕ → List ℕ → List ℕ
-first_held share left numbers = set_found (least_by (kept_rank share numbers) (holdable share left numbers))
+first_held share left numbers = unwrap_or (least_by (kept_rank share numbers) (holdable share left numbers)) []
 
 -- The typical share of task i.
 unfoldable pub typical_share_at : List Share → ℕ → ℕ

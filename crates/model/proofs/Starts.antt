@@ -1,6 +1,5 @@
 -- S8.2 and S8.3: a node starts only when each of its predecessors has ended: the test of `is_ready` by sets, read bit
 -- by bit.
-use Rattle.std.specs.Prelude.{filter}
 use Prim.Native.Nat.{ℕ, ◌+◌, ◌≤◌, ◌<◌, min}
 use mathlib.Core.Path.{◌≡◌, sym, ap, ap₂, subst, ◌∙◌}
 use mathlib.Core.Bool.{Bool, true, not, ◌&&◌, and-eq-true_iff}
@@ -10,6 +9,7 @@ use borrow.Author.Tests.{eqb-true, eq-eqb, not-true, ltb-true, lt-ltb}
 use lib.Bits.{bit_and}
 use lib.Dec.{ltb}
 use lib.ListN.{length, length-take}
+use Rattle.std.specs.Prelude.{filter}
 use Rattle.basics.specs.Lists.{range, count}
 use Rattle.nodes.specs.Sets.{has}
 use Rattle.nodes.proofs.Bits.{has_and, within_and, within_antisymm}

@@ -1,10 +1,10 @@
 -- Worked facts by computation: the definitions on small models.
-use Rattle.std.specs.Prelude.{filter}
 use Prim.Native.Nat.{ℕ}
 use mathlib.Core.Path.{◌≡◌, refl}
 use mathlib.Core.Bool.{Bool, true, false}
 use mathlib.Core.List.{List, [], ◌∷◌, ◌++◌}
 use lib.ListN.{replicate, get_or}
+use Rattle.std.specs.Prelude.{filter}
 use Rattle.basics.specs.Lists.{range}
 use Rattle.nodes.specs.Sets.{has}
 use Rattle.sheet.specs.Level.{is_high, is_low}

@@ -1,7 +1,6 @@
 -- Sets and the lists of their members: `members` and `set_of` undo each other, and `members` of each operation on
 -- words is a `keep` of the joined tests. Each law of `set_of` follows from one halving step, `set_of_next`, and the
 -- rest from the bits.
-use Rattle.std.specs.Prelude.{filter}
 use Prim.Native.Nat.{ℕ, zero, suc, ◌+◌, ◌-◌, ◌*◌, ◌/◌, ◌%◌, ◌^◌, ◌<◌}
 use mathlib.Core.Path.{◌≡◌, refl, sym, ap, ap₂, ◌∙◌}
 use mathlib.Core.Logic.{◌⊎◌, inl, inr}
@@ -15,6 +14,7 @@ use lib.Count.{ones, ones_step}
 use lib.Dec.{eqb, ltb, leb-zero, leb-suc-zero, leb-suc-suc}
 use lib.ListN.{length, length-map, take}
 use lib.Pow.{ones_lt}
+use Rattle.std.specs.Prelude.{filter}
 use Rattle.basics.specs.Lists.{range, kept_if, bit, count}
 use Rattle.nodes.specs.Sets.{has, members, set_of}
 use Rattle.nodes.proofs.Bits.{digit_cases, has_first, has_next, has_zero, has_ones, has_ext}

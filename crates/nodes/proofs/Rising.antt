@@ -1,6 +1,5 @@
 -- Rising lists of numbers below k are the lists of members: each is `keep` of being in it, so `members k (set_of vs)`
 -- is vs.
-use Rattle.std.specs.Prelude.{filter}
 use Prim.Native.Nat.{ℕ, zero, suc, ◌+◌, ◌^◌, ◌≤◌, ◌<◌}
 use mathlib.Core.Path.{◌≡◌, refl, sym, ap, ap₂, ◌∙◌}
 use mathlib.Core.Bool.{Bool, true, false, ◌||◌}
@@ -10,6 +9,7 @@ use native.Mathlib.Omega.{arith}
 use borrow.Author.Tests.{eq-eqb, ne_eqb}
 use lib.Dec.{eqb}
 use lib.ListN.{take}
+use Rattle.std.specs.Prelude.{filter}
 use Rattle.basics.specs.Lists.{range, kept_if}
 use Rattle.nodes.specs.Sets.{members, set_of}
 use Rattle.basics.proofs.Lists.{filter_ext, filter_none}

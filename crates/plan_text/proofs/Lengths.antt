@@ -1,11 +1,11 @@
 -- How long lines are: a number below 10 ^ k has at most k digits, so that sixteen lines of a plan fit a text.
-use Rattle.std.specs.Prelude.{flat_map}
 use Prim.Native.Nat.{ℕ, zero, suc, ◌+◌, ◌*◌, ◌/◌, ◌%◌, ◌^◌, ◌≤◌, ◌<◌}
 use mathlib.Core.List.{List, [], ◌∷◌}
 use native.Mathlib.Decide.{dec_lt}
 use native.Mathlib.Nat.{div-lt_iff_lt-mul, pow-suc}
 use native.Mathlib.Omega.{arith}
 use lib.ListN.{length, length-append}
+use Rattle.std.specs.Prelude.{flat_map}
 use Rattle.basics.specs.Lists.{range}
 use Rattle.basics.specs.Digits.{digit}
 use Rattle.plan_text.specs.Decimal.{decimal}

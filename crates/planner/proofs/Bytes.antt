@@ -1,11 +1,11 @@
 -- What each task gives, one task after the other.
-use Rattle.std.specs.Prelude.{flat_map}
 use Prim.Native.Nat.{ℕ, zero, suc, ◌+◌, ◌*◌}
 use mathlib.Core.Path.{◌≡◌, sym, ap, ◌∙◌}
 use mathlib.Core.List.{List, ◌++◌, append_assoc, append-nil}
 use native.Mathlib.Numerals.{add-one}
 use native.Mathlib.Omega.{arith}
 use lib.ListN.{length, length-append}
+use Rattle.std.specs.Prelude.{flat_map}
 use Rattle.basics.specs.Lists.{range}
 
 -- The bytes of one task more.

@@ -1,5 +1,4 @@
 -- The parts of a plan, task after task: the bytes of one more task stand behind those of the tasks before it.
-use Rattle.std.specs.Prelude.{flat_map}
 use Prim.Native.Nat.{ℕ, ◌+◌, ◌*◌}
 use mathlib.Core.Path.{◌≡◌, refl, sym, ap, ◌∙◌}
 use mathlib.Core.Bool.{Bool}
@@ -7,6 +6,7 @@ use mathlib.Core.List.{List, [], ◌∷◌}
 use native.Mathlib.Omega.{arith}
 use lib.ListN.{length}
 use lib.Seq.{sets}
+use Rattle.std.specs.Prelude.{flat_map}
 use Rattle.basics.specs.Numbers.{u32_bytes}
 use Rattle.basics.specs.Lists.{range}
 use Rattle.basics.proofs.Bytes.{sets-append}

@@ -1,5 +1,4 @@
 -- A record that is written is read back: its figures by their places, and the masks one by one.
-use Rattle.std.specs.List.{list_all}
 use Prim.Native.Nat.{ℕ, zero, suc, ◌≤◌, ◌<◌, ◌+◌, ◌*◌, ◌-◌, ◌/◌, ◌%◌, ◌^◌}
 use mathlib.Core.Bool.{Bool, true, false, cond}
 use mathlib.Core.List.{List, [], ◌∷◌, ◌++◌}
@@ -9,6 +8,7 @@ use native.Mathlib.Nat.{mod-lt}
 use lib.Dec.{ltb}
 use lib.ListN.{length, get_or, replicate}
 use borrow.Author.Tests.{ltb-true}
+use Rattle.std.specs.List.{list_all}
 use Rattle.basics.specs.Lists.{cells_from}
 use Rattle.sheet.specs.declared.task.Task.{Task}
 use Rattle.basics.specs.Numbers.{byte_at, u16_at, u32_at, u16_bytes, u32_bytes}

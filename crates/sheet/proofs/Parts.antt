@@ -1,5 +1,4 @@
 -- The parts of a list of bytes that a record is read from: figures, masks and the whole are written as they were.
-use Rattle.std.specs.List.{list_all}
 use Prim.Native.Nat.{ℕ, zero, suc, ◌≤◌, ◌+◌, ◌*◌}
 use mathlib.Core.Bool.{Bool, true, false, cond}
 use mathlib.Core.List.{List, ◌∷◌, ◌++◌}
@@ -8,6 +7,7 @@ use native.Mathlib.Omega.{arith}
 use lib.Dec.{ltb}
 use lib.ListN.{length}
 use borrow.Author.Tests.{lt-ltb}
+use Rattle.std.specs.List.{list_all}
 use Rattle.basics.specs.Lists.{cells_from}
 use Rattle.basics.specs.Numbers.{u32_at}
 use Rattle.basics.proofs.Parts.{part, join, part_length, two_part, u16_part, u32_part}
@@ -51,13 +51,13 @@ module _ (s : List ℕ) (bytes : list_all (λ b. ltb b 256) s ≡ true) where
   unfolding level_at nodes_at
   front_part wide at inside =
       let none : 2 ≡ 2 + width wide * 0 = omega arith in
-      let list_all = front_size wide in
+      let all = front_size wide in
       figure_more wide at 4 (omega arith)
       (figure_more wide at 3 (omega arith)
       (figure_more wide at 2 (omega arith)
       (figure_more wide at 1 (omega arith)
       (figure_more wide at 0 (omega arith) (two_part s at (omega arith) ∙ ap (part s at) none)))))
-      ∙ ap (part s at) list_all
+      ∙ ap (part s at) all
 
   -- The masks from node first on.
   masks_part : (at first size k count : ℕ) → k ≤ size → first + k ≡ count → at + 4 * count ≤ length s →

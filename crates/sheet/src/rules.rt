@@ -26,6 +26,8 @@ pub fn masks_lawful(masks: &[u32; 32], nodes: u8) -> bool
     (0..usize::from(nodes)).all(|v| masks[v] >> v == 0)
 }
 
+/// The level goes beside the figures: of a task these methods would ask callers for masks that they do not read, and
+/// it stays a byte (`level.rt` says why).
 impl Figures {
     /// S2.9: whether each figure is in the range of the level.
     #[tactic(auto, unfolding(crate::specs::Rules::in_range))]

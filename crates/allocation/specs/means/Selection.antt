@@ -1,11 +1,11 @@
 -- S5.3 by totals, as the selection works. An offer says the least critical share of a task at each typical share, and M
 -- + 1 stands for none and for any total above M.
-use Rattle.std.specs.Prelude.{ℕ, zero, suc, ◌+◌, ◌-◌, ◌≤◌, ◌<◌, min, ◌≡◌, Bool, cond, List, [], ◌∷◌, map, leb, ltb, eqb, get_or, drop, take, replicate, Result, Ok, Option, None, Some, is_none}
+use Rattle.std.specs.Prelude.{ℕ, zero, suc, ◌+◌, ◌-◌, ◌≤◌, ◌<◌, min, ◌≡◌, Bool, cond, List, [], ◌∷◌, map, leb, ltb, eqb, get_or, drop, take, replicate, Result, Ok, Option, None, Some, is_none, unwrap_or}
 use Rattle.std.specs.List.{list_all}
 use Rattle.shares.specs.declared.share.Share.{Share}
 use Rattle.shares.specs.Offer.{tabulate, offer_of}
 use Rattle.basics.specs.Lists.{cells}
-use Rattle.allocation.specs.Allocation.{sixteen, shares_chosen}
+use Rattle.allocation.specs.Allocation.{sixteen}
 use Rattle.sheet.specs.declared.task.TaskSet.{TaskSet}
 use Rattle.sheet.specs.declared.refusal.Refusal.{Refusal}
 use Rattle.sheet.specs.declared.refusal.Refusal.TheVariants.{NoShare, NoFit}
@@ -135,4 +135,4 @@ missing_totals = []
 unfoldable pub selection_of : ℕ → List (ℕ → ℕ) → Result (List Share) Refusal
 selection_of M offers =
     refused_if (is_none (selected M offers)) NoFit
-    or_else Ok (sixteen (shares_chosen (selected M offers)))
+    or_else Ok (sixteen (unwrap_or (selected M offers) []))

@@ -1,6 +1,7 @@
 -- Entries read from numerals one after the other, and what is held of them.
 use Rattle.std.specs.Prelude.{ℕ, zero, suc, ◌-◌, ◌^◌, min, true, Bool, cond, ◌&&◌, List, [], ◌∷◌, ◌≡◌, eqb, ltb, set, replicate, Result, Ok, Err, Option, None, Some}
 use Rattle.std.specs.Int.Bits.{bit_or}
+use Rattle.std.specs.Option.{ok_or}
 use Rattle.basics.specs.Numbers.{within}
 use Rattle.graph_text.specs.declared.graph.Node.{Node}
 use Rattle.graph_text.specs.declared.graph.NodeGraph.{NodeGraph}
@@ -95,5 +96,4 @@ held_of count v more held (Some numerals) = held_from count v more held numerals
 
 -- The graph that is held, if one is.
 abbrev pub held_graph : Option NodeGraph → Result NodeGraph BadFormat
-held_graph None = Err (record {})
-held_graph (Some held) = Ok held
+held_graph held = ok_or held (record {})
