@@ -37,8 +37,7 @@ fits M choice = leb (typical_total choice) M && leb (critical_total choice) M
 
 -- S5.3: the numbers a and b of each task in turn.
 abbrev pub pair_numbers : List Share → List ℕ
-pair_numbers [] = []
-pair_numbers (s ∷ choice) = s.typical ∷ s.critical ∷ pair_numbers choice
+pair_numbers choice = flat_map (λ s. s.typical ∷ s.critical ∷ []) choice
 
 -- S5.3: the numbers that the order goes by, the weightiest first: both totals, and then the tasks' pairs.
 abbrev pub rank : List Share → List ℕ

@@ -1,5 +1,6 @@
 -- Lists by enumeration, and tests and counts over the numbers below a bound.
-use Rattle.std.specs.Prelude.{ℕ, zero, suc, ◌+◌, max, Bool, true, false, cond, ◌&&◌, ◌||◌, List, [], ◌∷◌, ltb, eqb}
+use Rattle.std.specs.Prelude.{ℕ, zero, suc, ◌+◌, max, Bool, true, false, cond, ◌&&◌, List, [], ◌∷◌, ltb, eqb}
+use Rattle.std.specs.List.{list_any}
 
 -- The count numbers from first on, in rising order.
 unfoldable pub range : ℕ → ℕ → List ℕ
@@ -17,8 +18,7 @@ is_empty (x ∷ xs) = false
 
 -- Whether a number is in a list.
 abbrev pub is_in : ℕ → List ℕ → Bool
-is_in i [] = false
-is_in i (j ∷ list) = eqb i j || is_in i list
+is_in i list = list_any (eqb i) list
 
 -- The greatest of some numbers, 0 where there are none.
 abbrev pub greatest : List ℕ → ℕ

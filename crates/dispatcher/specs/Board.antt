@@ -1,5 +1,5 @@
 -- S8.8: Board. Which node each processor runs, as M pairs of bytes.
-use Rattle.std.specs.Prelude.{ℕ, suc, ◌-◌, ◌*◌, not, List, [], ◌∷◌, ◌++◌, eqb, length, replicate, Ok, Err}
+use Rattle.std.specs.Prelude.{ℕ, suc, ◌-◌, ◌*◌, not, List, [], ◌∷◌, ◌++◌, eqb, length, replicate, flat_map, Ok, Err}
 use Rattle.sheet.specs.declared.refusal.Refusal.TheVariants.{NotSound, WrongLength}
 use Rattle.sheet.specs.Refusal.{Answer, refused_if, ◌or_else◌}
 use Rattle.shares.specs.Totals.{share_total}
@@ -20,8 +20,7 @@ idle processors = replicate (2 * processors) unused
 
 -- S8.8: a pair of task and node for each of these nodes of a task.
 abbrev pub pairs_of : ℕ → List ℕ → List ℕ
-pairs_of task [] = []
-pairs_of task (v ∷ nodes) = task ∷ v ∷ pairs_of task nodes
+pairs_of task nodes = flat_map (λ v. task ∷ v ∷ []) nodes
 
 -- S8.8: a task's block, as long as what it is granted (S5.4): the running nodes, and behind them processors that run
 -- nothing.

@@ -1,5 +1,6 @@
 -- S7.2: when a state is sound.
-use Rattle.std.specs.Prelude.{Bool, true, ◌&&◌, List, [], ◌∷◌, leb}
+use Rattle.std.specs.Prelude.{Bool, ◌&&◌, List, leb}
+use Rattle.std.specs.List.{list_all}
 use Rattle.basics.specs.Numbers.{within}
 use Rattle.shares.specs.Totals.{typical_total, critical_total}
 use Rattle.entries.specs.declared.state.TaskState.{TaskState}
@@ -9,8 +10,7 @@ use Rattle.dispatcher.specs.Holds.{entries_of, model_of, row_shares}
 
 -- S7.2: whether each of these entries is sound.
 abbrev pub entries_sound : List TaskState → Bool
-entries_sound [] = true
-entries_sound (e ∷ entries) = entry_sound e && entries_sound entries
+entries_sound entries = list_all entry_sound entries
 
 -- S7.2: M, n, the entries of the tasks, and what the shares total in each mode.
 unfoldable pub is_sound : State → Bool

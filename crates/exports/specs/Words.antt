@@ -1,6 +1,6 @@
 -- S13.1, S13.2: a state (S7.1) as a line of words, one for each field in the order of the struct, and which lines are
 -- states.
-use Rattle.std.specs.Prelude.{ℕ, ◌+◌, ◌*◌, ◌<◌, Bool, true, not, ◌&&◌, List, [], ◌∷◌, ◌++◌, map, ◌≡◌, ltb, eqb, length, get_or, take, drop}
+use Rattle.std.specs.Prelude.{ℕ, ◌+◌, ◌*◌, ◌<◌, Bool, true, not, ◌&&◌, List, [], ◌∷◌, ◌++◌, map, ◌≡◌, ltb, eqb, length, get_or, take, drop, flat_map}
 use Rattle.basics.specs.Lists.{range, all_below, bit}
 use Rattle.entries.specs.declared.state.TaskState.{TaskState}
 use Rattle.start.specs.Fresh.{zero_entry}
@@ -35,8 +35,7 @@ entry_words e =
 
 -- S13.1: the words of entries, one behind the other.
 abbrev pub entries_words : List TaskState → List ℕ
-entries_words [] = []
-entries_words (e ∷ entries) = entry_words e ++ entries_words entries
+entries_words entries = flat_map entry_words entries
 
 -- S13.1: the words of a state: M, n, the mode, the entries.
 unfoldable pub state_words : State → List ℕ

@@ -1,5 +1,5 @@
 -- S12.2: what Replay writes for a call: its answer, and what the state then holds, in 4 + 9n bytes.
-use Rattle.std.specs.Prelude.{ℕ, List, [], ◌∷◌, ◌++◌, Ok, Err, Option, Some, None}
+use Rattle.std.specs.Prelude.{ℕ, List, [], ◌∷◌, ◌++◌, Ok, Err, Option, Some, None, flat_map}
 use Rattle.basics.specs.Lists.{bit}
 use Rattle.basics.specs.Numbers.{u32_bytes}
 use Rattle.sheet.specs.Refusal.{Answer, number, task, number_of, task_of}
@@ -60,8 +60,7 @@ task_bytes r = bit r.job.alive ∷ (u32_bytes r.age ++ u32_bytes r.job.ended)
 
 -- S12.2: the same for each task.
 abbrev pub rows_bytes : List Row → List ℕ
-rows_bytes [] = []
-rows_bytes (r ∷ rows) = task_bytes r ++ rows_bytes rows
+rows_bytes rows = flat_map task_bytes rows
 
 -- S12.2: what the model holds: whether the mode is critical, then each task.
 unfoldable pub model_bytes : Model → List ℕ
