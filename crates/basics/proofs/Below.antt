@@ -42,11 +42,6 @@ all_fails k p v l e = go (all_below k p) refl
     go true all = cc (all_at k p all v l)
     go false some = refl
 
--- One more number.
-pub all_more : (n : ℕ) (test : ℕ → Bool) → all_below n test ≡ true → test n ≡ true → all_below (suc n) test ≡ true
-unfolding all_below
-all_more n test h e = rw (h, e)
-
 -- The numbers of a range that std lists, tested one by one.
 all_below-range : (test : ℕ → Bool) (first n : ℕ) → all_below (first + n) test ≡ (all_below first test && list_all test (range_with_len first n))
 unfolding all_below

@@ -8,11 +8,6 @@ use lib.Dec.{leb}
 use borrow.Author.Tests.{leb-true, le-leb, lt-leb}
 use Rattle.basics.specs.Numbers.{within}
 
--- Under a guard, only what holds where the guard does has to agree.
-pub under : (g : Bool) {x y : Bool} → (g ≡ true → x ≡ y) → (g && x) ≡ (g && y)
-under true h = h refl
-under false h = refl
-
 -- Both parts of a conjunction that holds.
 pub left_true : (a b : Bool) → (a && b) ≡ true → a ≡ true
 left_true true b h = refl

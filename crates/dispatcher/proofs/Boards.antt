@@ -58,9 +58,6 @@ module _ (whole : List ℕ) (bytes task : ℕ) (buffer : List ℕ) (place : ℕ)
           rest = rw (next, add-one place) rest;
         }
 
-  pub written_whole : left ≡ [] → buffer ≡ whole
-  written_whole none = rw none at w.rest
-
 -- The lengths of pairs and of a block.
 pub pairs_length : (task : ℕ) (nodes : List ℕ) → length (pairs_of task nodes) ≡ 2 * length nodes
 pairs_length task [] = refl
@@ -223,9 +220,6 @@ module _ (s : State) (long : s.count ≤ length s.entries) (sound : is_sound s �
   nodes_here i h =
       running-members (share_in s.critical (entry_at s i).share) (row_of (entry_at s i)) (few_nodes (entry_at s i) (sound_at s long sound i h))
       ∙ ap (running_in s.critical) (sym (row_here i h))
-
-  pub boarding_none : (buffer : List ℕ) → buffer ≡ idle s.processors → Boarding s buffer 0 0
-  boarding_none buffer e = record { place = refl; bytes = e ∙ ap idle (let z : s.processors ≡ s.processors - 0 = omega arith in z) }
 
   pub boarding_size : (buffer : List ℕ) (at i : ℕ) → Boarding s buffer at i → length buffer ≡ 2 * s.processors
   boarding_size buffer at i b = ap length b.bytes ∙ board_length s.processors s.critical (model_of s).rows (shares_fit s sound) i

@@ -81,9 +81,6 @@ get_d_any (e ∷ entries) zero none other h = refl
 get_d_any (e ∷ entries) (suc i) none other h = get_d_any entries i none other (omega arith)
 
 module _ (entries : List TaskState) (sixteen : length entries ≡ 16) where
-  pub storing_none : (line : List ℕ) → length line ≡ state_size → Storing entries (sets line 3 (entries_words entries)) line 0
-  storing_none line long = record { upto = omega arith; size = long; left = refl; held = λ j h. absurd (omega arith) }
-
   pub storing_more : (whole line : List ℕ) (i : ℕ) (none : TaskState) → i < 16 → EntryHeld (get_or entries i none) → Storing entries whole line i →
       Storing entries whole (sets line (entry_start i) (entry_words (get_or entries i none))) (i + 1)
   storing_more whole line i none inside fits so_far =

@@ -12,10 +12,9 @@ use Rattle.std.specs.Char.{is_ascii_digit}
 use Rattle.std.specs.Prelude.{Some, None, Ok, Err, Option}
 use Rattle.std.specs.Option.{SomeIff, ok_or}
 use Rattle.graph_text.specs.declared.text.BadFormat.{BadFormat}
-use borrow.Author.Tests.{eqb-true, leb-true, le-leb, lt-leb}
+use borrow.Author.Tests.{eqb-true, le-leb, lt-leb}
 use Rattle.basics.specs.Digits.{digit, is_digit, value_of}
 use Rattle.basics.proofs.Digits.{value_both, digits_both}
-use Rattle.basics.proofs.Logic.{left_true, right_true}
 use Rattle.graph_text.specs.Text.{end_mark, before_mark, is_blank, word_before, words_after, words_of, numeral_limit, is_numeral, numbers_of, numerals_of}
 use Rattle.graph_text.specs.means.Scan.{number_before, numeral_before, numerals_after, BeginsFull}
 
@@ -34,11 +33,6 @@ blank_no_mark b h = unlike is_blank b end_mark refl h
 pub digit_no_mark : (b : ℕ) → is_digit b ≡ true → eqb b end_mark ≡ false
 unfolding is_digit
 digit_no_mark b h = unlike is_digit b end_mark refl h
-
-pub digit-within : (b : ℕ) → is_digit b ≡ true → (48 ≤ b) × (b ≤ 57)
-unfolding is_digit
-digit-within b h =
-    (leb-true (digit 0) b (left_true (leb (digit 0) b) (leb b (digit 9)) h), leb-true b (digit 9) (right_true (leb (digit 0) b) (leb b (digit 9)) h))
 
 pub digit_no_blank : (b : ℕ) → is_digit b ≡ true → is_blank b ≡ false
 unfolding is_blank is_digit

@@ -1,17 +1,14 @@
 -- One step of a reading: a numeral more, or none, and what is then left to take.
 use Prim.Native.Nat.{ℕ, zero, suc, ◌-◌, ◌<◌}
-use mathlib.Core.Bool.{Bool, true, false, cond, ◌&&◌}
+use mathlib.Core.Bool.{false}
 use mathlib.Core.List.{List, [], ◌∷◌}
-use mathlib.Core.Path.{◌≡◌, refl, sym, ◌∙◌}
+use mathlib.Core.Path.{◌≡◌, refl, ◌∙◌}
 use native.Mathlib.Omega.{arith}
-use lib.Dec.{eqb}
-use Rattle.std.specs.Prelude.{Result, Ok, Err, Option, None, Some}
-use Rattle.graph_text.specs.declared.text.BadFormat.{BadFormat}
+use Rattle.std.specs.Prelude.{Option, None, Some}
 use Rattle.graph_text.specs.declared.graph.Node.{Node}
 use Rattle.graph_text.specs.declared.graph.NodeGraph.{NodeGraph}
-use Rattle.graph_text.specs.Graph.{time_lawful}
 use Rattle.graph_text.specs.means.Scan.{number_before, has_first}
-use Rattle.graph_text.specs.means.Entries.{Taken, taken_from, taken_before, Reads, after_taken, with_named, named_from, node_with, entry_from, held_with, held_from, held_of}
+use Rattle.graph_text.specs.means.Entries.{Taken, taken_from, taken_before, after_taken, with_named, named_from, entry_from, held_with, held_from, held_of}
 
 -- Where no numeral was told, there is nothing to take for what needs one.
 pub no_numeral : {A : Type 0} (take : List ℕ → Option (Taken A)) (old : Option (List ℕ)) → has_first old ≡ false → take [] ≡ None →
@@ -38,29 +35,6 @@ pub named_all_taken : (v left : ℕ) (node : Node) (numerals : Option (List ℕ)
 unfolding named_from
 named_all_taken v left node None e = refl
 named_all_taken v left node (Some numerals) e = rw e
-
--- The same of a rest behind a number.
-pub taken_behind : {A : Type 0} (take : List ℕ → Option (Taken A)) (n : ℕ) (numerals : Option (List ℕ)) →
-    taken_from take (number_before n numerals) ≡ taken_from (λ rest. take (n ∷ rest)) numerals
-taken_behind take n None = refl
-taken_behind take n (Some rest) = refl
-
--- An entry whose three first numerals are read.
-pub entry_behind : (count v number time many : ℕ) (numerals : Option (List ℕ)) →
-    taken_from (entry_from count v) (number_before number (number_before time (number_before many numerals)))
-    ≡ cond (eqb number v && time_lawful count v time) (taken_from (named_from v many (node_with time)) numerals) None
-entry_behind count v number time many None = sym (both (eqb number v && time_lawful count v time))
-  where
-    both : (t : Bool) → cond t (taken_from (named_from v many (node_with time)) None) None ≡ None
-    both true = refl
-    both false = refl
-entry_behind count v number time many (Some rest) = refl
-
--- What is told of a reading is told of another that takes the same.
-pub reads_same : (take other : List ℕ → Option (Taken Node)) (old middle new : Option (List ℕ)) (r : Result Node BadFormat) →
-    taken_from take old ≡ taken_from other middle → Reads other middle new r → Reads take old new r
-reads_same take other old middle new (Ok node) same told = same ∙ told
-reads_same take other old middle new (Err e) same told = same ∙ told
 
 -- One entry more is held, or none could be.
 module _ (count v more : ℕ) (held : NodeGraph) where
@@ -93,6 +67,3 @@ pub held_past : (count v n : ℕ) (held : NodeGraph) (old rest : Option (List �
 unfolding held_from
 held_past count v n held old None e = rw e
 held_past count v n held old (Some numerals) e = rw e
-
-pub held_bad : (count v : ℕ) (held : NodeGraph) (old : Option (List ℕ)) → old ≡ None → held_of count v 0 held old ≡ None
-held_bad count v held old e = rw e

@@ -103,11 +103,6 @@ pub record Replaying (whole : List ℕ) (bytes tasks : ℕ) (calls : List Call) 
   pub room : place + length (records_of s calls) ≤ bytes
   pub left : sets out place (records_of s calls) ≡ whole
 
-pub replaying_none : (calls : List Call) (s : State) (out : List ℕ) (place : ℕ) → length s.entries ≡ 16 →
-    place + length (records_of s calls) ≤ length out →
-    Replaying (sets out place (records_of s calls)) (length out) s.count calls s out place
-replaying_none calls s out place line room = record { size = refl; tasks_kept = refl; line = line; room = room; left = refl }
-
 module _ (whole : List ℕ) (bytes tasks : ℕ) (call : Call) (rest : List Call) (s : State) (out : List ℕ) (place : ℕ) (few : tasks ≤ 16)
     (p : Replaying whole bytes tasks (call ∷ rest) s out place) where
   long : s.count ≤ length s.entries
@@ -167,11 +162,6 @@ module _ (whole : List ℕ) (bytes tasks : ℕ) (call : Call) (rest : List Call)
           room = records_room;
           left = rw here (sym (sets-append out place record_here after_here) ∙ ap (sets out place) (sym records_here) ∙ p.left);
         }))
-
-pub replaying_all : (whole : List ℕ) (bytes tasks : ℕ) (calls : List Call) (s : State) (out : List ℕ) (place : ℕ) →
-    calls ≡ [] → Replaying whole bytes tasks calls s out place → out ≡ whole
-replaying_all whole bytes tasks calls s out place none p =
-    let done : sets out place (records_of s []) ≡ whole = rw none at p.left in done
 
 -- S7.1: the state that Start returns has sixteen entries and at most as many tasks.
 pub start_few : (sheet : List ℕ) → (start_of sheet).state.count ≤ 16

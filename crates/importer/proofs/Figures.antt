@@ -1,8 +1,7 @@
 -- Times by a percentage: each product stays within a word, and one node more is one cell more.
-use Prim.Native.Nat.{ℕ, zero, suc, ◌+◌, ◌*◌, ◌≤◌, ◌<◌}
+use Prim.Native.Nat.{ℕ, zero, suc, ◌+◌, ◌≤◌, ◌<◌}
 use mathlib.Core.List.{List, [], ◌∷◌}
 use mathlib.Core.Path.{◌≡◌, sym}
-use native.Mathlib.Nat.{mul-le-mul}
 use native.Mathlib.Omega.{arith}
 use lib.ListN.{set, replicate, take, length}
 use Rattle.std.proofs.Common.{length-take-le, ap, ◌∙◌, refl}
@@ -26,10 +25,6 @@ scaled_more v percentage times h = cells_store (λ u. scaled percentage (time_at
 pub scaled_next : (v percentage : ℕ) (times held : List ℕ) (x : ℕ) → v < 32 → held ≡ scaled_times v percentage times →
     x ≡ scaled percentage (time_at times v) → set held v x ≡ scaled_times (v + 1) percentage times
 scaled_next v percentage times held x h before stored = rw (before, stored) (scaled_more v percentage times h)
-
--- A numeral by a percentage stays within a word.
-pub product_small : (time percentage : ℕ) → time ≤ 65535 → percentage ≤ 400 → time * percentage ≤ 26214000
-product_small time percentage small most = mul-le-mul small most
 
 -- Times stay within what sums may lean on, of which one is stored after the other.
 pub none_small : Small (replicate 32 0)

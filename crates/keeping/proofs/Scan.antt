@@ -37,9 +37,6 @@ module _ (M n : ℕ) (shares : List Share) where
     a_task : task < i → critical_share_at shares task ≡ 0 → below ≡ with task → below ≤ M →
         ((j : ℕ) → j < i → critical_share_at shares j ≡ 0 → NotAfter (typical_share_at shares) task j) → Seen i task below
 
-  pub seen_none : (task below : ℕ) → task ≡ n → below ≡ M + 1 → Seen 0 task below
-  seen_none task below no_one whole = nothing_seen no_one whole (λ j before low. absurd (omega arith))
-
   -- Up to the next number.
   below_next : (P : ℕ → Type 0) (i : ℕ) → ((j : ℕ) → j < i → P j) → P i → (j : ℕ) → j < i + 1 → P j
   below_next P i before here j within = below_cases P i before here j (omega arith)

@@ -1,8 +1,7 @@
 -- The lowest members of a set, picked one by one: what is picked, with the set of those still to pick, is the whole.
-use Prim.Native.Nat.{ℕ, zero, suc, ◌+◌, ◌^◌, ◌≤◌, ◌<◌}
-use mathlib.Core.Path.{◌≡◌, refl, sym, ap, ap₂, ◌∙◌}
-use mathlib.Core.List.{List, [], ◌∷◌}
-use native.Mathlib.Nat.{add-zero, zero-add}
+use Prim.Native.Nat.{ℕ, suc, ◌+◌, ◌^◌, ◌≤◌, ◌<◌}
+use mathlib.Core.Path.{◌≡◌, refl, ap, ap₂, ◌∙◌}
+use mathlib.Core.List.{List, ◌∷◌}
 use native.Mathlib.Omega.{arith}
 use borrow.Author.Tests.{eq-eqb}
 use lib.Count.{ones}
@@ -21,9 +20,6 @@ set_of-take-all k set s below few =
 abbrev pub Picked : ℕ → ℕ → ℕ → List ℕ → Type 0
 Picked total picked n left = picked + set_of (take n left) ≡ total
 
-pub picked_none : (n count : ℕ) (left all : List ℕ) → n ≡ count → left ≡ all → Picked (set_of (take count all)) 0 n left
-picked_none n count left all size same = zero-add (set_of (take n left)) ∙ ap₂ (λ (s : ℕ) (vs : List ℕ). set_of (take s vs)) size same
-
 -- One pick.
 module _ (total picked node n m : ℕ) (left more : List ℕ) (now : Picked total picked n left) (taken : left ≡ node ∷ more) (one : m + 1 ≡ n) where
   whole_apart : picked + (2 ^ node + set_of (take m more)) ≡ total
@@ -40,9 +36,3 @@ module _ (total picked node n m : ℕ) (left more : List ℕ) (now : Picked tota
 
   pub picked_more : Picked total (picked + 2 ^ node) m more
   picked_more = omega (arith, whole_apart)
-
--- With none left to pick, all are picked.
-pub picked_all : (total picked n : ℕ) (left : List ℕ) → Picked total picked n left → (0 < n → left ≡ []) → picked ≡ total
-picked_all total picked zero left now none = sym (add-zero picked) ∙ now
-picked_all total picked (suc n) left now none =
-    let e : picked + set_of (take (suc n) []) ≡ total = rw (none (omega arith)) at now in sym (add-zero picked) ∙ e

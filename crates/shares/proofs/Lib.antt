@@ -6,7 +6,6 @@ pub mod Ticks
 pub mod Ends
 pub mod Least
 pub mod Rounding
-pub mod Words
 pub mod Walk
 pub mod Offers
 pub mod Levels

@@ -13,10 +13,6 @@ use Rattle.shares.specs.means.Terms.{terms_of, meets}
 use Rattle.shares.specs.Search.{first, least_critical, found_of}
 
 module _ (test : ℕ → Bool) (M b : ℕ) where
-  -- The search from the same number.
-  pub search_same : (a : ℕ) → a ≡ b → first test (M + 1) a (M + 1 - a) ≡ first test (M + 1) b (M + 1 - b)
-  search_same a e = ap (λ z. first test (M + 1) z (M + 1 - z)) e
-
   pub search_past : M < b → first test (M + 1) b (M + 1 - b) ≡ M + 1
   unfolding first
   search_past past = let e : M + 1 - b ≡ 0 = omega arith in rw e

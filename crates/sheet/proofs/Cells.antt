@@ -14,10 +14,6 @@ module _ (s : List ℕ) (at : ℕ) where
   unfolding masks_at
   masks_none = sym (cells_none (λ v. u32_at s (at + 4 * v)) 0 0 32 0 (omega arith))
 
-  pub masks_store : (v : ℕ) → v < 32 → set (masks_at s at v) v (u32_at s (at + 4 * v)) ≡ masks_at s at (v + 1)
-  unfolding masks_at
-  masks_store v h = cells_store (λ v. u32_at s (at + 4 * v)) 0 32 v h
-
 -- The tasks of a sheet, read one after the other.
 module _ (s : List ℕ) where
   pub tasks_none : replicate 16 zero_task ≡ tasks_below s 0

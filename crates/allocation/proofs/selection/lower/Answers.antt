@@ -3,17 +3,12 @@ use mathlib.Core.Path.{◌≡◌, ap, ◌∙◌}
 use native.Mathlib.Omega.{arith}
 use lib.ListN.{length-set}
 use Rattle.allocation.specs.means.Selection.{total_at}
-use Rattle.allocation.proofs.Lines.{sum_fits}
 use Rattle.allocation.proofs.Lowering.{partway, lowered_none, lowered_more, lowered-all}
 use Rattle.allocation.proofs.selection.lower.Goals as goal
 
 pub loop-t-init : goal.loop-t-init
 loop-t-init c =
     (omega arith, omega arith, c.requires.all_there, lowered_none c.args.a c.args.critical (total_at c.args.rest.now) c.args.totals.now c.requires.all_there)
-
-pub overflow_add-critical : goal.overflow_add-critical
-overflow_add-critical c =
-    record { fits = sum_fits c.args.rest.now c.requires.rest_small c.args.critical _ c.requires.critical_small }
 
 pub loop-t-preserved : goal.loop-t-preserved
 unfolding total_at

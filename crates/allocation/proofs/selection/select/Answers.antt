@@ -74,9 +74,6 @@ step c =
     walk_step c.args.offers.now.processors c.args.offers.now.count c.args.offers.now.cells (omega arith) (omega arith) (omega arith) c.loop-i.i c.loop-i.left (omega arith)
     (omega arith) c.loop-i.invariant.2 _ c.last_totals.ensures _ c.best_share-a.ensures _ c.loop-i.invariant.3
 
-pub overflow_cast-shares : goal.overflow_cast-shares
-overflow_cast-shares c = omega (arith, (step (goal.at.overflow_cast-shares c).After-best_share-a).to)
-
 pub overflow_sub-shares : goal.overflow_sub-shares
 overflow_sub-shares c = (step (goal.at.overflow_sub-shares c).After-best_share-a).from
 

@@ -1,6 +1,5 @@
 -- `basics::numbers::u32s_at`: no cell is filled at first, a store fills one more, and at the end all asked for are.
-use Rattle.std.proofs.Common.{◌≡◌, ◌+◌, ◌*◌, sym, ap, ◌∙◌, arith}
-use Rattle.basics.specs.Lists.{cells}
+use Rattle.std.proofs.Common.{◌+◌, ◌*◌, sym, arith}
 use Rattle.basics.specs.Numbers.{u32_at}
 use Rattle.basics.proofs.Cells.{cells_none, cells_store}
 use Rattle.basics.proofs.numbers.u32s_at.Goals as goal
@@ -12,8 +11,3 @@ pub loop-i-preserved : goal.loop-i-preserved
 loop-i-preserved g c =
     rw (c.u32_at.ensures, c.loop-i.invariant)
     (cells_store (λ i. u32_at c.args.s.now (c.args.at + 4 * i)) 0 g.row.N c.loop-i.i (omega arith))
-
-pub returns : goal.returns
-returns g c =
-    let all : c.loop-i.i ≡ c.args.count = omega arith in
-    c.loop-i.invariant ∙ ap (cells g.row.N (λ i. u32_at c.args.s.now (c.args.at + 4 * i)) 0) all

@@ -1,6 +1,6 @@
 -- `dispatcher::board::put_tasks`: each turn writes the block of the next task, for which the sound state leaves room.
 use Prim.Native.Nat.{◌≤◌, ◌<◌}
-use mathlib.Core.Path.{◌≡◌, refl, ap, ◌∙◌}
+use mathlib.Core.Path.{◌≡◌, ap, ◌∙◌}
 use native.Mathlib.Omega.{arith}
 use lib.ListN.{length, take, get_or}
 use lib.Seq.{length-take-le}
@@ -12,7 +12,7 @@ use Rattle.entries.specs.Entry.{row_of}
 use Rattle.model.specs.Row.{running_set}
 use Rattle.dispatcher.proofs.Soundness.{state_facts, few_entries}
 use Rattle.dispatcher.proofs.Entries.{no_entry, entry_at, turn_entry, sound_at}
-use Rattle.dispatcher.proofs.Boards.{boarding_none, boarding_room, boarding_fits, boarding_more, boarding_all}
+use Rattle.dispatcher.proofs.Boards.{boarding_room, boarding_fits, boarding_more, boarding_all}
 use Rattle.dispatcher.proofs.board.put_tasks.Goals.{Start, In-loop-i, After-running, After-from-in-loop-i}
 use Rattle.dispatcher.proofs.board.put_tasks.Goals as goal
 
@@ -25,9 +25,6 @@ long c = omega (arith, few c)
 
 small : (c : Start) → c.args.state.now.processors ≤ 64
 small c = (within_bounds 1 64 c.args.state.now.processors (state_facts c.args.state.now c.requires.0).processors).1
-
-pub loop-i-init : goal.loop-i-init
-loop-i-init c = (refl, boarding_none c.args.state.now (long (goal.at.loop-i-init c).Start) c.requires.0 _ c.requires.1)
 
 pub shared_ref_as_front-e-items : goal.shared_ref_as_front-e-items
 shared_ref_as_front-e-items c = omega (arith, c.from.ensures, few (goal.at.shared_ref_as_front-e-items c).Start)

@@ -10,9 +10,6 @@ use Rattle.dispatcher.proofs.Releases.{unknown, known}
 use Rattle.dispatcher.proofs.release.release_answer.Goals.{Else-not-is_sound}
 use Rattle.dispatcher.proofs.release.release_answer.Goals as goal
 
-pub returns-then-not-is_sound : goal.returns-then-not-is_sound
-returns-then-not-is_sound c = rw (sym c.is_sound.ensures ∙ c.if-not-is_sound.true)
-
 -- Past the first test the state is sound, and the line has an entry for each task.
 sound : (c : Else-not-is_sound) → is_sound c.args.state.now ≡ true
 sound c = sym c.is_sound.ensures ∙ c.if-not-is_sound.false

@@ -15,9 +15,6 @@ returns-then-not-is_state c =
 is : (c : Else-not-is_state) → is_state c.args.state.now ≡ true
 is c = sym c.is_state.ensures ∙ c.if-not-is_state.false
 
-pub state_from-shown-requires : goal.state_from-shown-requires
-state_from-shown-requires c = is c
-
 pub returns : goal.returns
 returns c =
     let both = board_called c.args.state.now c.args.buffer.now (is (goal.at.returns c).Else-not-is_state) _ c.state_from-shown.ensures _ c.board-boarded.ensures.answered _ _ c.answer_word.ensures c.board-boarded.ensures.written in

@@ -16,9 +16,6 @@ returns-then-not-is_state c =
 is : (c : Else-not-is_state) → is_state c.args.state.now ≡ true
 is c = sym c.is_state.ensures ∙ c.if-not-is_state.false
 
-pub state_from-before-requires : goal.state_from-before-requires
-state_from-before-requires c = is c
-
 pub returns-in-Err : goal.returns-in-Err
 returns-in-Err c =
     let both = release_refused c.args.state.now c.args.task (is (goal.at.returns-in-Err c).Else-not-is_state) _ c.state_from-before.ensures _ c.release-released.ensures.whole _ c.answer_word.ensures c.in-Err.is in

@@ -16,9 +16,6 @@ returns-then-not-is_state c =
 is : (c : Else-not-is_state) → is_state c.args.state.now ≡ true
 is c = sym c.is_state.ensures ∙ c.if-not-is_state.false
 
-pub state_from-before-requires : goal.state_from-before-requires
-state_from-before-requires c = is c
-
 pub returns-in-Refused : goal.returns-in-Refused
 returns-in-Refused c =
     let both = tick_refused c.args.state.now c.args.reports.now (is (goal.at.returns-in-Refused c).Else-not-is_state) _ c.state_from-before.ensures _ c.tick-ticked.ensures.whole _ c.answer_word.ensures c.in-Refused.is in

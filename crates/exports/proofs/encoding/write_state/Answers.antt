@@ -1,20 +1,16 @@
 -- `exports::encoding::write_state`: three words, and each entry's over the front of what is left of the line.
 use mathlib.Core.Path.{◌≡◌, ◌∙◌}
 use native.Mathlib.Omega.{arith}
-use lib.ListN.{length, length-set}
+use lib.ListN.{length}
 use borrow.Author.Rules.{rules}
 use Rattle.exports.specs.Words.{StateHeld}
-use Rattle.exports.proofs.Stored.{mark_word, entry_written, storing_none, storing_more, storing_all, state_stored}
+use Rattle.exports.proofs.Stored.{mark_word, entry_written, storing_more, storing_all, state_stored}
 use Rattle.exports.proofs.encoding.write_state.Goals.{Start}
 use Rattle.exports.proofs.encoding.write_state.Goals as goal
 
 -- The state has sixteen entries.
 sixteen : (c : Start) → length c.args.state.now.entries ≡ 16
 sixteen c = omega arith
-
-pub loop-i-init : goal.loop-i-init
-loop-i-init c =
-    storing_none c.args.state.now.entries (sixteen (goal.at.loop-i-init c).Start) _ (simp length-set c.requires)
 
 pub loop-i-preserved : goal.loop-i-preserved
 loop-i-preserved c =

@@ -23,9 +23,6 @@ returns-then-not-is_state c =
 is : (c : Else-not-is_state) → is_state c.args.state.now ≡ true
 is c = sym c.is_state.ensures ∙ c.if-not-is_state.false
 
-pub state_from-shown-requires : goal.state_from-shown-requires
-state_from-shown-requires c = is c
-
 pub loop-i-init : goal.loop-i-init
 unfolding last_word boards_of answer_word
 loop-i-init c = (omega arith, refl, c.answer_word-word.ensures, refl)
@@ -42,9 +39,6 @@ loop-i-preserved c =
       boards_next c.loop-i.i (state_from c.args.state.now) c.args.buffer.now c.loop-i.buffer _ c.loop-i.invariant.3
           (c.board-boarded.ensures.written ∙ ap (λ (s : State). board_of s c.loop-i.buffer) c.state_from-shown.ensures),
     )
-
-pub shape_of-buffer : goal.shape_of-buffer
-shape_of-buffer c = c.loop-i.invariant.1
 
 pub returns : goal.returns
 returns c =

@@ -21,9 +21,6 @@ returns-then-not-is_state c =
 is : (c : Else-not-is_state) → is_state c.args.state.now ≡ true
 is c = sym c.is_state.ensures ∙ c.if-not-is_state.false
 
-pub state_from-before-requires : goal.state_from-before-requires
-state_from-before-requires c = is c
-
 pub loop-i-init : goal.loop-i-init
 unfolding last_word answer_word
 loop-i-init c = (omega arith, c.answer_word-word.ensures)

@@ -20,9 +20,6 @@ returns-then-not-is_state c =
 is : (c : Else-not-is_state) → is_state c.args.state.now ≡ true
 is c = sym c.is_state.ensures ∙ c.if-not-is_state.false
 
-pub state_from-s-requires : goal.state_from-s-requires
-state_from-s-requires c = is c
-
 pub loop-i-init : goal.loop-i-init
 unfolding answer_word
 loop-i-init c =

@@ -28,10 +28,6 @@ loop-i-preserved c =
     rw (c.put_task.ensures, one at)
     (putting_more c.args.state.now c.requires.line _ _ (c.args.at + 1) c.loop-i.out c.loop-i.i (inside at) c.loop-i.invariant)
 
-pub shape_of-out : goal.shape_of-out
-shape_of-out c =
-    c.loop-i.invariant.size ∙ length-set c.args.out.now c.args.at c.from.result
-
 pub returns : goal.returns
 unfolding model_of
 returns c =

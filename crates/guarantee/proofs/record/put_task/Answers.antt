@@ -2,7 +2,6 @@
 use Prim.Native.Nat.{ℕ, ◌+◌}
 use mathlib.Core.List.{List}
 use mathlib.Core.Path.{◌≡◌, ap, ◌∙◌}
-use native.Mathlib.Omega.{arith}
 use lib.ListN.{length, length-set}
 use lib.Seq.{sets}
 use Rattle.entries.specs.Entry.{job_of, row_of}
@@ -11,18 +10,9 @@ use Rattle.guarantee.proofs.Records.{task_stored, bit_of}
 use Rattle.guarantee.proofs.record.put_task.Goals.{After-put_u32}
 use Rattle.guarantee.proofs.record.put_task.Goals as goal
 
-pub put_u32-requires : goal.put_u32-requires
-put_u32-requires c = simp length-set (omega arith)
-
 -- The buffer has its length after the first number.
 long : (c : After-put_u32) → length c.put_u32.new.out ≡ length c.args.out.now
 long c = c.put_u32.auto.out ∙ length-set c.args.out.now c.args.at c.from.result
-
-pub put_u32-requires-2 : goal.put_u32-requires-2
-put_u32-requires-2 c = rw (long (goal.at.put_u32-requires-2 c).After-put_u32) (omega arith)
-
-pub shape_of-out : goal.shape_of-out
-shape_of-out c = c.put_u32-2.auto.out ∙ long (goal.at.shape_of-out c).After-put_u32
 
 pub returns : goal.returns
 unfolding row_of job_of

@@ -1,10 +1,10 @@
 -- `guarantee::replay::put_turns`: the goals that the check leaves.
-use Rattle.std.proofs.Common.{◌∷◌, List, length, subst, arith}
+use Rattle.std.proofs.Common.{◌∷◌, List, length, subst}
 use lib.Seq.{sets}
 use Rattle.model.specs.Step.{Call}
 use Rattle.guarantee.specs.Encoding.{call_in, calls_of}
 use Rattle.guarantee.specs.Replay.{records_of}
-use Rattle.guarantee.proofs.Replays.{Replaying, replaying_none, replaying_line, replaying_room, replaying_more}
+use Rattle.guarantee.proofs.Replays.{Replaying, replaying_line, replaying_room, replaying_more}
 use Rattle.guarantee.proofs.replay.put_turns.Goals.{In-Some}
 use Rattle.guarantee.proofs.replay.put_turns.Goals as goal
 
@@ -16,15 +16,6 @@ here c =
     subst (λ (calls : List Call). Replaying (sets c.args.out.now c.args.from (records_of c.args.state (calls_of c.args.calls.now)))
     (length c.args.out.now) c.args.state.count calls c.loop-call.current c.loop-call.out c.loop-call.place)
     c.in-Some.ensures.steps c.loop-call.invariant.replaying
-
-pub loop-call-init : goal.loop-call-init
-loop-call-init c =
-    record {
-      can = tt;
-      finite = tt;
-      replaying = rw (c.into_iter-call-iterator.ensures.into_iter_gives, c.new-call-items.ensures)
-          (replaying_none (calls_of c.args.calls.now) c.args.state c.args.out.now c.args.from (omega arith) c.requires.room);
-    }
 
 pub put_turn-requires-clause-line : goal.put_turn-requires-clause-line
 put_turn-requires-clause-line c =

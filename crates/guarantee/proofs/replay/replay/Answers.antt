@@ -2,7 +2,6 @@
 use Prim.Native.Nat.{ℕ, ◌+◌, ◌*◌, ◌≤◌}
 use mathlib.Core.List.{List}
 use mathlib.Core.Path.{◌≡◌, sym, ap, ◌∙◌}
-use native.Mathlib.Omega.{arith}
 use borrow.Author.Tests.{leb-true, leb-false}
 use lib.ListN.{length}
 use lib.Seq.{sets}
@@ -44,9 +43,6 @@ returns-then-not-has_room-clause-answered c = (short (goal.at.returns-then-not-h
 pub returns-then-not-has_room-clause-written : goal.returns-then-not-has_room-clause-written
 returns-then-not-has_room-clause-written c = (short (goal.at.returns-then-not-has_room-clause-written c).Then-not-has_room).1
 
-pub put_answer-requires : goal.put_answer-requires
-put_answer-requires c = omega (arith, size (goal.at.put_answer-requires c).After-has_room, room (goal.at.put_answer-requires c).Else-not-has_room)
-
 pub put_turns-requires-clause-few : goal.put_turns-requires-clause-few
 put_turns-requires-clause-few c =
     replay_few c.args.sheet.now c.args.calls.now c.log_run-log.result.now c.count_calls-count.result c.start-started.result c.start-started.ensures.whole c.log_run-log.ensures c.count_calls-count.ensures
@@ -56,12 +52,6 @@ put_turns-requires-clause-room c =
     let fits = room (goal.at.put_turns-requires-clause-room c).Else-not-has_room in
     replay_room c.args.sheet.now c.args.calls.now c.log_run-log.result.now c.count_calls-count.result c.start-started.result c.start-started.ensures.whole c.log_run-log.ensures c.count_calls-count.ensures
     (length c.put_answer.new.out) (rw c.put_answer.auto.out fits)
-
-pub overflow_mul-result : goal.overflow_mul-result
-overflow_mul-result c = omega (arith, size (goal.at.overflow_mul-result c).After-has_room, room (goal.at.overflow_mul-result c).Else-not-has_room, c.well_formed.1.1.0)
-
-pub overflow_add-result : goal.overflow_add-result
-overflow_add-result c = omega (arith, size (goal.at.overflow_add-result c).After-has_room, room (goal.at.overflow_add-result c).Else-not-has_room, c.well_formed.1.1.0)
 
 pub returns-clause-answered : goal.returns-clause-answered
 returns-clause-answered c =

@@ -1,20 +1,14 @@
 -- `nodes::NodeSet::lowest`: a set with few members is its lowest ones; else each turn picks one node more.
-use mathlib.Core.Path.{◌≡◌, sym, ap, ◌∙◌}
+use mathlib.Core.Path.{sym, ap}
 use native.Mathlib.Omega.{arith}
 use lib.Count.{ones}
-use Rattle.nodes.specs.Sets.{members}
 use Rattle.nodes.proofs.Members.{set_of_lowest_lt}
-use Rattle.nodes.proofs.Picks.{set_of-take-all, picked_none, picked_le, node_lt, picked_more, picked_all}
+use Rattle.nodes.proofs.Picks.{set_of-take-all, picked_le, node_lt, picked_more}
 use Rattle.nodes.proofs.NodeSet.lowest.Goals as goal
 
 pub returns-then-self-count : goal.returns-then-self-count
 returns-then-self-count c =
     sym (set_of-take-all 32 c.args.self c.args.count (omega (arith, c.self.view_is)) (omega (arith, ap ones c.self.view_is)))
-
-pub loop-node-init : goal.loop-node-init
-loop-node-init c =
-    let same : c.into_iter-node-iterator.result.n ≡ c.take-node-items.result.n = cc in
-    picked_none _ c.args.count _ (members 32 c.args.self) (omega (arith, same)) (cc)
 
 pub bit-picked-requires : goal.bit-picked-requires
 bit-picked-requires c =
@@ -32,6 +26,3 @@ overflow_add-picked c =
 pub loop-node-preserved : goal.loop-node-preserved
 loop-node-preserved c =
     rw c.bit-picked.ensures (picked_more _ _ _ _ _ _ _ c.loop-node.invariant c.in-Some.ensures.steps.0 c.in-Some.ensures.steps.1)
-
-pub returns : goal.returns
-returns c = c.from_bits.ensures ∙ picked_all _ _ _ _ c.loop-node.invariant (λ more. (c.in-None.ensures.steps more).0)

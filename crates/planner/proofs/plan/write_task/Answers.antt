@@ -1,12 +1,8 @@
 -- `planner::plan::write_task` meets its contract: the stores are those of the definition.
-use mathlib.Core.Path.{refl, ◌∙◌}
+use mathlib.Core.Path.{refl}
 use native.Mathlib.Omega.{arith}
-use lib.ListN.{length-set}
 use Rattle.planner.proofs.Plans.{task_set}
 use Rattle.planner.proofs.plan.write_task.Goals as goal
-
-pub shape_of-buffer : goal.shape_of-buffer
-shape_of-buffer c = simp length-set (c.put_u32.auto.out ∙ c.put_pair-2.auto.buffer ∙ c.put_pair.auto.buffer)
 
 pub returns : goal.returns
 returns c =

@@ -1,6 +1,6 @@
 -- `shares::search::least_critical`: the two sums are the sides of the test at b, so that the search stops where the
 -- definition does.
-use Prim.Native.Nat.{ℕ, suc, ◌+◌, ◌-◌, ◌*◌, ◌≤◌, ◌<◌, ◌^◌}
+use Prim.Native.Nat.{ℕ, suc, ◌+◌, ◌-◌, ◌*◌, ◌≤◌, ◌<◌}
 use mathlib.Core.Path.{◌≡◌, refl, sym, ap, ◌∙◌}
 use native.Mathlib.Omega.{arith}
 use Rattle.std.specs.Prelude.{leb}
@@ -8,26 +8,14 @@ use Rattle.std.proofs.lemmas.Bool.{le-leb, lt-leb}
 use Rattle.shares.specs.declared.test.Terms.{Terms}
 use Rattle.shares.specs.means.Terms.{meets}
 use Rattle.shares.specs.Search.{first, least_critical, found_of}
-use Rattle.shares.proofs.Words.{product_below}
 use Rattle.shares.proofs.Least.{least_past}
-use Rattle.shares.proofs.Walk.{search_same, search_past, search_here, search_on, least_by_terms, answer_none, answer_at}
+use Rattle.shares.proofs.Walk.{search_past, search_here, search_on, least_by_terms, answer_none, answer_at}
 use Rattle.shares.proofs.search.least_critical.Goals.{At-loop-b}
 use Rattle.shares.proofs.search.least_critical.Goals as goal
 
 pub returns-then-m-a : goal.returns-then-m-a
 returns-then-m-a c =
     sym (ap (found_of c.args.m) (least_past c.args.m c.args.f c.args.a (omega arith)) ∙ answer_none c.args.m)
-
-pub loop-b-init : goal.loop-b-init
-loop-b-init c =
-    let none : c.args.a - c.args.a ≡ 0 = omega arith in
-    record {
-      from = omega arith;
-      to = omega arith;
-      same = search_same _ _ _ _ (omega arith);
-      needed = rw (none, c.from-share.ensures) (omega arith);
-      had = rw c.from-share.ensures refl;
-    }
 
 -- The test at b, by the two sums.
 tested : (t : Terms) (a b need have : ℕ) → need ≡ t.slope * b + t.fixed + t.extra * (b - a) → have ≡ t.supply * b → meets t a b ≡ leb need have
@@ -71,20 +59,3 @@ returns-then-need-have c =
     let met = tested _ _ _ _ _ i.needed i.had ∙ le-leb _ _ covered in
     let here = search_here _ c.args.m c.loop-b.b within met in
     sym (ap (found_of c.args.m) (least_from_b (goal.at.returns-then-need-have c).At-loop-b ∙ here) ∙ answer_at c.args.m c.loop-b.b within)
-
--- Both sides of the test stay far below 2^64.
-small_sum : (x y z w b d : ℕ) → x < 2 ^ 41 → y < 2 ^ 40 → z < 2 ^ 40 → b < 2 ^ 7 → d < 2 ^ 7 → w ≡ x * b + y + z * d → w < 2 ^ 50
-small_sum x y z w b d hx hy hz hb hd e = omega (arith, product_below 41 7 x b hx hb, product_below 40 7 z d hz hd)
-
-pub overflow_add-need-in-loop-b-2 : goal.overflow_add-need-in-loop-b-2
-overflow_add-need-in-loop-b-2 c =
-    let s = c.new-t.ensures.small in
-    let i = c.loop-b.invariant in
-    omega (arith, s.slope, s.extra, small_sum _ _ _ _ _ _ s.slope s.fixed s.extra (omega (arith, i.to)) (omega (arith, i.to)) i.needed)
-
-pub overflow_add-have : goal.overflow_add-have
-overflow_add-have c =
-    let s = c.new-t.ensures.small in
-    let i = c.loop-b.invariant in
-    let few : c.loop-b.b < 2 ^ 7 = omega (arith, i.to) in
-    omega (arith, s.supply, i.had, product_below 40 7 _ _ s.supply few)

@@ -9,7 +9,7 @@ use lib.Dec.{leb}
 use lib.ListN.{length, take, get_or}
 use lib.Seq.{length-take-le}
 use Rattle.entries.specs.declared.state.TaskState.{TaskState}
-use Rattle.dispatcher.proofs.Entries.{Passed, no_entry, entry_at, turn_entry, passed_none, passed_broken, passed_more, passed_all}
+use Rattle.dispatcher.proofs.Entries.{no_entry, entry_at, turn_entry, passed_none, passed_broken, passed_more, passed_all}
 use Rattle.dispatcher.proofs.state.State.has_sound_entries.Goals.{Start, In-loop-e}
 use Rattle.dispatcher.proofs.state.State.has_sound_entries.Goals as goal
 
@@ -30,12 +30,6 @@ pub returns-then-not-is_sound : goal.returns-then-not-is_sound
 returns-then-not-is_sound c =
     let t = (goal.at.returns-then-not-is_sound c).In-loop-e in
     rw (passed_broken c.args.self.now (long (goal.at.returns-then-not-is_sound c).Start) _ _ _ (inside t) (rw (here t) at (sym c.is_sound.ensures ∙ c.if-not-is_sound.true)) c.loop-e.invariant)
-
-pub overflow_add-critical : goal.overflow_add-critical
-overflow_add-critical c = let p : Passed _ _ _ _ = c.loop-e.invariant in omega (arith, p.critical_small, c.from-critical.ensures, inside (goal.at.overflow_add-critical c).In-loop-e)
-
-pub overflow_add-typical : goal.overflow_add-typical
-overflow_add-typical c = let p : Passed _ _ _ _ = c.loop-e.invariant in omega (arith, p.typical_small, c.from-typical.ensures, inside (goal.at.overflow_add-typical c).In-loop-e)
 
 pub loop-e-preserved : goal.loop-e-preserved
 loop-e-preserved c =

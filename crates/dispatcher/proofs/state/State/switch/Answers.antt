@@ -1,15 +1,11 @@
 -- `dispatcher::state::State::switch`: each turn switches the next entry of the tasks; those behind the tasks stay.
-use mathlib.Core.Path.{◌≡◌, refl, sym, ap, ap₂, ◌∙◌}
+use mathlib.Core.Path.{ap, ap₂, ◌∙◌}
 use mathlib.Core.List.{List}
-use native.Mathlib.Omega.{arith}
-use lib.ListN.{length, set, take, get_or}
+use lib.ListN.{set, take, get_or}
 use Rattle.entries.specs.declared.state.TaskState.{TaskState}
 use Rattle.dispatcher.proofs.Entries.{no_entry}
-use Rattle.dispatcher.proofs.Switches.{switched, switched_up_to, switched_stored, switched_all}
+use Rattle.dispatcher.proofs.Switches.{switched, switched_stored, switched_all}
 use Rattle.dispatcher.proofs.state.State.switch.Goals as goal
-
-pub loop-e-init : goal.loop-e-init
-loop-e-init c = refl
 
 pub loop-e-preserved : goal.loop-e-preserved
 loop-e-preserved c =

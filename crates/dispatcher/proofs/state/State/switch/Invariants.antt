@@ -1,7 +1,6 @@
 -- `dispatcher::state::State::switch`. The loop's invariant: the entries passed are switched, and those to come are as
 -- they were.
 use mathlib.Core.Path.{◌≡◌}
-use lib.ListN.{take}
 use Rattle.dispatcher.proofs.Switches.{switched_up_to}
 use Rattle.dispatcher.proofs.state.State.switch.Given as goal
 
