@@ -9,6 +9,7 @@ use lib.ListN.{length}
 use Rattle.sheet.specs.declared.task.Task.{Task}
 use Rattle.sheet.specs.declared.task.TaskSet.{TaskSet}
 use Rattle.std.specs.Prelude.{Ok, Option, None, Some, is_none, unwrap_or}
+use Rattle.std.proofs.lemmas.Bool.{and_parts}
 use Rattle.sheet.specs.declared.refusal.Refusal.TheVariants.{BadHeader, BadRecord, BadFigure, BadMask, NotHeavy, NoFit}
 use Rattle.sheet.specs.Refusal.{refused_if, first_over}
 use Rattle.sheet.specs.Format.{processors_of, count_of, offset_of, length_of, level_at, nodes_at, task_at, tasks_below, task_set_of, task_in, missing_task, zero_task}
@@ -18,7 +19,7 @@ use Rattle.sheet.specs.Rules.{shape_lawful, figures_lawful, masks_lawful, is_hea
 use Rattle.reader.specs.Reading.{header_lawful, header_answer, place_answer, end_answer, shape_answer, record_answer, read_answer}
 use Rattle.basics.proofs.Cells.{cells-length, cells_at}
 use Rattle.sheet.proofs.Faults.{both_accepted, rule_kept, over_accepted}
-use Rattle.basics.proofs.Logic.{left_true, right_true, all_four, within_bounds}
+use Rattle.basics.proofs.Logic.{all_four, within_bounds}
 use Rattle.shares.specs.declared.share.Share.{Share}
 use Rattle.allocation.specs.Allocation.{chosen_for, share_answer, choice_answer}
 use Rattle.allocation.specs.Lawful.{LawfulTask, LawfulSet}
@@ -72,10 +73,10 @@ module _ (s : List ℕ) where
           let rules = rules_kept (task_at s (offset_of s i)) task_accepted in
           let level = level_lawful (level_at s (offset_of s i)) in
           let nodes = within 1 32 (nodes_at s (offset_of s i)) in
-          let shape = left_true (level && nodes) _ shape_kept in
+          let shape = (and_parts (level && nodes) _ shape_kept).0 in
           record {
-            level = left_true level nodes shape;
-            nodes = right_true level nodes shape;
+            level = (and_parts level nodes shape).0;
+            nodes = (and_parts level nodes shape).1;
             figures = rules.0;
             masks = rules.1;
             heavy = rules.2;

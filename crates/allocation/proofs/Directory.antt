@@ -122,28 +122,26 @@ entry_length place (t ∷ tasks) back (suc i) h small =
 pub tasks_length : (set : TaskSet) → LawfulSet set → length (tasks_of set) ≡ set.count
 tasks_length set lawful = length-take-le set.count set.tasks (omega (arith, lawful.all_there, lawful.few_tasks))
 
+-- Task i of the set is task i of the list.
+pub task_at_lem : (set : TaskSet) (i : ℕ) → i < set.count → get_or (tasks_of set) i missing_task ≡ task_in set i
+unfolding task_in
+task_at_lem set i inside = get_or-take set.count set.tasks i missing_task inside
+
 module _ (set : TaskSet) (lawful : LawfulSet set) (fits : (i : ℕ) → i < set.count → Encodable (task_in set i)) where
-  listed_all : length (tasks_of set) ≡ set.count
-  listed_all = tasks_length set lawful
-
-  task_at_lem : (i : ℕ) → i < set.count → get_or (tasks_of set) i missing_task ≡ task_in set i
-  unfolding task_in
-  task_at_lem i inside = get_or-take set.count set.tasks i missing_task inside
-
   head_length : length (head_of set) ≡ 2 + 4 * set.count
-  head_length = omega (arith, directory_length (2 + 4 * set.count) (tasks_of set), listed_all)
+  head_length = omega (arith, directory_length (2 + 4 * set.count) (tasks_of set), tasks_length set lawful)
 
   -- All of its places are numbers of two bytes.
   sheet_small : 2 + 4 * set.count + length (flat_map record_bytes (tasks_of set)) < 65536
   sheet_small =
       let held : (i : ℕ) → i < length (tasks_of set) → Encodable (get_or (tasks_of set) i missing_task) =
-      λ i h. let inside : i < set.count = omega (arith, listed_all) in rw (task_at_lem i inside) (fits i inside) in
-      omega (arith, records_most (tasks_of set) held, listed_all, lawful.few_tasks)
+      λ i h. let inside : i < set.count = omega (arith, tasks_length set lawful) in rw (task_at_lem set i inside) (fits i inside) in
+      omega (arith, records_most (tasks_of set) held, tasks_length set lawful, lawful.few_tasks)
 
   sheet_end : length (sheet_bytes set) ≡ 2 + 4 * set.count + before (tasks_of set) set.count
   unfolding sheet_bytes
   sheet_end =
-      let all = take_all set.count (tasks_of set) (omega (arith, listed_all)) in
+      let all = take_all set.count (tasks_of set) (omega (arith, tasks_length set lawful)) in
       length-append (head_of set) (flat_map record_bytes (tasks_of set))
       ∙ omega (arith, head_length, ap (λ (l : List Task). length (flat_map record_bytes l)) all)
 
@@ -160,7 +158,7 @@ module _ (set : TaskSet) (lawful : LawfulSet set) (fits : (i : ℕ) → i < set.
 
   module _ (i : ℕ) (inside : i < set.count) where
     listed : i < length (tasks_of set)
-    listed = omega (arith, listed_all)
+    listed = omega (arith, tasks_length set lawful)
 
     sheet_offset : offset_of (sheet_bytes set) i ≡ 2 + 4 * set.count + before (tasks_of set) i
     unfolding offset_of
@@ -173,7 +171,7 @@ module _ (set : TaskSet) (lawful : LawfulSet set) (fits : (i : ℕ) → i < set.
     sheet_length =
         directory_at (2 + 4 * i) (4 + 4 * i) (omega arith)
         ∙ entry_length (2 + 4 * set.count) (tasks_of set) (flat_map record_bytes (tasks_of set)) i listed (omega (arith, sheet_small))
-        ∙ ap (λ (t : Task). length (record_bytes t)) (task_at_lem i inside)
+        ∙ ap (λ (t : Task). length (record_bytes t)) (task_at_lem set i inside)
 
     front_length : length (front_of set i) ≡ 2 + 4 * set.count + before (tasks_of set) i
     front_length = length-append (head_of set) (flat_map record_bytes (take i (tasks_of set))) ∙ omega (arith, head_length)
@@ -184,7 +182,7 @@ module _ (set : TaskSet) (lawful : LawfulSet set) (fits : (i : ℕ) → i < set.
         let back = flat_map record_bytes (drop (suc i) (tasks_of set)) in
         ap (λ (l : List ℕ). head_of set ++ l) (records_split (tasks_of set) i listed)
         ∙ sym (append_assoc (head_of set) (flat_map record_bytes (take i (tasks_of set))) _)
-        ∙ ap (λ (t : Task). front_of set i ++ (record_bytes t ++ back)) (task_at_lem i inside)
+        ∙ ap (λ (t : Task). front_of set i ++ (record_bytes t ++ back)) (task_at_lem set i inside)
 
     -- Task i is read where the directory says that its record begins.
     pub sheet_task : task_at (sheet_bytes set) (offset_of (sheet_bytes set) i) ≡ task_in set i
@@ -198,7 +196,7 @@ module _ (set : TaskSet) (lawful : LawfulSet set) (fits : (i : ℕ) → i < set.
   unfolding place_of count_of byte_at sheet_bytes
   sheet_place zero h = omega arith
   sheet_place (suc i) h =
-      let bytes = ap (λ (t : Task). length (record_bytes t)) (task_at_lem i h) in
+      let bytes = ap (λ (t : Task). length (record_bytes t)) (task_at_lem set i h) in
       omega (arith, sheet_offset i h, sheet_length i h, before_next (tasks_of set) i (listed i h))
 
   pub sheet_places : (i : ℕ) → i < set.count → offset_of (sheet_bytes set) i ≡ place_of (sheet_bytes set) i

@@ -2,6 +2,7 @@
 use Prim.Native.Nat.{ℕ, ◌+◌, ◌-◌, ◌≤◌, ◌<◌}
 use mathlib.Core.Path.{◌≡◌, refl, sym, ap, ◌∙◌, subst}
 use mathlib.Core.Bool.{Bool, true, false}
+use mathlib.Core.List.Memᴰ
 use mathlib.Core.List.{List, [], ◌∷◌, map, Memᴰ}
 use native.Mathlib.Omega.{arith}
 use native.Mathlib.Decide.{dec_le}
@@ -9,7 +10,7 @@ use lib.Dec.{T}
 use lib.ListN.{get_or, drop}
 use borrow.Author.Tests.{eqb-true, eq-eqb}
 use Rattle.basics.specs.Order.{capped_at}
-use Rattle.basics.proofs.Members.{map-has, map_from, filter-has, filter_from}
+use Rattle.basics.proofs.Members.{filter-has, filter_from}
 use Rattle.basics.proofs.Order.{capped_is}
 use Rattle.sheet.specs.declared.task.Task.{Task}
 use Rattle.sheet.specs.declared.task.TaskSet.{TaskSet}
@@ -90,13 +91,13 @@ module _ (M N : ℕ) (t : Task) (more : M ≤ N) where
   offer_is lawful a one to =
       capped_is (M + 1) (critical_shares M N t a) (critical_at M t a) (critical_bound M t a)
       (λ y m.
-      let image = map_from (λ (s : Share). s.critical) _ y m in
-      let found = filter_from _ (options_up_to M N t) image.0 image.1.0 in
+      let image = Memᴰ.of_map (λ (s : Share). s.critical) _ m in
+      let found = filter_from _ (options_up_to M N t) image.0 image.1 in
       let here : image.0.typical ≡ a = eqb-true _ a found.1 in
       let most = (up_below lawful).least image.0 found.0 (omega arith) in
-      omega (arith, ap (critical_at M t) here, image.1.1))
+      omega (arith, ap (critical_at M t) here, image.2))
       (λ below.
-      map-has (λ (s : Share). s.critical) _ (offered (critical_at M t) a)
+      Memᴰ.map (λ (s : Share). s.critical)
       (filter-has _ (options_up_to M N t) (offered (critical_at M t) a)
       (options_more _ ((offer_of_lem M t lawful).offers a one to (omega arith))) (eq-eqb a a refl)))
 
@@ -139,15 +140,15 @@ module _ (set : TaskSet) (lawful : LawfulSet set) where
     total_is i t inside to =
         capped_is (set.processors + 1) (critical_totals set.processors N (drop i (tasks_of set)) t) (least_total set.processors (drop i offers) t) (total_bound set.processors (drop i offers) t)
         (λ y m.
-        let image = map_from critical_total _ y m in
-        let found = filter_from _ (choices (map (options_up_to set.processors N) (drop i (tasks_of set)))) image.0 image.1.0 in
+        let image = Memᴰ.of_map critical_total _ m in
+        let found = filter_from _ (choices (map (options_up_to set.processors N) (drop i (tasks_of set)))) image.0 image.1 in
         let here : typical_total image.0 ≡ t = eqb-true _ t found.1 in
         let least = total_least set.processors below image.0 (choice_takes (map (options_up_to set.processors N) (drop i (tasks_of set))) image.0 found.0) (omega arith) in
-        omega (arith, ap (least_total set.processors (drop i offers)) here, image.1.1))
+        omega (arith, ap (least_total set.processors (drop i offers)) here, image.2))
         (λ less.
         let sound = select_sound (set_offers set lawful i inside) t to (omega arith) in
         subst (λ (x : ℕ). Memᴰ x (critical_totals set.processors N (drop i (tasks_of set)) t)) sound.critical
-        (map-has critical_total _ (shares_at set.processors (drop i offers) t)
+        (Memᴰ.map critical_total
         (filter-has _ (choices (map (options_up_to set.processors N) (drop i (tasks_of set)))) (shares_at set.processors (drop i offers) t)
         (takes_choice (map (options_up_to set.processors N) (drop i (tasks_of set))) _ (takes_more set.processors N more (drop i (tasks_of set)) _ sound.takes)) (eq-eqb _ t sound.typical))))
       where

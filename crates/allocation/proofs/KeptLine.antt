@@ -34,7 +34,8 @@ use Rattle.allocation.proofs.Sixteen.{sixteen-length, share_same, sixteen-take}
 use Rattle.keeping.proofs.Laws.{with_length, with_share_lem}
 use Rattle.allocation.specs.Verdict.{Verdict}
 use Rattle.allocation.proofs.Ways.{choice_verdict}
-use Rattle.allocation.proofs.SetShares.{tasks_there, task_at_lem, low_zero, shares_lawful}
+use Rattle.allocation.proofs.Directory.{tasks_length, task_at_lem}
+use Rattle.allocation.proofs.SetShares.{low_zero, shares_lawful}
 
 -- The line of shares with kept ones.
 line_with : (kept : List ℕ) (choice : List Share) → length choice ≤ 16 → with_kept kept (sixteen choice) ≡ sixteen (with_kept kept choice)
@@ -74,15 +75,15 @@ module _ (set : TaskSet) (lawful : LawfulSet set) (choice : List Share) (chosen_
       (λ i inside.
       ap (λ (s : Share). eqb s.critical 0) (share_same choice few i)
       ∙ by_level i inside (is_low (get_or (tasks_of set) i missing_task).level) refl)
-      ∙ ap (λ (n : ℕ). filter (λ i. is_low (get_or (tasks_of set) i missing_task).level) (range 0 n)) (sym (tasks_there set lawful choice chosen_it))
+      ∙ ap (λ (n : ℕ). filter (λ i. is_low (get_or (tasks_of set) i missing_task).level) (range 0 n)) (sym (tasks_length set lawful))
     where
       by_level : (i : ℕ) → i < set.count → (t : Bool) → is_low (get_or (tasks_of set) i missing_task).level ≡ t → eqb (share_at choice i).critical 0 ≡ t
       by_level i inside true low =
-          eq-eqb _ 0 (low_zero set lawful choice chosen_it i (omega (arith, tasks_there set lawful choice chosen_it)) low)
+          eq-eqb _ 0 (low_zero set lawful choice chosen_it i (omega (arith, tasks_length set lawful)) low)
       by_level i inside false high =
           let pair =
           chosen_high set lawful choice chosen_it i inside
-          (sym (ap (λ (t : Task). is_low t.level) (task_at_lem set lawful choice chosen_it i inside)) ∙ high) in
+          (sym (ap (λ (t : Task). is_low t.level) (task_at_lem set i inside)) ∙ high) in
           ne_eqb _ 0 (some_critical i pair.positive pair.ordered)
         where
           some_critical : (i : ℕ) → 1 ≤ (get_or choice i no_processors).typical →

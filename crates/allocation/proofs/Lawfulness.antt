@@ -4,11 +4,12 @@ use mathlib.Core.Path.{◌≡◌}
 use mathlib.Core.Bool.{Bool, true, false, ◌&&◌, ◌||◌, not, false≢true}
 use lib.Dec.{leb, eqb}
 use borrow.Author.Tests.{leb-true, ltb-true, eqb-true}
+use Rattle.std.proofs.lemmas.Bool.{and_parts}
 use Rattle.sheet.specs.declared.task.Figures.{Figures}
 use Rattle.basics.specs.Numbers.{within}
 use Rattle.sheet.specs.Level.{is_high, is_low, figure_limit}
 use Rattle.sheet.specs.Rules.{in_range, in_order, low_lawful, figures_lawful, is_heavy}
-use Rattle.basics.proofs.Logic.{left_true, right_true, all_five, within_bounds}
+use Rattle.basics.proofs.Logic.{all_five, within_bounds}
 
 -- What the figures of a lawful task keep.
 pub record Kept (level : ℕ) (f : Figures) : Type 0 where
@@ -22,15 +23,15 @@ pub record Kept (level : ℕ) (f : Figures) : Type 0 where
 module _ (level : ℕ) (f : Figures) (lawful : figures_lawful level f ≡ true) where
   in_range_lem : in_range level f ≡ true
   unfolding figures_lawful
-  in_range_lem = left_true _ _ (left_true (in_range level f && in_order f) _ lawful)
+  in_range_lem = (and_parts _ _ (and_parts (in_range level f && in_order f) _ lawful).0).0
 
   ordered : in_order f ≡ true
   unfolding figures_lawful
-  ordered = right_true (in_range level f) _ (left_true (in_range level f && in_order f) _ lawful)
+  ordered = (and_parts (in_range level f) _ (and_parts (in_range level f && in_order f) _ lawful).0).1
 
   low_kept : low_lawful level f ≡ true
   unfolding figures_lawful
-  low_kept = right_true (in_range level f && in_order f) _ lawful
+  low_kept = (and_parts (in_range level f && in_order f) _ lawful).1
 
   pub figures_kept : Kept level f
   unfolding in_range in_order
@@ -53,10 +54,8 @@ module _ (level : ℕ) (f : Figures) (lawful : figures_lawful level f ≡ true) 
   pub low_equal : is_low level ≡ true → (f.nominal.work ≡ f.overload.work) × (f.nominal.span ≡ f.overload.span)
   unfolding low_lawful is_low
   low_equal low =
-      let both = go (is_high level) low low_kept in (
-        eqb-true _ _ (left_true (eqb f.nominal.work f.overload.work) _ both),
-        eqb-true _ _ (right_true (eqb f.nominal.work f.overload.work) _ both),
-      )
+      let both = and_parts (eqb f.nominal.work f.overload.work) _ (go (is_high level) low low_kept) in
+      (eqb-true _ _ both.0, eqb-true _ _ both.1)
     where
       go : {rest : Bool} (high : Bool) → not high ≡ true → high || rest ≡ true → rest ≡ true
       go true e h = absurd (false≢true e)

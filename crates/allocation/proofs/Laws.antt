@@ -12,10 +12,10 @@ use lib.Dec.{T, leb}
 use lib.ListN.{length, get_or}
 use lib.Seq.{length-take-le}
 use borrow.Author.Tests.{leb-true}
+use Rattle.std.proofs.lemmas.Bool.{and_parts, false_from_ne_true}
 use Rattle.sheet.specs.declared.task.Task.{Task}
 use Rattle.sheet.specs.declared.task.TaskSet.{TaskSet}
 use Rattle.sheet.specs.Format.{task_in}
-use Rattle.basics.proofs.Logic.{left_true, right_true}
 use Rattle.shares.specs.declared.share.Share.{Share}
 use Rattle.shares.specs.Deadline.{virtual_deadline_of}
 use Rattle.sheet.specs.Level.{is_low}
@@ -68,11 +68,9 @@ module _ (M : ℕ) (tasks : List Task) where
   pub chosen_before : (choice other : List Share) → chosen M tasks ≡ Some choice →
       Memᴰ other (choices (map (options_of M) tasks)) → fits M other ≡ true → (other ≡ choice → ⊥) →
       no_later (rank other) (rank choice) ≡ false
-  chosen_before choice other e m fit differs = go (no_later (rank other) (rank choice)) refl
-    where
-      go : (t : Bool) → no_later (rank other) (rank choice) ≡ t → t ≡ false
-      go false q = refl
-      go true q = absurd (differs (rank_same other choice (no_later_both (rank other) (rank choice) q (chosen-first choice other e m fit))))
+  chosen_before choice other e m fit differs =
+      false_from_ne_true _
+      (λ q. differs (rank_same other choice (no_later_both (rank other) (rank choice) q (chosen-first choice other e m fit))))
 
   -- Nothing is chosen only where nothing fits.
   pub chosen_none : chosen M tasks ≡ None → (choice : List Share) → Memᴰ choice (choices (map (options_of M) tasks)) →
@@ -111,11 +109,11 @@ module _ (set : TaskSet) (lawful : LawfulSet set) (choice : List Share) (chosen_
   -- The typical shares total at most M, and so do the critical ones.
   pub chosen_typical : typical_total choice ≤ set.processors
   unfolding fits
-  chosen_typical = leb-true _ _ (left_true (leb (typical_total choice) set.processors) _ totals_fit)
+  chosen_typical = leb-true _ _ (and_parts (leb (typical_total choice) set.processors) _ totals_fit).0
 
   pub chosen_critical : critical_total choice ≤ set.processors
   unfolding fits
-  chosen_critical = leb-true _ _ (right_true (leb (typical_total choice) set.processors) _ totals_fit)
+  chosen_critical = leb-true _ _ (and_parts (leb (typical_total choice) set.processors) _ totals_fit).1
 
   module _ (i : ℕ) (inside : i < set.count) where
     pub chosen_option : Memᴰ (get_or choice i no_processors) (options_of set.processors (task_in set i))

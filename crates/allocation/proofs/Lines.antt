@@ -5,9 +5,10 @@ use mathlib.Core.List.{List, [], ◌∷◌, map}
 use native.Mathlib.Numerals.{add-one}
 use native.Mathlib.Omega.{arith}
 use native.Mathlib.Decide.{dec_le}
-use lib.ListN.{length, get_or, take, drop, set, replicate, length-map, get_or-map, get_or-eq_default, drop_of_length-le}
+use lib.ListN.{length, get_or, take, drop, set, replicate, length-map, get_or-map, get_or-eq_default}
 use lib.Seq.{drop-cons, get_or-take, get_or-drop, drop-drop, length-take-le}
 use Rattle.basics.specs.Lists.{cells}
+use Rattle.std.proofs.lemmas.List.{drop_all}
 use Rattle.basics.proofs.Cells.{cells_none, cells_store, cells_at}
 use Rattle.shares.specs.declared.share.Share.{Share}
 use Rattle.shares.specs.Offer.{tabulate}
@@ -15,7 +16,7 @@ use Rattle.shares.proofs.Offers.{tabulate_at, tabulate-length, tabulated}
 use Rattle.shares.specs.Totals.{no_processors}
 use Rattle.allocation.specs.Allocation.{sixteen}
 use Rattle.allocation.specs.means.Selection.{cell_at, least_from, sum_at, best_share, total_with, least_total, totals_of, offered, shares_at, best_total, missing_offer, missing_totals, offers_up_to, last_totals, total_at, Small, OfferWithin}
-use Rattle.allocation.proofs.Firsts.{least_same, least_to, least_taken, least_kept}
+use Rattle.allocation.proofs.Firsts.{least_same, least_taken, least_kept}
 use Rattle.allocation.proofs.Optimal.{best_from, best_to, with_positive, with_best, with_none, with_some, total_bound}
 
 -- Numbers that agree are tabulated alike.
@@ -161,15 +162,10 @@ unfoldable pub lines : ℕ → List (ℕ → ℕ) → ℕ → ℕ → List (List
 lines M offers n k = cells 17 (line M offers n) (no_line M) (k + 1)
 
 module _ (M n : ℕ) (offers : List (ℕ → ℕ)) (all_present : length offers ≡ n) where
-  last_line : drop (n - 0) offers ≡ []
-  last_line =
-      let past : length offers ≤ n - 0 = omega arith in
-      drop_of_length-le offers past
-
   pub lines_start : replicate 17 (no_line M) ≡ lines M offers n 0
   unfolding lines
   lines_start =
-      ap (λ (x : List ℕ). set (replicate 17 (no_line M)) 0 x) (ap (λ (r : List (ℕ → ℕ)). totals_of M r) (sym last_line))
+      ap (λ (x : List ℕ). set (replicate 17 (no_line M)) 0 x) (ap (λ (r : List (ℕ → ℕ)). totals_of M r) (sym (drop_all (n - 0) offers (omega arith))))
       ∙ ap (λ (l : List (List ℕ)). set l 0 (line M offers n 0)) (sym (cells_none (line M offers n) (no_line M) 0 17 0 (omega arith)))
       ∙ cells_store (line M offers n) (no_line M) 17 0 (omega arith)
 
@@ -219,10 +215,6 @@ pub best_total_is : (M : ℕ) (offers : List (ℕ → ℕ)) → M ≤ 64 → lea
 unfolding best_total
 best_total_is M offers small =
     least_same (total_at (totals_of M offers)) (least_total M offers) 0 M (λ t from to. entry_totals M offers t (omega arith))
-
-pub best_total_within : (M : ℕ) (offers : List (ℕ → ℕ)) → best_total M offers ≤ M
-unfolding best_total
-best_total_within M offers = omega (arith, least_to (least_total M offers) 0 M)
 
 -- One step of the walk: the first task's share, and what is left for the tasks after it.
 module _ (M : ℕ) (offer : ℕ → ℕ) (offers : List (ℕ → ℕ)) (t a : ℕ) (small : t ≤ 64) (within : least_total M (offer ∷ offers) t ≤ M)

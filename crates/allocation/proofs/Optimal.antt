@@ -12,13 +12,13 @@ use native.Mathlib.Nat.{min-le_left, min-le_right, min-eq_left, min-eq_right}
 use native.Mathlib.Decide.{dec_le}
 use lib.Dec.{leb, eqb}
 use borrow.Author.Tests.{leb-true, leb-false, le-leb, eqb-true, ne_eqb}
-use Rattle.basics.proofs.Logic.{left_true, right_true}
+use Rattle.std.proofs.lemmas.Bool.{and_parts}
 use Rattle.shares.specs.declared.share.Share.{Share}
 use Rattle.shares.specs.Totals.{typical_total, critical_total}
 use Rattle.basics.specs.Order.{no_later, least_by}
 use Rattle.allocation.specs.Choice.{choices, fits, pair_numbers, rank}
 use Rattle.allocation.specs.means.Selection.{sum_at, best_share, total_with, least_total, offered, shares_at, best_total, selected}
-use Rattle.basics.proofs.Members.{flat_map-has, flat_map_from, map-has, map_from, filter-has, filter_from, none_empty}
+use Rattle.basics.proofs.Members.{flat_map-has, flat_map_from, filter-has, filter_from, none_empty}
 use Rattle.basics.proofs.Order.{least_is, least_of_none}
 use Rattle.allocation.proofs.Ranks.{pairs_no_later, ranks_no_later, rank_same}
 use Rattle.allocation.proofs.Firsts.{least_from_lem, least_to, least_at_most, least-first_at}
@@ -63,17 +63,17 @@ takes_choice [] [] t = Memᴰ.head refl
 takes_choice [] (s ∷ choice) t = absurd t
 takes_choice (options ∷ rest) [] t = absurd t
 takes_choice (options ∷ rest) (s ∷ choice) (m, t) =
-    flat_map-has _ options s (s ∷ choice) m (map-has (λ c. s ∷ c) (choices rest) choice (takes_choice rest choice t))
+    flat_map-has _ options s (s ∷ choice) m (Memᴰ.map (λ c. s ∷ c) (takes_choice rest choice t))
 
 pub choice_takes : (rest : List (List Share)) (choice : List Share) → Memᴰ choice (choices rest) → Takes rest choice
 choice_takes [] [] m = tt
 choice_takes [] (s ∷ choice) m =
     let same : s ∷ choice ≡ [] = Memᴰ.eq_of_singleton m in
-    absurd (let z : ◌≡◌ {A = ℕ} 0 1 = cc in omega arith)
+    absurd (cc)
 choice_takes (options ∷ rest) choice m =
     let found = flat_map_from _ options choice m in
-    let tail = map_from (λ c. found.0 ∷ c) (choices rest) choice found.1.1 in
-    subst (Takes (options ∷ rest)) (sym tail.1.1) (found.1.0, choice_takes rest tail.0 tail.1.0)
+    let tail = Memᴰ.of_map (λ c. found.0 ∷ c) (choices rest) found.1.1 in
+    subst (Takes (options ∷ rest)) tail.2 (found.1.0, choice_takes rest tail.0 tail.1)
 
 -- One task beside the tasks after it.
 module _ (M : ℕ) (offer rest : ℕ → ℕ) (t : ℕ) where
@@ -215,11 +215,11 @@ select_first {M} (offer_and {offer = offer} {rest = tasks} {offers = offers} r r
     let rest_same : critical_total rival ≡ least_total M offers (t - a) = rest_own ∙ ap (least_total M offers) gone in
     select_first rs (t - a) (omega arith) (omega arith) rival takes (omega arith) rest_same)
 
-module _ {M : ℕ} {tasks : List (List Share)} {offers : List (ℕ → ℕ)} (r : Offers M tasks offers) (few : M ≤ 64) where
-  best_total_to : best_total M offers ≤ M
-  unfolding best_total
-  best_total_to = omega (arith, least_to (least_total M offers) 0 M)
+pub best_total_within : (M : ℕ) (offers : List (ℕ → ℕ)) → best_total M offers ≤ M
+unfolding best_total
+best_total_within M offers = omega (arith, least_to (least_total M offers) 0 M)
 
+module _ {M : ℕ} {tasks : List (List Share)} {offers : List (ℕ → ℕ)} (r : Offers M tasks offers) (few : M ≤ 64) where
   best_total_least : (t : ℕ) → t ≤ M → least_total M offers (best_total M offers) ≤ least_total M offers t
   unfolding best_total
   best_total_least t to = least_at_most (least_total M offers) 0 M t (omega arith) (omega arith)
@@ -235,8 +235,8 @@ module _ {M : ℕ} {tasks : List (List Share)} {offers : List (ℕ → ℕ)} (r 
   fitting_total choice m =
       let found = filter_from (fits M) (choices tasks) choice m in (
         choice_takes tasks choice found.0,
-        leb-true _ _ (left_true _ _ found.1),
-        leb-true _ _ (right_true (leb (typical_total choice) M) _ found.1),
+        leb-true _ _ (and_parts _ _ found.1).0,
+        leb-true _ _ (and_parts (leb (typical_total choice) M) _ found.1).1,
       )
 
   fitting-least : (choice : List Share) → Memᴰ choice (filter (fits M) (choices tasks)) →
@@ -255,8 +255,8 @@ module _ {M : ℕ} {tasks : List (List Share)} {offers : List (ℕ → ℕ)} (r 
     select_fits : Memᴰ (shares_at M offers (best_total M offers)) (filter (fits M) (choices tasks))
     unfolding fits
     select_fits =
-        let sound = select_sound r (best_total M offers) (omega (arith, best_total_to)) within in
-        let typical : typical_total (shares_at M offers (best_total M offers)) ≤ M = rw sound.typical best_total_to in
+        let sound = select_sound r (best_total M offers) (omega (arith, best_total_within M offers)) within in
+        let typical : typical_total (shares_at M offers (best_total M offers)) ≤ M = rw sound.typical (best_total_within M offers) in
         let critical : critical_total (shares_at M offers (best_total M offers)) ≤ M = rw sound.critical within in
         filter-has (fits M) (choices tasks) (shares_at M offers (best_total M offers)) (takes_choice tasks _ sound.takes)
         (rw (le-leb _ M typical, le-leb _ M critical))
@@ -265,7 +265,7 @@ module _ {M : ℕ} {tasks : List (List Share)} {offers : List (ℕ → ℕ)} (r 
         no_later (rank (shares_at M offers (best_total M offers))) (rank rival) ≡ true
     select_no_later rival m =
         let (takes, typical, critical) = fitting_total rival m in
-        let sound = select_sound r (best_total M offers) (omega (arith, best_total_to)) within in
+        let sound = select_sound r (best_total M offers) (omega (arith, best_total_within M offers)) within in
         let least = total_least M (all_below_lem M r) rival takes typical in
         ranks_no_later (shares_at M offers (best_total M offers)) rival
         (omega (arith, sound.critical, fitting-least rival m))
@@ -273,7 +273,7 @@ module _ {M : ℕ} {tasks : List (List Share)} {offers : List (ℕ → ℕ)} (r 
         let first = best_total_first (typical_total rival) typical (omega (arith, sound.critical)) in
         omega (arith, sound.typical))
         (λ same-critical same_typical.
-        select_first r (best_total M offers) (omega (arith, best_total_to)) within rival takes
+        select_first r (best_total M offers) (omega (arith, best_total_within M offers)) within rival takes
         (sym same_typical ∙ sound.typical) (sym same-critical ∙ sound.critical))
 
     select_chosen : least_by rank (filter (fits M) (choices tasks)) ≡ Some (shares_at M offers (best_total M offers))

@@ -1,12 +1,13 @@
 -- What a task may take, and its offer: a low task's one share, and a high task's passing pairs, of which the offer has
 -- the least at each typical share.
 use Prim.Native.Nat.{ℕ, ◌+◌, ◌-◌, ◌≤◌, ◌<◌}
-use mathlib.Core.Path.{◌≡◌, refl, sym, ap, ◌∙◌, subst}
+use mathlib.Core.Path.{◌≡◌, refl, sym, ap, ◌∙◌, subst, ap₂}
 use mathlib.Core.Bool.{Bool, true, false, cond}
 use mathlib.Core.List.Memᴰ
 use mathlib.Core.List.{List, [], ◌∷◌, Memᴰ}
 use native.Mathlib.Omega.{arith}
 use lib.Dec.{T}
+use lib.Ieee.Bits.{is_true}
 use Rattle.sheet.specs.declared.task.Figures.{Figures}
 use Rattle.sheet.specs.declared.task.Task.{Task}
 use Rattle.shares.specs.declared.share.Share.{Share}
@@ -22,13 +23,9 @@ use Rattle.basics.specs.Lists.{range}
 use Rattle.allocation.specs.Choice.{low_options, pairs_within, high_options, options_of}
 use Rattle.allocation.specs.Way.{LowPair, HighPair, MayTake}
 use Rattle.allocation.specs.Lawful.{LawfulTask}
-use Rattle.basics.proofs.Members.{range-has, range-within, flat_map-has, flat_map_from, map-has, map_from, filter-has, filter_from}
+use Rattle.basics.proofs.Members.{range-has, range-within, flat_map-has, flat_map_from, filter-has, filter_from}
 use Rattle.allocation.proofs.Lawfulness.{low_equal, heavy_work}
 use Rattle.allocation.proofs.Optimal.{OfferOf}
-
-holds : (b : Bool) → T b → b ≡ true
-holds true t = refl
-holds false t = absurd t
 
 module _ (M : ℕ) (f : Figures) where
   pub low_from : (s : Share) → Memᴰ s (low_options M f) → LowPair M f s
@@ -44,22 +41,18 @@ module _ (M : ℕ) (f : Figures) where
 
   pub low_has : (s : Share) → LowPair M f s → Memᴰ s (low_options M f)
   unfolding low_options
-  low_has s pair = rw pair.has (Memᴰ.head (share_is pair.typical pair.critical))
-    where
-      share_is : {a b a' b' : ℕ} → a ≡ a' → b ≡ b' →
-          ◌≡◌ {A = Share} (record { typical = a; critical = b }) (record { typical = a'; critical = b' })
-      share_is e e' = rw (e, e')
+  low_has s pair = rw pair.has (Memᴰ.head (ap₂ (λ (a b : ℕ). record { typical = a; critical = b }) pair.typical pair.critical))
 
   pub high_from_lem : (s : Share) → Memᴰ s (high_options M f) → HighPair M f s
   unfolding high_options pairs_within
   high_from_lem s m =
       let kept = filter_from _ _ s m in
       let outer = flat_map_from _ (range 1 M) s kept.0 in
-      let inner = map_from _ (range outer.0 (M + 1 - outer.0)) s outer.1.1 in
+      let inner = Memᴰ.of_map _ (range outer.0 (M + 1 - outer.0)) outer.1.1 in
       let a = range-within 1 M _ outer.1.0 in
-      let b = range-within outer.0 (M + 1 - outer.0) _ inner.1.0 in
+      let b = range-within outer.0 (M + 1 - outer.0) _ inner.1 in
       pair outer.0 inner.0
-      (ap (λ (x : Share). x.typical) inner.1.1) (ap (λ (x : Share). x.critical) inner.1.1)
+      (ap (λ (x : Share). x.typical) (sym inner.2)) (ap (λ (x : Share). x.critical) (sym inner.2))
       a.0 a.1 b.0 b.1 kept.1
     where
       pair : (a b : ℕ) → s.typical ≡ a → s.critical ≡ b → 1 ≤ a → a < 1 + M → a ≤ b → b < a + (M + 1 - a) →
@@ -74,7 +67,7 @@ module _ (M : ℕ) (f : Figures) where
       let within = pair.within in
       filter-has _ _ s
       (flat_map-has _ (range 1 M) s.typical s (range-has 1 M s.typical pair.positive (omega arith))
-      (map-has (λ (b : ℕ). record { typical = s.typical; critical = b }) (range s.typical (M + 1 - s.typical)) s.critical
+      (Memᴰ.map (λ (b : ℕ). record { typical = s.typical; critical = b })
       (range-has s.typical (M + 1 - s.typical) s.critical ordered (omega arith))))
       pair.passing
 
@@ -146,7 +139,7 @@ module _ (M : ℕ) (t : Task) where
               positive = one;
               ordered = rw (critical_high M t high) (least_from_lem M t.figures a few);
               within = offers;
-              passing = rw (critical_high M t high) (holds _ (least-passes M t.figures a few));
+              passing = rw (critical_high M t high) (is_true _ (least-passes M t.figures a few));
             });
       }
 

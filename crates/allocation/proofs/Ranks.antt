@@ -1,6 +1,6 @@
 -- The order on choices: two choices that come no later than each other are one, since a choice is known by its numbers.
 use Prim.Native.Nat.{ℕ, ◌≤◌}
-use mathlib.Core.Path.{◌≡◌, refl}
+use mathlib.Core.Path.{◌≡◌, refl, ap₂}
 use mathlib.Core.Bool.{true}
 use mathlib.Core.List.{List, [], ◌∷◌}
 use native.Mathlib.Omega.{arith}
@@ -29,20 +29,16 @@ ranks_no_later c d critical typical rest =
     no_later_if (critical_total c) (critical_total d) (typical_total c ∷ pair_numbers c) (typical_total d ∷ pair_numbers d) critical
     (λ same. no_later_if (typical_total c) (typical_total d) (pair_numbers c) (pair_numbers d) (typical same) (rest same))
 
-share_same : (a b a' b' : ℕ) → a ≡ a' → b ≡ b' →
-    ◌≡◌ {A = Share} (record { typical = a; critical = b }) (record { typical = a'; critical = b' })
-share_same a b a' b' e f = rw (e, f)
-
 -- A choice is known by its numbers.
 pub pairs_same : (c d : List Share) → pair_numbers c ≡ pair_numbers d → c ≡ d
 pairs_same [] [] e = refl
-pairs_same [] (u ∷ d) e = absurd (let z : ◌≡◌ {A = ℕ} 0 1 = cc in omega arith)
-pairs_same (s ∷ c) [] e = absurd (let z : ◌≡◌ {A = ℕ} 0 1 = cc in omega arith)
+pairs_same [] (u ∷ d) e = absurd (cc)
+pairs_same (s ∷ c) [] e = absurd (cc)
 pairs_same (s ∷ c) (u ∷ d) e =
     let rest : pair_numbers c ≡ pair_numbers d = cc in
     let typical : s.typical ≡ u.typical = cc in
     let critical : s.critical ≡ u.critical = cc in
-    let here : s ≡ u = share_same s.typical s.critical u.typical u.critical typical critical in
+    let here : s ≡ u = ap₂ (λ (a b : ℕ). record { typical = a; critical = b }) typical critical in
     rw (here, pairs_same c d rest)
 
 pub rank_same : (c d : List Share) → rank c ≡ rank d → c ≡ d

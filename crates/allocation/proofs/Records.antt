@@ -10,10 +10,11 @@ use lib.Dec.{leb, ltb}
 use lib.ListN.{length, get_or, drop, replicate}
 use lib.Pow.{pow_mono}
 use borrow.Author.Tests.{leb-true, le-leb, lt-ltb}
+use Rattle.std.proofs.lemmas.Bool.{and_parts}
 use Rattle.std.specs.List.{list_all}
 use Rattle.basics.specs.Numbers.{within}
 use Rattle.basics.proofs.Below.{all_at}
-use Rattle.basics.proofs.Logic.{left_true, right_true, all_five, within_bounds}
+use Rattle.basics.proofs.Logic.{all_five, within_bounds}
 use Rattle.sheet.specs.declared.task.Figures.{Figures}
 use Rattle.sheet.specs.declared.task.Task.{Task}
 use Rattle.sheet.specs.Level.{level_lawful, figure_limit}
@@ -56,7 +57,7 @@ pub encodable : (t : Task) → LawfulTask t → length t.predecessors ≡ 32 →
     drop t.nodes t.predecessors ≡ replicate (32 - t.nodes) 0 → Encodable t
 unfolding figures_lawful
 encodable t lawful long none =
-    let ranged = in_range_lem t.level t.figures (left_true _ _ (left_true _ _ lawful.figures)) in
+    let ranged = in_range_lem t.level t.figures (and_parts _ _ (and_parts _ _ lawful.figures).0).0 in
     let room = limit_room t.level in
     let few = (within_bounds 1 32 t.nodes lawful.nodes).1 in
     record {
@@ -103,13 +104,9 @@ module _ (level : ℕ) (f : Figures) where
   figures_wide : figures_lawful level f ≡ true → figures_lawful (wide_level level) f ≡ true
   unfolding figures_lawful
   figures_wide h =
-      let both = left_true (in_range level f && in_order f) (low_lawful level f) h in
-      rw (
-        range_grows (left_true (in_range level f) (in_order f) both),
-        right_true (in_range level f) (in_order f) both,
-        low_same,
-        right_true (in_range level f && in_order f) (low_lawful level f) h,
-      )
+      let rules = and_parts (in_range level f && in_order f) (low_lawful level f) h in
+      let both = and_parts (in_range level f) (in_order f) rules.0 in
+      rw (range_grows both.0, both.1, low_same, rules.1)
 
 pub wide_lawful : (t : Task) → LawfulTask t → LawfulTask (wide_task t)
 unfolding wide_task WideLevels

@@ -8,8 +8,9 @@ use Rattle.std.specs.Prelude.{Some}
 use native.Mathlib.Omega.{arith}
 use lib.ListN.{length, get_or}
 use lib.Dec.{ltb}
-use lib.Seq.{length-take-le, get_or-take}
 use borrow.Author.Tests.{lt-ltb}
+use Rattle.basics.proofs.Members.{is_in_lem}
+use Rattle.allocation.proofs.Directory.{tasks_length, task_at_lem}
 use Rattle.sheet.specs.declared.task.Task.{Task}
 use Rattle.sheet.specs.declared.task.TaskSet.{TaskSet}
 use Rattle.sheet.specs.Format.{task_in, missing_task}
@@ -27,7 +28,6 @@ use Rattle.allocation.specs.Lawful.{LawfulSet, KeptPair, LawfulShares}
 use Rattle.allocation.specs.Allocation.{tasks_of, chosen_for, shares_with, allocation_of}
 use Rattle.allocation.specs.SetShares.{TypicalStays, KeptMarked}
 use Rattle.shares.proofs.Totals.{total_same}
-use Rattle.keeping.proofs.Parts.{is_in_lem}
 use Rattle.keeping.proofs.Laws.{share_if, kept_best, with_length, with_share_lem, with_typical, with_typical_total, kept_low, kept_shares}
 use Rattle.allocation.proofs.Laws.{chosen-length, chosen_typical, chosen_critical, chosen_high, chosen_low, chosen_positive, chosen_virtual}
 
@@ -50,25 +50,14 @@ typical_stays set choice =
 
 -- The shares that the tasks of a lawful set get.
 module _ (set : TaskSet) (lawful : LawfulSet set) (choice : List Share) (chosen_it : chosen_for set ≡ Some choice) where
-  pub tasks_there : length (tasks_of set) ≡ set.count
-  tasks_there =
-      let long = lawful.all_there in
-      let few = lawful.few_tasks in
-      length-take-le set.count set.tasks (omega arith)
-
-  -- Task i of the set is task i of the list.
-  pub task_at_lem : (i : ℕ) → i < set.count → get_or (tasks_of set) i missing_task ≡ task_in set i
-  unfolding task_in
-  task_at_lem i inside = get_or-take set.count set.tasks i missing_task inside
-
   choice_length : length choice ≡ length (tasks_of set)
-  choice_length = chosen-length set lawful choice chosen_it ∙ sym tasks_there
+  choice_length = chosen-length set lawful choice chosen_it ∙ sym (tasks_length set lawful)
 
   pub low_zero : (i : ℕ) → i < length (tasks_of set) → is_low (get_or (tasks_of set) i missing_task).level ≡ true → (share_at choice i).critical ≡ 0
   unfolding share_at
   low_zero i inside low =
-      let known : i < set.count = omega (arith, tasks_there) in
-      (chosen_low set lawful choice chosen_it i known (sym (ap (λ (t : Task). is_low t.level) (task_at_lem i known)) ∙ low)).critical
+      let known : i < set.count = omega (arith, tasks_length set lawful) in
+      (chosen_low set lawful choice chosen_it i known (sym (ap (λ (t : Task). is_low t.level) (task_at_lem set i known)) ∙ low)).critical
 
   -- S5.6 of a task set: the kept set, and the shares.
   pub set_kept : BestKept set.processors (tasks_of set) choice (kept_tasks set.processors (tasks_of set) choice)
@@ -92,7 +81,7 @@ module _ (set : TaskSet) (lawful : LawfulSet set) (choice : List Share) (chosen_
         out m =
             false≢true
             (sym high
-            ∙ sym (ap (λ (t : Task). is_low t.level) (task_at_lem i inside))
+            ∙ sym (ap (λ (t : Task). is_low t.level) (task_at_lem set i inside))
             ∙ (kept_low set.processors (tasks_of set) choice choice_length low_zero i m).1)
 
     low_pair : is_low (task_in set i).level ≡ true → KeptPair set.processors (task_in set i).figures (share_at (shares_with set choice) i)
@@ -138,7 +127,7 @@ module _ (set : TaskSet) (lawful : LawfulSet set) (choice : List Share) (chosen_
       ∙ go (is_in i (kept_tasks set.processors (tasks_of set) choice)) refl (is_low (task_in set i).level) refl
     where
       level_is : is_low (get_or (tasks_of set) i missing_task).level ≡ is_low (task_in set i).level
-      level_is = ap (λ (t : Task). is_low t.level) (task_at_lem i inside)
+      level_is = ap (λ (t : Task). is_low t.level) (task_at_lem set i inside)
 
       go : (t : Bool) → is_in i (kept_tasks set.processors (tasks_of set) choice) ≡ t → (low : Bool) → is_low (task_in set i).level ≡ low →
           (low && ltb 0 (share_if t (share_at choice i)).critical) ≡ t
@@ -149,5 +138,5 @@ module _ (set : TaskSet) (lawful : LawfulSet set) (choice : List Share) (chosen_
           ∙ sym level_is
           ∙ (kept_low set.processors (tasks_of set) choice choice_length low_zero i (is_in_lem i _ e)).1))
       go false e true level =
-          ap (ltb 0) (low_zero i (omega (arith, tasks_there)) (level_is ∙ level))
+          ap (ltb 0) (low_zero i (omega (arith, tasks_length set lawful)) (level_is ∙ level))
       go false e false level = refl

@@ -15,6 +15,7 @@ use borrow.Author.Tests.{ltb-true, lt-ltb}
 use Rattle.sheet.specs.declared.task.Task.{Task}
 use Rattle.sheet.specs.declared.task.TaskSet.{TaskSet}
 use Rattle.std.specs.Prelude.{Result, Ok, Err, unwrap_or}
+use Rattle.allocation.proofs.Directory.{tasks_length}
 use Rattle.sheet.specs.declared.refusal.Refusal.{Refusal}
 use Rattle.sheet.specs.declared.refusal.Refusal.TheVariants.{NoShare}
 use Rattle.sheet.specs.Refusal.{Answer, refused_if, ◌or_else◌, first_over}
@@ -169,9 +170,6 @@ module _ (set : TaskSet) (lawful : LawfulSet set) where
   offer_at_task i inside =
       rw (offers_at i inside) (offer_offers set.processors (task_in set i) lawful.few_processors (lawful.lawful i inside))
 
-  all_tasks : length (tasks_of set) ≡ set.count
-  all_tasks = length-take-le set.count set.tasks there
-
   -- The offers of the last tasks, one task after the other: what holds for each task's options and offer.
   module _ (P : List Share → (ℕ → ℕ) → Type 0) (options : Task → List Share)
       (holds_at : (i : ℕ) → i < set.count → P (options (task_in set i)) (cell_at (get_or (offers_of set) i missing_offer))) where
@@ -180,10 +178,10 @@ module _ (set : TaskSet) (lawful : LawfulSet set) where
     unfolding task_in
     each_left zero i e =
         let past : length (offers_up_to set.count (offers_of set)) ≤ i = omega (arith, offers_length set.count (offers_of set) offers_there) in
-        let last : length (tasks_of set) ≤ i = omega (arith, all_tasks) in
+        let last : length (tasks_of set) ≤ i = omega (arith, tasks_length set lawful) in
         rw (drop_of_length-le (offers_up_to set.count (offers_of set)) past, drop_of_length-le (tasks_of set) last) no_offer
     each_left (suc count) i e =
-        let inside : i < length (tasks_of set) = omega (arith, all_tasks) in
+        let inside : i < length (tasks_of set) = omega (arith, tasks_length set lawful) in
         let later = each_left count (i + 1) (omega arith) in
         rw (
           drop-cons (tasks_of set) i missing_task inside,

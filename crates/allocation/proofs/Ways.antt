@@ -11,11 +11,11 @@ use borrow.Author.Tests.{leb-true, le-leb}
 use Rattle.sheet.specs.declared.task.Task.{Task}
 use Rattle.sheet.specs.declared.task.TaskSet.{TaskSet}
 use Rattle.std.specs.Prelude.{Ok, Err, Option, None, Some, is_none}
+use Rattle.std.proofs.lemmas.Bool.{and_parts}
 use Rattle.sheet.specs.declared.refusal.Refusal.{Refusal}
 use Rattle.sheet.specs.declared.refusal.Refusal.TheVariants.{NoShare, NoFit}
 use Rattle.sheet.specs.Refusal.{Answer, refused_if, ◌or_else◌, first_over}
 use Rattle.sheet.specs.Format.{task_in, missing_task}
-use Rattle.basics.proofs.Logic.{left_true, right_true}
 use Rattle.shares.specs.declared.share.Share.{Share}
 use Rattle.shares.specs.Totals.{no_processors, share_at, typical_total}
 use Rattle.basics.specs.Lists.{is_empty}
@@ -78,8 +78,8 @@ module _ (M : ℕ) where
                 each = takes_length (options_of M) tasks shares takes;
                 takes = λ i inside. option_may M _ _ (takes_at (options_of M) tasks shares takes i missing_task inside);
               };
-          typical = leb-true _ _ (left_true (leb (typical_total shares) M) _ fit);
-          critical = leb-true _ _ (right_true (leb (typical_total shares) M) _ fit);
+          typical = leb-true _ _ (and_parts (leb (typical_total shares) M) _ fit).0;
+          critical = leb-true _ _ (and_parts (leb (typical_total shares) M) _ fit).1;
         }
 
   -- S5.1 to S5.3: what is chosen is the best way that fits.

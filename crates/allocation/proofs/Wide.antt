@@ -144,7 +144,7 @@ wide_allocated s accepted =
 
 -- The number of tasks and what is fixed for them.
 module _ (s : List ℕ) (accepted : read_answer s ≡ Ok tt) where
-  wide_told : wide_set (task_set_of s) ≡ task_set_of (wide_form s)
+  pub wide_told : wide_set (task_set_of s) ≡ task_set_of (wide_form s)
   unfolding WideRead
   wide_told = (read_ok (wide_form s) (wide_read s accepted)).1
 

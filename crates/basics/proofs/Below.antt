@@ -5,24 +5,18 @@ use mathlib.Core.Bool.{Bool, true, false, ◌&&◌, and_assoc, and-true, and-eq-
 use native.Mathlib.Nat.{le_refl}
 use native.Mathlib.Omega.{arith}
 use native.Mathlib.Numerals.{add-one}
-use native.Mathlib.Decide.{dec_lt, ℕ_discrete}
+use native.Mathlib.Decide.{ℕ_discrete}
+use borrow.Author.Count.{below_more}
 use Rattle.std.specs.List.{list_all, range_with_len}
+use Rattle.std.proofs.lemmas.Bool.{and_parts, false_from_ne_true}
 use Rattle.basics.specs.Lists.{range, all_below}
-use Rattle.basics.proofs.Logic.{left_true, right_true}
-
--- What holds below k and at k holds below suc k.
-pub below_cases : (P : ℕ → Type 0) (k : ℕ) → ((v : ℕ) → v < k → P v) → P k → (v : ℕ) → v < suc k → P v
-below_cases P k below at v l = go (dec_lt v k)
-  where
-    go : Dec (v < k) → P v
-    go (yes h) = below v h
-    go (no h) = let e : v ≡ k = omega arith in rw e at
 
 pub all_at : (k : ℕ) (p : ℕ → Bool) → all_below k p ≡ true → (v : ℕ) → v < k → p v ≡ true
 unfolding all_below
 all_at zero p e v l = absurd (omega arith)
 all_at (suc k) p e v l =
-    below_cases (λ u. p u ≡ true) k (all_at k p (left_true (all_below k p) (p k) e)) (right_true (all_below k p) (p k) e) v l
+    let parts = and_parts (all_below k p) (p k) e in
+    below_more (λ u. p u ≡ true) k (all_at k p parts.0) parts.1 v (omega arith)
 
 pub all_intro : (k : ℕ) (p : ℕ → Bool) → ((v : ℕ) → v < k → p v ≡ true) → all_below k p ≡ true
 unfolding all_below
@@ -36,11 +30,7 @@ all_same (suc k) p q h = ap₂ ◌&&◌ (all_same k p q (λ v l. h v (omega arit
 
 -- It fails where one of them fails it.
 pub all_fails : (k : ℕ) (p : ℕ → Bool) (v : ℕ) → v < k → p v ≡ false → all_below k p ≡ false
-all_fails k p v l e = go (all_below k p) refl
-  where
-    go : (t : Bool) → all_below k p ≡ t → t ≡ false
-    go true all = cc (all_at k p all v l)
-    go false some = refl
+all_fails k p v l e = false_from_ne_true _ (λ all. cc (all_at k p all v l))
 
 -- The numbers of a range that std lists, tested one by one.
 all_below-range : (test : ℕ → Bool) (first n : ℕ) → all_below (first + n) test ≡ (all_below first test && list_all test (range_with_len first n))

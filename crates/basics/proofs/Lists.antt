@@ -8,9 +8,10 @@ use mathlib.Core.Bool.{Bool, true, false, ◌||◌, false≢true}
 use mathlib.Core.List.{List, [], ◌∷◌, ◌++◌, map, Memᴰ}
 use native.Mathlib.Nat.{add-zero, zero-add}
 use native.Mathlib.Omega.{arith}
-use lib.ListN.{length, get_or}
+use lib.ListN.{length, get_or, replicate}
+use Rattle.std.proofs.lemmas.Bool.{or_parts}
+use Rattle.std.proofs.lemmas.List.{get_or-map}
 use Rattle.basics.specs.Lists.{range, kept_if}
-use Rattle.basics.proofs.Logic.{left_false, right_false}
 use Rattle.basics.proofs.Members.{range-within}
 
 -- The numbers of a range.
@@ -18,6 +19,17 @@ pub length-range : (first n : ℕ) → length (range first n) ≡ n
 unfolding range
 length-range first zero = refl
 length-range first (suc n) = ap suc (length-range (suc first) n)
+
+pub get_or-range : (first n i d : ℕ) → i < n → get_or (range first n) i d ≡ first + i
+unfolding range
+get_or-range first zero i d h = absurd (omega arith)
+get_or-range first (suc n) zero d h = sym (add-zero first)
+get_or-range first (suc n) (suc i) d h = get_or-range (suc first) n i d (omega arith) ∙ omega arith
+
+-- What f gives for the number at a place of a range.
+pub get_or-map_range : {A : Type 0} (f : ℕ → A) (first n i : ℕ) (d : A) → i < n → get_or (map f (range first n)) i d ≡ f (first + i)
+get_or-map_range f first n i d h =
+    get_or-map f (range first n) i 0 d (omega (arith, length-range first n)) ∙ ap f (get_or-range first n i 0 h)
 
 pub range-append : (first m n : ℕ) → range first (m + n) ≡ range first m ++ range (first + m) n
 unfolding range
@@ -70,8 +82,8 @@ filter_all p (x ∷ xs) passes = rw (passes x (Memᴰ.head refl)) (ap (λ (vs : 
 module _ {A : Type 0} (test : A → Bool) (d : A) where
   pub any_none : (xs : List A) (i : ℕ) → list_any test xs ≡ false → i < length xs → test (get_or xs i d) ≡ false
   any_none [] i e h = absurd (omega arith)
-  any_none (x ∷ xs) zero e h = left_false (test x) (list_any test xs) e
-  any_none (x ∷ xs) (suc i) e h = any_none xs i (right_false (test x) (list_any test xs) e) (omega arith)
+  any_none (x ∷ xs) zero e h = (or_parts (test x) (list_any test xs) e).0
+  any_none (x ∷ xs) (suc i) e h = any_none xs i (or_parts (test x) (list_any test xs) e).1 (omega arith)
 
   pub none_any : (xs : List A) → ((i : ℕ) → i < length xs → test (get_or xs i d) ≡ false) → list_any test xs ≡ false
   none_any [] h = refl
@@ -86,3 +98,11 @@ module _ {A : Type 0} (test : A → Bool) (d : A) where
           (i : ℕ) × ((i < length (x ∷ xs)) × (test (get_or (x ∷ xs) i d) ≡ true))
       go true h e rest = (0, (omega arith, h))
       go false h e rest = let found = rest e in (suc found.0, (omega (arith, found.1.0), found.1.1))
+
+-- Zeros behind a list read as what lies past its end.
+pub get_or-padded : (xs : List ℕ) (n j : ℕ) → get_or (xs ++ replicate n 0) j 0 ≡ get_or xs j 0
+get_or-padded [] zero j = refl
+get_or-padded [] (suc n) zero = refl
+get_or-padded [] (suc n) (suc j) = get_or-padded [] n j
+get_or-padded (x ∷ xs) n zero = refl
+get_or-padded (x ∷ xs) n (suc j) = get_or-padded xs n j

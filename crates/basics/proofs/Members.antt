@@ -2,17 +2,17 @@
 use Prim.Native.Nat.{ℕ, zero, suc, ◌+◌, ◌≤◌, ◌<◌}
 use mathlib.Core.Path.{◌≡◌, refl, sym, ap, ◌∙◌, subst}
 use mathlib.Core.Logic.{◌⊎◌, inl, inr, ◌≢◌}
-use mathlib.Core.Bool.{Bool, true, false, cond, ◌&&◌, false≢true}
+use mathlib.Core.Bool.{Bool, true, false, cond, ◌&&◌, ◌||◌, false≢true}
 use mathlib.Core.List.Memᴰ
-use mathlib.Core.List.{List, [], ◌∷◌, ◌++◌, map, Memᴰ}
+use mathlib.Core.List.{List, [], ◌∷◌, ◌++◌, Memᴰ}
 use Rattle.std.specs.List.{list_all}
 use Rattle.std.specs.Prelude.{None, Some, filter, flat_map, find}
 use native.Mathlib.Omega.{arith}
 use lib.Arith.{lt_of_le-ne}
 use lib.Dec.{eqb}
 use lib.ListN.{length, get_or}
-use borrow.Author.Tests.{eqb-true, eqb-false}
-use Rattle.basics.specs.Lists.{range, kept_if, is_empty, greatest}
+use borrow.Author.Tests.{eqb-true, eqb-false, eq-eqb}
+use Rattle.basics.specs.Lists.{range, kept_if, is_empty, is_in, greatest}
 
 -- The numbers of a range.
 pub range-has : (first count x : ℕ) → first ≤ x → x < first + count → Memᴰ x (range first count)
@@ -58,23 +58,6 @@ module _ {A B : Type 0} where
       go rest (inl here) = (z, (Memᴰ.head refl, here))
       go rest (inr later) = let found = rest later in (found.0, (Memᴰ.tail found.1.0, found.1.1))
 
-  pub map-has : (f : A → B) (xs : List A) (x : A) → Memᴰ x xs → Memᴰ (f x) (map f xs)
-  map-has f [] x m = absurd (Memᴰ.not-nil m)
-  map-has f (z ∷ xs) x m = go (map-has f xs x) (Memᴰ.cases_cons m)
-    where
-      go : (Memᴰ x xs → Memᴰ (f x) (map f xs)) → (x ≡ z) ⊎ Memᴰ x xs → Memᴰ (f x) (f z ∷ map f xs)
-      go rest (inl e) = Memᴰ.head (ap f e)
-      go rest (inr later) = Memᴰ.tail (rest later)
-
-  pub map_from : (f : A → B) (xs : List A) (y : B) → Memᴰ y (map f xs) → (x : A) × (Memᴰ x xs × (y ≡ f x))
-  map_from f [] y m = absurd (Memᴰ.not-nil m)
-  map_from f (z ∷ xs) y m = go (map_from f xs y) (Memᴰ.cases_cons m)
-    where
-      go : (Memᴰ y (map f xs) → (x : A) × (Memᴰ x xs × (y ≡ f x))) →
-          (y ≡ f z) ⊎ Memᴰ y (map f xs) → (x : A) × (Memᴰ x (z ∷ xs) × (y ≡ f x))
-      go rest (inl e) = (z, (Memᴰ.head refl, e))
-      go rest (inr later) = let found = rest later in (found.0, (Memᴰ.tail found.1.0, found.1.1))
-
 module _ {A : Type 0} (test : A → Bool) where
   pub filter-has : (xs : List A) (x : A) → Memᴰ x xs → test x ≡ true → Memᴰ x (filter test xs)
   filter-has [] x m e = absurd (Memᴰ.not-nil m)
@@ -118,7 +101,7 @@ module _ {A : Type 0} (test : A → Bool) where
 
   -- What is found is a member that passes.
   pub find_some : (xs : List A) (x : A) → find test xs ≡ Some x → Memᴰ x xs × (test x ≡ true)
-  find_some [] x e = absurd (let z : ◌≡◌ {A = ℕ} 0 1 = cc in omega arith)
+  find_some [] x e = absurd (cc)
   find_some (z ∷ xs) x e = go (test z) refl (find_some xs x) e
     where
       go : (t : Bool) → test z ≡ t → (find test xs ≡ Some x → Memᴰ x xs × (test x ≡ true)) →
@@ -133,7 +116,7 @@ module _ {A : Type 0} (test : A → Bool) where
     where
       go : (t : Bool) → test z ≡ t → (find test xs ≡ None → Memᴰ x xs → ⊥) →
           cond t (Some z) (find test xs) ≡ None → (x ≡ z) ⊎ Memᴰ x xs → ⊥
-      go true q rest f w = let zero_one : ◌≡◌ {A = ℕ} 0 1 = cc in omega arith
+      go true q rest f w = cc
       go false q rest f (inl same) = false≢true (sym q ∙ ap test (sym same) ∙ h)
       go false q rest f (inr later) = rest f later
 
@@ -160,3 +143,21 @@ greatest-has (z ∷ xs) x m = go (greatest-has xs x) (Memᴰ.cases_cons m)
     go : (Memᴰ x xs → x ≤ greatest xs) → (x ≡ z) ⊎ Memᴰ x xs → x ≤ greatest (z ∷ xs)
     go rest (inl e) = omega (arith, e)
     go rest (inr later) = omega (arith, rest later)
+
+-- Whether a number is in a list.
+pub is_in_lem : (i : ℕ) (list : List ℕ) → is_in i list ≡ true → Memᴰ i list
+is_in_lem i [] e = absurd (false≢true e)
+is_in_lem i (j ∷ list) e = go (eqb i j) refl e (is_in_lem i list)
+  where
+    go : (t : Bool) → eqb i j ≡ t → (t || is_in i list) ≡ true → (is_in i list ≡ true → Memᴰ i list) → Memᴰ i (j ∷ list)
+    go true same h rest = Memᴰ.head (eqb-true i j same)
+    go false differs h rest = Memᴰ.tail (rest h)
+
+pub in_is : (i : ℕ) (list : List ℕ) → Memᴰ i list → is_in i list ≡ true
+in_is i [] m = absurd (Memᴰ.not-nil m)
+in_is i (j ∷ list) m = go (eqb i j) refl (in_is i list) (Memᴰ.cases_cons m)
+  where
+    go : (t : Bool) → eqb i j ≡ t → (Memᴰ i list → is_in i list ≡ true) → (i ≡ j) ⊎ Memᴰ i list → (t || is_in i list) ≡ true
+    go true e rest m' = refl
+    go false e rest (inl same) = absurd (false≢true (sym e ∙ eq-eqb i j same))
+    go false e rest (inr later) = rest later

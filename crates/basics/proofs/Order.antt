@@ -12,6 +12,7 @@ use native.Mathlib.Decide.{dec_le}
 use native.Mathlib.Nat.{min-eq_left, min-eq_right}
 use lib.Dec.{ltb, eqb}
 use borrow.Author.Tests.{ltb-true, ltb-false, eqb-true, eq-eqb}
+use Rattle.std.proofs.lemmas.Bool.{false_from_ne_true}
 use Rattle.basics.specs.Order.{no_later, least_by, least, capped_at}
 use Rattle.basics.proofs.Members.{all_member, all-members, find_some, find_none}
 
@@ -94,11 +95,7 @@ no_later_or (x ∷ xs) (y ∷ ys) e = no_later_if y x ys xs (go (dec_le y x)) (�
     go (no h) = absurd (false≢true (sym e ∙ no_later_if x y xs ys (omega arith) (λ same. absurd (omega arith))))
 
     rest : y ≡ x → no_later xs ys ≡ false
-    rest same = flag (no_later xs ys) refl
-      where
-        flag : (t : Bool) → no_later xs ys ≡ t → t ≡ false
-        flag false q = refl
-        flag true q = absurd (false≢true (sym e ∙ no_later_if x y xs ys (omega arith) (λ _. q)))
+    rest same = false_from_ne_true _ (λ q. false≢true (sym e ∙ no_later_if x y xs ys (omega arith) (λ _. q)))
 
 no_later_through : (xs ys zs : List ℕ) → no_later xs ys ≡ true → no_later ys zs ≡ true → no_later xs zs ≡ true
 no_later_through [] ys zs e f = refl

@@ -10,9 +10,9 @@ use lib.Dec.{ltb}
 use lib.ListN.{length, take, drop, length-drop}
 use lib.Seq.{drop-cons, drop-drop, take-add, length-take-le}
 use borrow.Author.Tests.{ltb-true}
+use Rattle.std.proofs.lemmas.Bool.{and_parts}
 use Rattle.std.specs.List.{list_all}
 use Rattle.basics.specs.Numbers.{byte_at, u16_at, u32_at, u16_bytes, u32_bytes}
-use Rattle.basics.proofs.Logic.{left_true, right_true}
 
 -- A number by its lowest digit and the others.
 module _ (x m r q : ℕ) (small : r < m) (sum : x ≡ q * m + r) where
@@ -49,8 +49,8 @@ u32_again a b c d ha hb hc hd =
 byte_small : (s : List ℕ) (i : ℕ) → list_all (λ b. ltb b 256) s ≡ true → byte_at s i < 256
 unfolding byte_at
 byte_small [] i bytes = omega arith
-byte_small (b ∷ s) zero bytes = ltb-true b 256 (left_true (ltb b 256) _ bytes)
-byte_small (b ∷ s) (suc i) bytes = byte_small s i (right_true (ltb b 256) _ bytes)
+byte_small (b ∷ s) zero bytes = ltb-true b 256 (and_parts (ltb b 256) _ bytes).0
+byte_small (b ∷ s) (suc i) bytes = byte_small s i (and_parts (ltb b 256) _ bytes).1
 
 -- The part of a list that begins at a place and has so many members.
 abbrev pub part : List ℕ → ℕ → ℕ → List ℕ

@@ -8,7 +8,7 @@ use native.Mathlib.Omega.{arith}
 use native.Mathlib.Decide.{dec_lt}
 use lib.ListN.{length, get_or, length-append, get_or-append, get_or-eq_default}
 use lib.Seq.{get_or_at}
-use Rattle.basics.proofs.Below.{below_cases}
+use borrow.Author.Count.{below_more}
 use Rattle.nodes.specs.Sets.{has, members}
 use Rattle.nodes.proofs.Members.{members_mem, mem_members}
 use Rattle.model.specs.Row.{predecessors_of}
@@ -40,10 +40,10 @@ module _ (masks : List ℕ) (times : ℕ → ℕ) where
   chain_at_lem (suc k) v l =
       let earlier = chains_below masks times k in
       let own = chain_at masks times earlier k ∷ [] in
-      below_cases (λ u. get_or (earlier ++ own) u 0 ≡ chain_of u) k
+      below_more (λ u. get_or (earlier ++ own) u 0 ≡ chain_of u) k
       (λ u h. get_or-append earlier own 0 u (omega (arith, chains_length k)) ∙ chain_at_lem k u h)
       (get_or_at earlier (chain_at masks times earlier k) [] 0 k (chains_length k))
-      v l
+      v (omega arith)
 
   chain_past : (k v : ℕ) → k ≤ v → get_or (chains_below masks times k) v 0 ≡ 0
   chain_past k v h = get_or-eq_default (chains_below masks times k) 0 (omega (arith, chains_length k))

@@ -1,11 +1,12 @@
 -- The longest of the chains that end at some nodes: no chain exceeds it, and it is one of them. By induction on the nodes.
 use Prim.Native.Nat.{ℕ, ◌≤◌, max}
 use mathlib.Core.Path.{◌≡◌, refl, ap₂}
+use mathlib.Core.List.Memᴰ
 use mathlib.Core.List.{List, [], ◌∷◌, map, Memᴰ}
 use native.Mathlib.Omega.{arith}
 use native.Mathlib.Decide.{dec_le}
 use lib.ListN.{get_or}
-use Rattle.basics.proofs.Members.{map-has, greatest-has}
+use Rattle.basics.proofs.Members.{greatest-has}
 use Rattle.std.specs.Prelude.{fold}
 use Rattle.std.specs.List.{reduce}
 use Rattle.std.specs.Option.{unwrap_or}
@@ -30,7 +31,7 @@ module _ (chains : List ℕ) where
 
   pub longest_at : (nodes : List ℕ) (j : ℕ) → Memᴰ j nodes → get_or chains j 0 ≤ longest_among chains nodes
   unfolding longest_among
-  longest_at nodes j m = greatest-has (map (λ j. get_or chains j 0) nodes) (get_or chains j 0) (map-has (λ j. get_or chains j 0) nodes j m)
+  longest_at nodes j m = greatest-has (map (λ j. get_or chains j 0) nodes) (get_or chains j 0) (Memᴰ.map (λ j. get_or chains j 0) m)
 
   pub longest_le : (b : ℕ) (nodes : List ℕ) → ((j : ℕ) → Memᴰ j nodes → get_or chains j 0 ≤ b) → longest_among chains nodes ≤ b
   longest_le b [] h = omega (arith, longest_none)

@@ -3,7 +3,7 @@
 use Prim.Native.Nat.{ℕ, zero, suc, ◌+◌, ◌-◌, ◌≤◌, ◌<◌}
 use mathlib.Core.List.{List}
 use native.Mathlib.Omega.{arith}
-use Rattle.basics.proofs.Below.{below_cases}
+use borrow.Author.Count.{below_more}
 use Rattle.model.specs.Budget.{sum_below}
 use Rattle.model.proofs.Sums.{sum_le}
 use Rattle.chains.specs.Chains.{span_of}
@@ -47,7 +47,8 @@ module _ (masks : List ℕ) (less more : ℕ → ℕ) where
   pub chain_grows : (k : ℕ) → ((v : ℕ) → v < k → less v ≤ more v) → (v : ℕ) → v < k → Grows v
   chain_grows zero h v l = absurd (omega arith)
   chain_grows (suc k) h v l =
-      below_cases Grows k (chain_grows k (λ u m. h u (omega arith))) (next_grows k h (chain_grows k (λ u m. h u (omega arith)))) v l
+      let earlier = chain_grows k (λ u m. h u (omega arith)) in
+      below_more Grows k earlier (next_grows k h earlier) v (omega arith)
 
   module _ (k : ℕ) (h : (v : ℕ) → v < k → less v ≤ more v) where
     pub span_grows : span_of masks less k ≤ span_of masks more k

@@ -4,9 +4,9 @@ use mathlib.Core.Path.{◌≡◌}
 use mathlib.Core.List.{List, Memᴰ}
 use native.Mathlib.Omega.{arith}
 use lib.ListN.{get_or}
+use borrow.Author.Count.{below_more}
 use Rattle.basics.specs.Lists.{range}
 use Rattle.basics.proofs.Members.{range-has, range-within}
-use Rattle.basics.proofs.Below.{below_cases}
 use Rattle.model.specs.Budget.{sum_below}
 use Rattle.chains.specs.Chains.{chains_below, span_of}
 use Rattle.chains.proofs.Greatest.{longest_at, longest_le, longest_one}
@@ -47,7 +47,7 @@ module _ (masks : List ℕ) (times : ℕ → ℕ) where
   chain_sum : (k v : ℕ) → v < k → chain_of masks times v ≤ sum_below (suc v) times
   chain_sum zero v l = absurd (omega arith)
   chain_sum (suc k) v l =
-      below_cases (λ u. chain_of masks times u ≤ sum_below (suc u) times) k (chain_sum k) (last (chain_sum k)) v l
+      below_more (λ u. chain_of masks times u ≤ sum_below (suc u) times) k (chain_sum k) (last (chain_sum k)) v (omega arith)
     where
       last : ((u : ℕ) → u < k → chain_of masks times u ≤ sum_below (suc u) times) → chain_of masks times k ≤ sum_below (suc k) times
       last earlier = omega (arith, sum_next k times, chain_le masks times k (sum_below k times) before)

@@ -1,11 +1,12 @@
 -- What the functions keep: the chains below v in an array of 32, with 0 from v on.
-use Prim.Native.Nat.{ℕ, zero, suc, ◌+◌, ◌-◌, ◌*◌, ◌≤◌, ◌<◌, min}
+use Prim.Native.Nat.{ℕ, suc, ◌+◌, ◌-◌, ◌*◌, ◌≤◌, ◌<◌, min}
 use mathlib.Core.Path.{◌≡◌, refl, sym, ap, ap₂, ◌∙◌}
-use mathlib.Core.List.{List, [], ◌∷◌, ◌++◌}
+use mathlib.Core.List.{List, ◌++◌}
 use native.Mathlib.Omega.{arith}
 use native.Mathlib.Nat.{mul-le-mul_right, min-eq_left}
 use lib.ListN.{get_or, set, replicate}
 use lib.Seq.{append_snoc, set_at}
+use Rattle.basics.proofs.Lists.{get_or-padded}
 use Rattle.basics.specs.Lists.{range}
 use Rattle.nodes.specs.Sets.{members, set_of}
 use Rattle.nodes.proofs.Rising.{rising_range, members-set_of}
@@ -18,16 +19,9 @@ use Rattle.chains.proofs.Sums.{sum_bound}
 use Rattle.chains.proofs.Ends.{chain_of, chains_length}
 use Rattle.chains.proofs.Spans.{span_at, span_sum}
 
--- Zeros behind a list read as what lies past its end.
-padded : (xs : List ℕ) (n j : ℕ) → get_or (xs ++ replicate n 0) j 0 ≡ get_or xs j 0
-padded [] zero j = refl
-padded [] (suc n) zero = refl
-padded [] (suc n) (suc j) = padded [] n j
-padded (x ∷ xs) n zero = refl
-padded (x ∷ xs) n (suc j) = padded xs n j
-
+-- The longest of these does not change by zeros behind them.
 pub longest_padded : (xs : List ℕ) (n : ℕ) (nodes : List ℕ) → longest_among (xs ++ replicate n 0) nodes ≡ longest_among xs nodes
-longest_padded xs n nodes = longest_same (xs ++ replicate n 0) xs nodes (padded xs n)
+longest_padded xs n nodes = longest_same (xs ++ replicate n 0) xs nodes (get_or-padded xs n)
 
 -- The chains of no nodes.
 pub chains_none : (masks : List ℕ) (times : ℕ → ℕ) → chains_below masks times 0 ++ replicate 32 0 ≡ replicate 32 0

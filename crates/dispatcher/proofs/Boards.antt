@@ -23,7 +23,7 @@ use Rattle.entries.proofs.NodeSets.{running-members}
 use Rattle.entries.proofs.Soundness.{few_nodes}
 use Rattle.dispatcher.proofs.Soundness.{shares_in, state_facts}
 use Rattle.dispatcher.proofs.Entries.{entry_at, sound_at}
-use Rattle.dispatcher.proofs.Rows.{model_length, model_row}
+use Rattle.dispatcher.proofs.Rows.{model_length, row_here}
 
 -- A task's pairs, written from a place on: what is written, with what is left to write, is the whole.
 pub record Written (whole : List ℕ) (bytes task : ℕ) (buffer : List ℕ) (place : ℕ) (left : List ℕ) : Type 0 where
@@ -207,19 +207,15 @@ pub record Boarding (s : State) (buffer : List ℕ) (at i : ℕ) : Type 0 where
   pub bytes : buffer ≡ board_to s.processors s.critical (model_of s).rows i
 
 module _ (s : State) (long : s.count ≤ length s.entries) (sound : is_sound s ≡ true) where
-  row_here : (i : ℕ) → i < s.count → get_or (model_of s).rows i no_row ≡ row_of (entry_at s i)
-  unfolding row_at
-  row_here i h = model_row s long i h
-
   share_here : (i : ℕ) → i < s.count → share_in s.critical (get_or (model_of s).rows i no_row).fixed.share ≡ share_in s.critical (entry_at s i).share
   unfolding row_of fixed_of
-  share_here i h = ap (λ (r : Row). share_in s.critical r.fixed.share) (row_here i h)
+  share_here i h = ap (λ (r : Row). share_in s.critical r.fixed.share) (row_here s long i h)
 
   nodes_here : (i : ℕ) → i < s.count → members 32 (running_set (share_in s.critical (entry_at s i).share) (row_of (entry_at s i))) ≡ running_in s.critical (get_or (model_of s).rows i no_row)
   unfolding row_of fixed_of
   nodes_here i h =
       running-members (share_in s.critical (entry_at s i).share) (row_of (entry_at s i)) (few_nodes (entry_at s i) (sound_at s long sound i h))
-      ∙ ap (running_in s.critical) (sym (row_here i h))
+      ∙ ap (running_in s.critical) (sym (row_here s long i h))
 
   pub boarding_size : (buffer : List ℕ) (at i : ℕ) → Boarding s buffer at i → length buffer ≡ 2 * s.processors
   boarding_size buffer at i b = ap length b.bytes ∙ board_length s.processors s.critical (model_of s).rows (shares_fit s sound) i

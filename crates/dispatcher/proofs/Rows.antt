@@ -122,12 +122,16 @@ module _ (s : State) (long : s.count ≤ length s.entries) where
   unfolding model_of
   model_length = length-map (entries_of s) row_of ∙ entries_length s long
 
-  pub model_row : (i : ℕ) → i < s.count → row_at (model_of s) i ≡ row_of (entry_at s i)
-  unfolding model_of row_at
-  model_row i h =
+  pub row_here : (i : ℕ) → i < s.count → get_or (model_of s).rows i no_row ≡ row_of (entry_at s i)
+  unfolding model_of
+  row_here i h =
       ap (get_or (map row_of (entries_of s)) i) (sym no_entry_row)
       ∙ get_or-map row_of (entries_of s) i no_entry
       ∙ ap row_of (entries_at s long i h)
+
+  pub model_row : (i : ℕ) → i < s.count → row_at (model_of s) i ≡ row_of (entry_at s i)
+  unfolding row_at
+  model_row i h = row_here i h
 
   entry_share : (i : ℕ) → i < s.count → (row_at (model_of s) i).fixed.share ≡ (entry_at s i).share
   unfolding row_of fixed_of

@@ -18,7 +18,7 @@ use Rattle.sheet.specs.declared.refusal.Refusal.TheVariants.{NotSound, WrongCoun
 use Rattle.sheet.specs.Refusal.{refused_if, ◌or_else◌}
 use Rattle.basics.specs.Numbers.{within}
 use Rattle.model.specs.Row.{Fixed, Row, is_subset, running_set, ticked_row, has_high_job, is_late, switched_row, fixed_part as row_fixed}
-use Rattle.model.specs.Step.{Model, step, ticked, no_row, row_at, granted, report_refusal, tick_refusal, ticked_rows, lowest_late, switched_to, returned_to, turning}
+use Rattle.model.specs.Step.{Model, step, ticked, no_row, granted, report_refusal, tick_refusal, ticked_rows, lowest_late, switched_to, returned_to, turning}
 use Rattle.model.proofs.Steps.{length-ticked}
 use Rattle.entries.specs.declared.pass.Pass.{Pass}
 use Rattle.entries.specs.declared.state.TaskState.{TaskState}
@@ -33,7 +33,7 @@ use Rattle.dispatcher.specs.Calls.{tick_of}
 use Rattle.dispatcher.specs.means.Passed.{HasPassed}
 use Rattle.dispatcher.proofs.Soundness.{ranges_kept, few_entries}
 use Rattle.dispatcher.proofs.Entries.{no_entry, entry_at, left_next, left_none, Passed, passed_none, passed_broken, passed_more, passed_all}
-use Rattle.dispatcher.proofs.Rows.{rows_own, row_with, model_own, model_with, model_again, model_length, model_row, rows_none, written_to, written_at, written_more}
+use Rattle.dispatcher.proofs.Rows.{rows_own, row_with, model_own, model_with, model_again, model_length, rows_none, written_to, written_at, written_more, row_here}
 
 -- A search by steps: the task found, or else what is left to look at.
 abbrev pub found_or : {A : Type 0} → (ℕ → A) → Option ℕ → A → A
@@ -126,10 +126,6 @@ module _ (s : State) (long : s.count ≤ length s.entries) where
   rows_taken : (i : ℕ) → i ≤ s.count → length (take i (model_of s).rows) ≡ i
   rows_taken i h = length-take-le i (model_of s).rows (omega (arith, model_length s long))
 
-  row_next : (i : ℕ) → i < s.count → get_or (model_of s).rows i no_row ≡ row_of (entry_at s i)
-  unfolding row_at
-  row_next i h = model_row s long i h
-
   pub written_none : written_to s s.critical [] ≡ s
   unfolding with_model
   written_none =
@@ -141,7 +137,7 @@ module _ (s : State) (long : s.count ≤ length s.entries) where
   pub ticked_next : (reports : List ℕ) (i : ℕ) → length reports ≡ s.count → i < s.count
       → ticked_below s reports i ++ ticked_row (row_of (entry_at s i)) (get_or reports i 0) ∷ [] ≡ ticked_below s reports (i + 1)
   ticked_next reports i same h =
-      rw (add-one i, ← (row_next i h)) (sym (ticked_more (model_of s).rows reports i (omega (arith, model_length s long)) (omega arith)))
+      rw (add-one i, ← (row_here s long i h)) (sym (ticked_more (model_of s).rows reports i (omega (arith, model_length s long)) (omega arith)))
 
   pub ticked_whole : (reports : List ℕ) (i : ℕ) → s.count ≤ i → ticked_below s reports i ≡ ticked_rows (model_of s).rows reports
   ticked_whole reports i h =

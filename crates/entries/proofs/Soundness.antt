@@ -1,5 +1,5 @@
 -- What soundness says of an entry, as facts.
-use Prim.Native.Nat.{ℕ, suc, ◌-◌, ◌≤◌, ◌<◌, ◌^◌, min}
+use Prim.Native.Nat.{ℕ, ◌-◌, ◌≤◌, ◌<◌, ◌^◌, min}
 use mathlib.Core.Path.{◌≡◌}
 use mathlib.Core.Bool.{Bool, true, not, ◌&&◌, and-eq-true_iff}
 use native.Mathlib.Nat.{min-eq_left}
@@ -7,10 +7,11 @@ use native.Mathlib.Omega.{arith}
 use borrow.Author.Tests.{leb-true, ltb-true, le-leb, lt-ltb}
 use lib.Dec.{leb, ltb}
 use lib.Pow.{pow_pos}
+use Rattle.std.proofs.lemmas.Bool.Decides.{nat_tests}
 use Rattle.basics.specs.Lists.{range}
 use Rattle.nodes.specs.Sets.{set_of}
 use Rattle.nodes.proofs.Members.{set_of-range}
-use Rattle.basics.proofs.Logic.{leb_same, within_bounds}
+use Rattle.basics.proofs.Logic.{within_bounds}
 use Rattle.basics.specs.Numbers.{within}
 use Rattle.sheet.specs.Level.{level_lawful, figure_limit}
 use Rattle.sheet.specs.Rules.{masks_lawful}
@@ -93,7 +94,8 @@ sound_entry e s =
 pub below_full : (k x : ℕ) → k ≤ 32 → leb x (set_of (range 0 (min k 32))) ≡ ltb x (2 ^ k)
 below_full k x h =
     let full : set_of (range 0 (min k 32)) ≡ 2 ^ k - 1 = rw (min-eq_left {n = k} {m = 32} h) (set_of-range k) in
-    rw full (leb_same x (2 ^ k - 1) (suc x) (2 ^ k) (λ t. omega (arith, pow_pos k)) (λ t. omega (arith, pow_pos k)))
+    let some : 0 < 2 ^ k = pow_pos k in
+    rw full (grind (arith, nat_tests))
 
 pub few_nodes : (e : TaskState) → entry_sound e ≡ true → e.nodes ≤ 32
 few_nodes e t = (within_bounds 1 32 e.nodes (entry_facts e t).nodes).1

@@ -7,8 +7,10 @@ use mathlib.Core.List.{List, [], ◌∷◌, ◌++◌, map, append_assoc}
 use native.Mathlib.Omega.{arith}
 use lib.ListN.{length, get_or, take, drop, length-append, length-drop, length-map, take-append-drop, drop_of_length-le}
 use lib.Seq.{take_at, drop_at, take-add, drop-drop, drop-cons, get_or-append-add, length-take-le}
+use Rattle.std.proofs.lemmas.List.{at_drop_more}
+use native.Mathlib.Nat.{zero-add}
 use Rattle.basics.specs.Lists.{range, bit}
-use Rattle.basics.proofs.Lists.{length-range}
+use Rattle.basics.proofs.Lists.{length-range, get_or-map_range}
 use Rattle.entries.specs.declared.state.TaskState.{TaskState}
 use Rattle.start.specs.Fresh.{zero_entry}
 use Rattle.dispatcher.specs.declared.state.State.{State}
@@ -169,35 +171,31 @@ module _ (s : State) (held : StateHeld s) where
             (entry_taken (get_or s.entries i zero_entry) (held.entries i h) (entries_words (drop (suc i) s.entries)));
       })
 
--- The first of so many words from a place on.
-word_first : (words : List ℕ) (j n : ℕ) → j < length words → take (suc n) (drop j words) ≡ get_or words j 0 ∷ take n (drop (suc j) words)
-word_first words j n h = ap (take (suc n)) (drop-cons words j 0 h)
-
 -- An entry's words, as they were read.
 module _ (words : List ℕ) (fits : Fitting words) (room : entry_size ≤ length words) where
   seven : take 7 (drop 34 words)
       ≡ get_or words 34 0 ∷ get_or words 35 0 ∷ get_or words 36 0 ∷ get_or words 37 0 ∷ get_or words 38 0 ∷ get_or words 39 0 ∷ get_or words 40 0 ∷ []
   seven =
-      word_first words 34 6 (omega arith)
+      at_drop_more (take 7) words 34 0 (omega arith)
       ∙ ap (λ (l : List ℕ). get_or words 34 0 ∷ l)
-      (word_first words 35 5 (omega arith)
+      (at_drop_more (take 6) words 35 0 (omega arith)
       ∙ ap (λ (l : List ℕ). get_or words 35 0 ∷ l)
-      (word_first words 36 4 (omega arith)
+      (at_drop_more (take 5) words 36 0 (omega arith)
       ∙ ap (λ (l : List ℕ). get_or words 36 0 ∷ l)
-      (word_first words 37 3 (omega arith)
+      (at_drop_more (take 4) words 37 0 (omega arith)
       ∙ ap (λ (l : List ℕ). get_or words 37 0 ∷ l)
-      (word_first words 38 2 (omega arith)
+      (at_drop_more (take 3) words 38 0 (omega arith)
       ∙ ap (λ (l : List ℕ). get_or words 38 0 ∷ l)
-      (word_first words 39 1 (omega arith) ∙ ap (λ (l : List ℕ). get_or words 39 0 ∷ l) (word_first words 40 0 (omega arith)))))))
+      (at_drop_more (take 2) words 39 0 (omega arith) ∙ ap (λ (l : List ℕ). get_or words 39 0 ∷ l) (at_drop_more (take 1) words 40 0 (omega arith)))))))
 
   entry_words_lem : entry_words (entry_from words) ≡ take entry_size words
   unfolding entry_words entry_from
   entry_words_lem =
       rw (mark_word (get_or words 40 0) fits.alive, sym seven)
       (sym
-      (word_first words 0 40 (omega arith)
+      (at_drop_more (take 41) words 0 0 (omega arith)
       ∙ ap (λ (l : List ℕ). get_or words 0 0 ∷ l)
-      (word_first words 1 39 (omega arith)
+      (at_drop_more (take 40) words 1 0 (omega arith)
       ∙ ap (λ (l : List ℕ). get_or words 1 0 ∷ l)
       (take-add 32 7 (drop 2 words) ∙ ap (λ (l : List ℕ). take 32 (drop 2 words) ++ take 7 l) (drop-drop 32 2 words)))))
 
@@ -240,12 +238,6 @@ module _ (line : List ℕ) (facts : StateLine line) where
       (drop-cons line 1 0 (omega (arith, facts.long))
       ∙ ap (λ (l : List ℕ). get_or line 1 0 ∷ l) (drop-cons line 2 0 (omega (arith, facts.long))))))
 
-  entry_read : (n first i at : ℕ) → i < n → at ≡ first + i → get_or (map (entry_at line) (range first n)) i zero_entry ≡ entry_at line at
-  unfolding range
-  entry_read zero first i at h place = absurd (omega arith)
-  entry_read (suc n) first zero at h place = let same : first ≡ at = omega arith in ap (entry_at line) same
-  entry_read (suc n) first (suc i) at h place = entry_read n (suc first) i at (omega arith) (omega arith)
-
   line_held : StateHeld (state_from line)
   unfolding state_from
   line_held =
@@ -253,7 +245,7 @@ module _ (line : List ℕ) (facts : StateLine line) where
         processors = facts.processors;
         count = facts.count;
         sixteen = length-map (range 0 16) (entry_at line) ∙ length-range 0 16;
-        entries = λ i h. subst⁻¹ EntryHeld (entry_read 16 0 i i h (omega arith)) (entry_held (drop (entry_start i) line) (fits_at i h) (room_at i h));
+        entries = λ i h. subst⁻¹ EntryHeld (get_or-map_range (entry_at line) 0 16 i zero_entry h ∙ ap (entry_at line) (zero-add i)) (entry_held (drop (entry_start i) line) (fits_at i h) (room_at i h));
       }
 
 pub same_said : SameSaid

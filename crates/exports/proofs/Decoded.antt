@@ -1,22 +1,17 @@
 -- Entries read one after the other: cells that are all filled are the whole.
-use Prim.Native.Nat.{ℕ, ◌+◌, ◌-◌, ◌<◌}
+use Prim.Native.Nat.{ℕ, ◌+◌, ◌<◌}
 use mathlib.Core.Path.{◌≡◌, ap, ap₂, ◌∙◌}
 use mathlib.Core.Bool.{not}
 use mathlib.Core.List.{List}
 use native.Mathlib.Omega.{arith}
 use lib.Dec.{eqb}
-use lib.ListN.{length, get_or, take, drop, set, replicate, length-drop}
-use lib.Seq.{take_all}
+use lib.ListN.{get_or, set, replicate}
 use Rattle.basics.specs.Lists.{cells}
 use Rattle.basics.proofs.Cells.{cells_none, cells_store, cells_full}
 use Rattle.entries.specs.declared.state.TaskState.{TaskState}
 use Rattle.start.specs.Fresh.{zero_entry}
 use Rattle.dispatcher.specs.declared.state.State.{State}
 use Rattle.exports.specs.Words.{is_set, entry_at, state_from}
-
--- A line from a place on, as the code takes it.
-pub rest_whole : (line : List ℕ) (at : ℕ) → take (length line - at) (drop at line) ≡ drop at line
-rest_whole line at = take_all (length line - at) (drop at line) (omega (arith, length-drop at line))
 
 module _ (line : List ℕ) where
   -- The state that the line says, with these entries.

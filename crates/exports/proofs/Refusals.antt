@@ -10,6 +10,7 @@ use lib.Dec.{eqb}
 use lib.ListN.{length, get_or, get_or-replicate, length-replicate}
 use Rattle.sheet.specs.Refusal.{Answer}
 use Rattle.std.specs.Prelude.{Ok, Err}
+use Rattle.dispatcher.proofs.Rows.{rows_length}
 use Rattle.sheet.specs.declared.refusal.Refusal.{Refusal}
 use Rattle.sheet.specs.Format.{task_set_of}
 use Rattle.allocation.specs.Allocation.{allocations_for}
@@ -110,11 +111,6 @@ no_state_first line none =
 row_held : (e : TaskState) (r : Row) → EntryHeld e → EntryHeld (with_row e r)
 unfolding with_row
 row_held e r h = record { level = h.level; nodes = h.nodes; masks = h.masks; typical = h.typical; critical = h.critical }
-
-rows_length : (entries : List TaskState) (rows : List Row) → length (with_rows entries rows) ≡ length entries
-rows_length [] rows = refl
-rows_length (e ∷ entries) [] = refl
-rows_length (e ∷ entries) (r ∷ rows) = ap suc (rows_length entries rows)
 
 rows_held : (entries : List TaskState) (rows : List Row) (i : ℕ) → EntryHeld (get_or entries i zero_entry) → EntryHeld (get_or (with_rows entries rows) i zero_entry)
 rows_held [] rows i h = h

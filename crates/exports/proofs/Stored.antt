@@ -1,5 +1,5 @@
 -- Words stored one behind the other: what is done, with what is left, is the whole.
-use Prim.Native.Nat.{ℕ, zero, suc, ◌+◌, ◌-◌, ◌≤◌, ◌<◌}
+use Prim.Native.Nat.{ℕ, suc, ◌+◌, ◌-◌, ◌≤◌, ◌<◌}
 use mathlib.Core.Path.{◌≡◌, refl, sym, subst, ◌∙◌}
 use mathlib.Core.Bool.{Bool, true, false}
 use mathlib.Core.List.{List, [], ◌∷◌, ◌++◌, append-nil, append_assoc}
@@ -10,6 +10,7 @@ use native.Mathlib.Omega.{arith}
 use native.Mathlib.Decide.{dec_lt}
 use lib.ListN.{length, get_or, take, drop, set, length-drop, drop_of_length-le}
 use lib.Seq.{drop-cons, drop-drop, sets, length-sets, sets-eq}
+use Rattle.std.proofs.lemmas.List.{take_rest, get_or_default}
 use Rattle.basics.specs.Lists.{bit}
 use Rattle.basics.proofs.Bytes.{sets-append}
 use Rattle.entries.specs.declared.state.TaskState.{TaskState}
@@ -17,7 +18,6 @@ use Rattle.start.specs.Fresh.{zero_entry}
 use Rattle.dispatcher.specs.declared.state.State.{State}
 use Rattle.exports.specs.Words.{entry_start, state_size, entry_words, entries_words, state_words, EntryHeld, StateHeld}
 use Rattle.exports.proofs.Codec.{entry_long, same_said}
-use Rattle.exports.proofs.Decoded.{rest_whole}
 
 -- A mark in a word.
 pub mark_word : (b : Bool) → bool_byte b ≡ bit b
@@ -31,7 +31,7 @@ rest_written line words at inside =
     let none : drop (length line - at) (drop at line) ≡ [] =
     drop_of_length-le (drop at line) {i = length line - at} (omega (arith, length-drop at line)) in
     let front : 0 + length words ≡ length words = omega arith in
-    rw (rest_whole line at, none, append-nil (sets (drop at line) 0 words))
+    rw (take_rest line at, none, append-nil (sets (drop at line) 0 words))
     (rw (sets-eq words (drop at line) 0 (omega (arith, length-drop at line)), sets-eq words line at inside, front, drop-drop (length words) at line, append_assoc (take at line) words (drop (at + length words) line)))
 
 pub entry_written : (line : List ℕ) (e : TaskState) (i : ℕ) → EntryHeld e → i < 16 → length line ≡ state_size →
@@ -75,11 +75,6 @@ pub record Storing (entries : List TaskState) (whole line : List ℕ) (i : ℕ) 
   pub left : sets line (entry_start i) (entries_words (drop i entries)) ≡ whole
   pub held : (j : ℕ) → j < i → EntryHeld (get_or entries j zero_entry)
 
-get_d_any : (entries : List TaskState) (i : ℕ) (none other : TaskState) → i < length entries → get_or entries i none ≡ get_or entries i other
-get_d_any [] i none other h = absurd (omega arith)
-get_d_any (e ∷ entries) zero none other h = refl
-get_d_any (e ∷ entries) (suc i) none other h = get_d_any entries i none other (omega arith)
-
 module _ (entries : List TaskState) (sixteen : length entries ≡ 16) where
   pub storing_more : (whole line : List ℕ) (i : ℕ) (none : TaskState) → i < 16 → EntryHeld (get_or entries i none) → Storing entries whole line i →
       Storing entries whole (sets line (entry_start i) (entry_words (get_or entries i none))) (i + 1)
@@ -101,7 +96,7 @@ module _ (entries : List TaskState) (sixteen : length entries ≡ 16) where
       go j h (no last) =
           let same : i ≡ j = omega arith in
           subst (λ (n : ℕ). EntryHeld (get_or entries n zero_entry)) same
-          (subst EntryHeld (get_d_any entries i none zero_entry (omega arith)) fits)
+          (subst EntryHeld (get_or_default entries i none zero_entry (omega arith)) fits)
 
   pub storing_all : (whole line : List ℕ) (i : ℕ) → 16 ≤ i → Storing entries whole line i → (line ≡ whole) × ((j : ℕ) → j < 16 → EntryHeld (get_or entries j zero_entry))
   storing_all whole line i done so_far =

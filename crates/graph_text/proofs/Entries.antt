@@ -8,12 +8,13 @@ use Rattle.std.specs.Prelude.{Option, None, Some}
 use mathlib.Core.Path.{◌≡◌, refl, sym, ap, ap₂, ◌∙◌}
 use native.Mathlib.Omega.{arith}
 use lib.Bits.{bit_or, or_zero_r, or_zero_l, or_lt}
-use lib.Dec.{eqb, leb, ltb}
+use lib.Dec.{eqb, leb, ltb, leb-suc-suc}
 use lib.ListN.{length, take, drop}
 use borrow.Author.Tests.{eqb-true, eq-eqb, le-leb, lt-leb, lt-ltb, ne_eqb}
+use Rattle.std.specs.Cmp.{both_ways}
 use Rattle.basics.specs.Lists.{range, is_in}
 use Rattle.basics.specs.Numbers.{within}
-use Rattle.basics.proofs.Logic.{within_bounds, leb_same, bool_ext}
+use Rattle.basics.proofs.Logic.{within_bounds}
 use Rattle.basics.proofs.Lists.{filter_none}
 use Rattle.nodes.specs.Sets.{has, set_of}
 use Rattle.nodes.proofs.Bits.{has_or, has_power, has_zero, has_ext, below_of_has, within_antisymm}
@@ -37,7 +38,7 @@ bit-has p v h = go (within 1 32 p) refl
     go true e =
         let b = within_bounds 1 32 p e in
         has_power (p - 1) v
-        ∙ bool_ext (eqb v (p - 1)) (eqb (suc v) p)
+        ∙ both_ways (eqb v (p - 1)) (eqb (suc v) p)
         (λ k. let same = eqb-true v (p - 1) k in eq-eqb (suc v) p (omega arith))
         (λ k. let same = eqb-true (suc v) p k in eq-eqb v (p - 1) (omega arith))
     go false e =
@@ -97,7 +98,7 @@ named_all v zero node numerals = rw (le-leb 0 (length numerals) (omega arith), n
 named_all v (suc many) node [] = rw (lt-leb (suc many) 0 (omega arith))
 named_all v (suc many) node (p ∷ numerals) =
     named_all v many (with_named v node p) numerals
-    ∙ rw (named_more v node p (take many numerals), leb_same (suc many) (suc (length numerals)) many (length numerals) (λ h. omega arith) (λ h. omega arith))
+    ∙ rw (named_more v node p (take many numerals), leb-suc-suc many (length numerals))
 
 -- An entry, number v, as a node.
 abbrev pub node_as : ℕ → Entry → Node

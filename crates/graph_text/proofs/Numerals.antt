@@ -7,12 +7,11 @@ use Rattle.std.specs.List.{list_all}
 use mathlib.Core.Path.{◌≡◌, refl, sym, ap, ◌∙◌}
 use native.Mathlib.Omega.{arith}
 use lib.Dec.{eqb, leb}
-use lib.ListN.{length}
 use Rattle.std.specs.Char.{is_ascii_digit}
 use Rattle.std.specs.Prelude.{Some, None, Ok, Err, Option}
 use Rattle.std.specs.Option.{SomeIff, ok_or}
 use Rattle.graph_text.specs.declared.text.BadFormat.{BadFormat}
-use borrow.Author.Tests.{eqb-true, le-leb, lt-leb}
+use borrow.Author.Tests.{eqb-true, le-leb, lt-leb, ne_eqb}
 use Rattle.basics.specs.Digits.{digit, is_digit, value_of}
 use Rattle.basics.proofs.Digits.{value_both, digits_both}
 use Rattle.graph_text.specs.Text.{end_mark, before_mark, is_blank, word_before, words_after, words_of, numeral_limit, is_numeral, numbers_of, numerals_of}
@@ -20,11 +19,7 @@ use Rattle.graph_text.specs.means.Scan.{number_before, numeral_before, numerals_
 
 -- A test that one value fails.
 unlike : (test : ℕ → Bool) (b x : ℕ) → test x ≡ false → test b ≡ true → eqb b x ≡ false
-unlike test b x fails h = go (eqb b x) refl
-  where
-    go : (t : Bool) → eqb b x ≡ t → t ≡ false
-    go true e = absurd (true≢false (sym h ∙ ap test (eqb-true b x e) ∙ fails))
-    go false e = refl
+unlike test b x fails h = ne_eqb b x (λ e. true≢false (sym h ∙ ap test e ∙ fails))
 
 pub blank_no_mark : (b : ℕ) → is_blank b ≡ true → eqb b end_mark ≡ false
 unfolding is_blank
@@ -173,10 +168,6 @@ none_at_end = refl
 
 pub digits_to_end : (v : ℕ) → v ≤ numeral_limit → numerals_after v [] ≡ number_before v (numerals_of [])
 digits_to_end v small = rw (none_at_end, le-leb v numeral_limit small)
-
-pub no_bytes : (text : List ℕ) → length text ≡ 0 → text ≡ []
-no_bytes [] e = refl
-no_bytes (b ∷ rest) e = absurd (omega arith)
 
 -- Std's test of a digit is the definition's.
 pub digit_is : (b : ℕ) → is_ascii_digit b ≡ is_digit b

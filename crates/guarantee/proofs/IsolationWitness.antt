@@ -1,12 +1,13 @@
 -- What S10.14 and S10.15 ask can be met. The models of the sheets are run by computation: at each tick count the releases, the reports and
 -- the modes are compared by a test.
 use Prim.Native.Nat.{ℕ, suc, ◌≤◌}
-use mathlib.Core.Bool.{Bool, true, false, cond, not, false≢true}
+use mathlib.Core.Bool.{Bool, true, false}
 use mathlib.Core.List.{List, [], ◌∷◌}
 use mathlib.Core.Path.{◌≡◌, refl, sym, ap, ap₂, subst₂, ◌∙◌}
 use native.Mathlib.Omega.{arith}
 use borrow.Author.Tests.{eqb-true}
 use lib.Dec.{eqb}
+use Rattle.std.proofs.lemmas.Bool.{agree_below, agree_below_at}
 use Rattle.basics.specs.Lists.{all_below, range}
 use Rattle.basics.proofs.Below.{all_at}
 use Rattle.sheet.specs.declared.task.TaskSet.{TaskSet}
@@ -45,16 +46,6 @@ low_run_lem = record { tasks = only_low; shares = only_low_pairs; calls = low_te
 abbrev low_among_lem : TaskRun
 low_among_lem = record { tasks = three; shares = three_pairs; calls = low_among_three; number = 2 }
 
--- Whether two tests agree.
-abbrev agree : Bool → Bool → Bool
-agree x y = cond x y (not y)
-
-agree_true : (x y : Bool) → agree x y ≡ true → x ≡ y
-agree_true true true e = refl
-agree_true true false e = absurd (false≢true e)
-agree_true false true e = absurd (false≢true e)
-agree_true false false e = refl
-
 -- Whether two runs give their tasks the same at each tick count below t.
 abbrev same_releases : ℕ → TaskRun → TaskRun → Bool
 same_releases t r q = all_below t (λ s. eqb (releases_at r s) (releases_at q s))
@@ -64,7 +55,7 @@ same_reports t r q =
     all_below t (λ s. eqb (report_at r.number s (start r) r.calls) (report_at q.number s (start q) q.calls))
 
 abbrev same_modes : ℕ → TaskRun → TaskRun → Bool
-same_modes t r q = all_below (suc t) (λ s. agree (mode_at r s) (mode_at q s))
+same_modes t r q = agree_below (mode_at r) (mode_at q) (suc t)
 
 given_by : (t : ℕ) (r q : TaskRun) → t ≤ ticks_in (start r) r.calls → t ≤ ticks_in (start q) q.calls →
     same_releases t r q ≡ true → same_reports t r q ≡ true → SameGiven t r q
@@ -78,7 +69,7 @@ given_by t r q ticks other_ticks releases reports =
 
 modes_by : (t : ℕ) (r q : TaskRun) → same_modes t r q ≡ true → SameModes t r q
 unfolding SameModes
-modes_by t r q modes s h = agree_true _ _ (all_at (suc t) _ modes s (omega (arith, h)))
+modes_by t r q modes s h = agree_below_at (mode_at r) (mode_at q) (suc t) s modes (omega (arith, h))
 
 -- The runs on the model, by computation.
 record Runs : Type 0 where

@@ -6,7 +6,7 @@ use mathlib.Core.Bool.{Bool, true, false}
 use mir.Val.{bool_byte}
 use native.Mathlib.Numerals.{add-one}
 use native.Mathlib.Omega.{arith}
-use lib.ListN.{length, drop, set, length-append, length-map}
+use lib.ListN.{length, drop, set, length-append}
 use lib.Seq.{sets, length-sets}
 use Rattle.basics.specs.Lists.{bit}
 use Rattle.basics.proofs.Bytes.{sets-append}
@@ -15,7 +15,7 @@ use Rattle.model.specs.Step.{Model, release}
 use Rattle.dispatcher.specs.declared.state.State.{State}
 use Rattle.entries.specs.Entry.{row_of}
 use Rattle.dispatcher.specs.Holds.{entries_of, model_of}
-use Rattle.dispatcher.proofs.Entries.{entry_at, entries_length, left_next, left_none}
+use Rattle.dispatcher.proofs.Entries.{entry_at, left_next, left_none}
 use Rattle.std.specs.Prelude.{Ok, Err, unwrap_or}
 use Rattle.dispatcher.specs.Answers.{Released, tick_number, tick_task}
 use Rattle.sheet.specs.Refusal.{no_task}
@@ -97,10 +97,6 @@ pub record Putting (whole : List ℕ) (bytes : ℕ) (s : State) (start : ℕ) (o
   pub left : sets out (start + 9 * i) (rows_bytes (map row_of (drop i (entries_of s)))) ≡ whole
 
 module _ (s : State) (long : s.count ≤ length s.entries) where
-  pub model_rows : length (model_of s).rows ≡ s.count
-  unfolding model_of
-  model_rows = length-map (entries_of s) row_of ∙ entries_length s long
-
   pub putting_none : (start : ℕ) (out : List ℕ) → start + 9 * s.count ≤ length out →
       Putting (sets out start (rows_bytes (model_of s).rows)) (length out) s start out 0
   unfolding model_of

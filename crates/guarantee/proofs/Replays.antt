@@ -1,9 +1,8 @@
 -- Laws of a replay (S12.2, S12.3): its records one call at a time, its length, the room for it, and the state that Start hands to it.
-use Prim.Native.Nat.{ℕ, suc, ◌+◌, ◌-◌, ◌*◌, ◌/◌, ◌≤◌, ◌<◌}
+use Prim.Native.Nat.{ℕ, ◌+◌, ◌-◌, ◌*◌, ◌/◌, ◌≤◌, ◌<◌}
 use mathlib.Core.Path.{◌≡◌, refl, sym, ap, ap₂, subst, ◌∙◌}
 use mathlib.Core.Bool.{Bool, true, false, cond}
 use mathlib.Core.List.{List, [], ◌∷◌, ◌++◌}
-use native.Mathlib.Decide.{dec_le}
 use native.Mathlib.Nat.{le-div_iff_mul-le, suc-mul}
 use native.Mathlib.Omega.{arith}
 use lib.Dec.{leb}
@@ -12,22 +11,21 @@ use lib.Seq.{sets, sets-eq, length-sets}
 use borrow.Author.Tests.{le-leb, lt-leb}
 use Rattle.sheet.specs.Refusal.{Answer}
 use Rattle.std.specs.Prelude.{Ok, Err, Some, None}
+use Rattle.basics.proofs.Logic.{leb_same}
 use Rattle.sheet.specs.Refusal.{◌or_else◌}
 use Rattle.sheet.specs.Format.{task_in}
 use Rattle.sheet.specs.Format.{task_set_of}
 use Rattle.basics.proofs.Cells.{cells-length}
 use Rattle.allocation.specs.Allocation.{allocation_at, allocation_answer, allocations_for}
 use Rattle.allocation.proofs.Allocations.{read_lawful}
-use Rattle.model.specs.Row.{Row}
 use Rattle.model.specs.Step.{Call, release, tick, step}
 use Rattle.dispatcher.specs.declared.state.State.{State}
-use Rattle.entries.specs.declared.state.TaskState.{TaskState}
 use Rattle.dispatcher.specs.Answers.{Released}
 use Rattle.start.specs.Start.{Started}
 use Rattle.dispatcher.specs.Answers.{Ticked}
 use Rattle.dispatcher.specs.declared.tick.TickAnswer.TheVariants.{Refused as TickRefused}
 use Rattle.sheet.specs.declared.refusal.Refusal.TheVariants.{NotSound}
-use Rattle.dispatcher.specs.Holds.{model_of, with_rows, with_model}
+use Rattle.dispatcher.specs.Holds.{model_of, with_model}
 use Rattle.dispatcher.specs.Sound.{is_sound}
 use Rattle.dispatcher.specs.Calls.{released_by, ticked_by, release_of, tick_of}
 use Rattle.start.specs.Fresh.{fresh_entry, zero_entry}
@@ -38,25 +36,16 @@ use Rattle.guarantee.specs.Encoding.{calls_of}
 use Rattle.guarantee.specs.Record.{answer_bytes, outcome_of, outcome_number, record_of, model_bytes, turn_of, turn_bytes}
 use Rattle.guarantee.specs.Replay.{records_of, calls_run, replay_bytes, replayed_of, replay_over}
 use Rattle.basics.proofs.Bytes.{sets-append}
-use Rattle.guarantee.proofs.Records.{record_length, model_rows, outcome_said}
+use Rattle.dispatcher.proofs.Rows.{rows_length, model_length}
+use Rattle.guarantee.proofs.Records.{record_length, outcome_said}
 
 -- A product is compared by a quotient.
 pub room_quotient : (room count size : ℕ) → 1 ≤ size → 2 ≤ room → leb count ((room - 2) / size) ≡ leb (2 + count * size) room
-room_quotient room count size some two = go (dec_le (2 + count * size) room) (dec_le count ((room - 2) / size))
-  where
-    go : Dec (2 + count * size ≤ room) → Dec (count ≤ (room - 2) / size) → leb count ((room - 2) / size) ≡ leb (2 + count * size) room
-    go (yes h) k =
-        let fits : count * size ≤ room - 2 = omega arith in
-        le-leb count ((room - 2) / size) ((le-div_iff_mul-le {k = size} {x = count} {y = room - 2} some).1 fits) ∙ sym (le-leb (2 + count * size) room h)
-    go (no h) (yes k) = absurd (omega (arith, (le-div_iff_mul-le {k = size} {x = count} {y = room - 2} some).0 k))
-    go (no h) (no k) = lt-leb count ((room - 2) / size) (omega arith) ∙ sym (lt-leb (2 + count * size) room (omega arith))
+room_quotient room count size some two =
+    let fits = le-div_iff_mul-le {k = size} {x = count} {y = room - 2} some in
+    leb_same count ((room - 2) / size) (2 + count * size) room (λ h. omega (arith, fits.0 h)) (λ h. fits.1 (omega arith))
 
 -- A call keeps the number of tasks and the line of entries.
-entries_kept : (entries : List TaskState) (rows : List Row) → length (with_rows entries rows) ≡ length entries
-entries_kept [] rows = refl
-entries_kept (e ∷ entries) [] = refl
-entries_kept (e ∷ entries) (r ∷ rows) = ap suc (entries_kept entries rows)
-
 module _ (s : State) where
   abbrev Kept : State → Type 0
   Kept t = (t.count ≡ s.count) × (length t.entries ≡ length s.entries)
@@ -69,10 +58,10 @@ module _ (s : State) where
   unfolding release_of tick_of with_model
   state_kept (release i) =
       either_kept (λ (r : Released). r.state) (is_sound s) (released_by s (step (model_of s) (release i))) (record { state = s; answer = Err NotSound })
-      (refl, entries_kept s.entries (step (model_of s) (release i)).model.rows) (refl, refl)
+      (refl, rows_length s.entries (step (model_of s) (release i)).model.rows) (refl, refl)
   state_kept (tick reports) =
       either_kept (λ (r : Ticked). r.state) (is_sound s) (ticked_by s (step (model_of s) (tick reports))) (record { state = s; answer = TickRefused NotSound })
-      (refl, entries_kept s.entries (step (model_of s) (tick reports)).model.rows) (refl, refl)
+      (refl, rows_length s.entries (step (model_of s) (tick reports)).model.rows) (refl, refl)
 
 -- The record of a call has 4 + 9n bytes.
 module _ (s : State) (long : s.count ≤ length s.entries) where
@@ -81,7 +70,7 @@ module _ (s : State) (long : s.count ≤ length s.entries) where
 
   pub call_length : (c : Call) → length (record_of (said_of s c) (model_of (state_of s c))) ≡ 4 + 9 * s.count
   call_length c =
-      omega (arith, record_length (said_of s c) (model_of (state_of s c)), model_rows (state_of s c) (next_long c), (state_kept s c).0)
+      omega (arith, record_length (said_of s c) (model_of (state_of s c)), model_length (state_of s c) (next_long c), (state_kept s c).0)
 
 pub records_length : (s : State) → s.count ≤ length s.entries → (calls : List Call) → length (records_of s calls) ≡ length calls * (4 + 9 * s.count)
 records_length s long [] = omega arith

@@ -7,8 +7,9 @@ use mathlib.Core.Path.{◌≡◌, refl, sym, ap, ap₂, subst₂, ◌∙◌}
 use native.Mathlib.Omega.{arith}
 use borrow.Author.Tests.{eqb-true}
 use lib.Dec.{lit≤}
-use lib.ListN.{get_or, take, drop, replicate}
+use lib.ListN.{take, drop, replicate}
 use Rattle.std.specs.Prelude.{Ok}
+use Rattle.basics.proofs.Lists.{get_or-padded}
 use Rattle.sheet.specs.declared.task.Budget.{Budget}
 use Rattle.sheet.specs.declared.task.Task.{Task}
 use Rattle.sheet.specs.declared.task.TaskSet.{TaskSet}
@@ -85,22 +86,17 @@ kept_model : model_for one_kept ≡ kept_start
 kept_model = model_of sheets.one_task_kept
 
 -- The high task has one edge, from node 1 to node 2, so that a chain is a node alone or these two.
-no_mask : (n v : ℕ) → ◌≡◌ {A = ℕ} (get_or (replicate n 0) v 0) 0
-no_mask zero v = refl
-no_mask (suc n) zero = refl
-no_mask (suc n) (suc v) = no_mask n v
-
 one_edge : (u v : ℕ) → precedes high.predecessors u v ≡ true → (u ≡ 1) × (v ≡ 2)
 unfolding precedes predecessors_of
 one_edge u zero e = absurd (true≢false (sym e ∙ has_zero u))
 one_edge u (suc zero) e = absurd (true≢false (sym e ∙ has_zero u))
 one_edge u (suc (suc zero)) e = (eqb-true u 1 (sym (has_power 1 u) ∙ e), refl)
-one_edge u (suc (suc (suc v))) e = absurd (true≢false (sym e ∙ ap (λ (n : ℕ). has n u) (no_mask 29 v) ∙ has_zero u))
+one_edge u (suc (suc (suc v))) e = absurd (true≢false (sym e ∙ ap (λ (n : ℕ). has n u) (get_or-padded [] 29 v) ∙ has_zero u))
 
 -- The low tasks have none, so that a chain is a node alone.
 no_edge : (u v : ℕ) → precedes (replicate 32 0) u v ≡ true → ⊥
 unfolding precedes predecessors_of
-no_edge u v e = true≢false (sym e ∙ ap (λ (n : ℕ). has n u) (no_mask 32 v) ∙ has_zero u)
+no_edge u v e = true≢false (sym e ∙ ap (λ (n : ℕ). has n u) (get_or-padded [] 32 v) ∙ has_zero u)
 
 lone_span : (k length u : ℕ) (rest : List ℕ) → Chain k (precedes (replicate 32 0)) u rest → along (λ _. length) u rest ≤ length
 lone_span k length u rest (alone l) = omega arith

@@ -6,10 +6,11 @@ use mathlib.Core.Path.{◌≡◌, sym, ap, ◌∙◌}
 use lib.Dec.{eqb, leb}
 use borrow.Author.Tests.{leb-true, eqb-true}
 use Rattle.basics.specs.Numbers.{within}
-use Rattle.basics.proofs.Logic.{left_true, right_true, within_bounds}
+use Rattle.basics.proofs.Logic.{within_bounds}
 use Rattle.sheet.specs.declared.refusal.Refusal.{Refusal}
 use Rattle.sheet.specs.declared.refusal.Refusal.TheVariants.{BadText, BadGraph, FigureOutside}
 use Rattle.std.specs.Prelude.{Ok, Option, Some}
+use Rattle.std.proofs.lemmas.Bool.{and_parts}
 use Rattle.sheet.specs.Refusal.{Answer, refused_if, ◌or_else◌}
 use Rattle.sheet.specs.Level.{is_high}
 use Rattle.sheet.proofs.Faults.{both_accepted, rule_kept}
@@ -36,14 +37,14 @@ pub record LawfulTerms (t : Terms) : Type 0 where
 pub terms_kept : (t : Terms) → terms_lawful t ≡ true → LawfulTerms t
 unfolding terms_lawful
 terms_kept t h =
-    let parts = left_true (leb t.level 1 && within 100 400 t.percentage) (is_high t.level || eqb t.percentage 100) h in
-    let equal = right_true (leb t.level 1 && within 100 400 t.percentage) (is_high t.level || eqb t.percentage 100) h in
-    let bounds = right_true (leb t.level 1) (within 100 400 t.percentage) parts in
+    let parts = and_parts (leb t.level 1 && within 100 400 t.percentage) (is_high t.level || eqb t.percentage 100) h in
+    let ranged = and_parts (leb t.level 1) (within 100 400 t.percentage) parts.0 in
+    let bounds = within_bounds 100 400 t.percentage ranged.1 in
     record {
-      level = leb-true t.level 1 (left_true (leb t.level 1) (within 100 400 t.percentage) parts);
-      percentage = (within_bounds 100 400 t.percentage bounds).0;
-      most = (within_bounds 100 400 t.percentage bounds).1;
-      low = λ e. eqb-true t.percentage 100 (rw e at equal);
+      level = leb-true t.level 1 ranged.0;
+      percentage = bounds.0;
+      most = bounds.1;
+      low = λ e. eqb-true t.percentage 100 (rw e at parts.1);
     }
 
 -- What an accepted import keeps.
@@ -59,12 +60,13 @@ unfolding is_asked_well graph_lawful
 graph_kept g t room e =
     let asked = first_kept_lem (is_asked_well g t room) BadText _ e in
     let lawful = first_kept_lem (graph_lawful g) BadGraph _ asked.1 in
-    let counted = within_bounds 1 32 g.count (left_true (within 1 32 g.count) (is_rising g) lawful.0) in
+    let graph = and_parts (within 1 32 g.count) (is_rising g) lawful.0 in
+    let counted = within_bounds 1 32 g.count graph.0 in
     record {
-      terms = terms_kept t (left_true (terms_lawful t) (leb (room_for g.count) room) asked.0);
+      terms = terms_kept t (and_parts (terms_lawful t) (leb (room_for g.count) room) asked.0).0;
       some_nodes = counted.0;
       few_nodes = counted.1;
-      rising = right_true (within 1 32 g.count) (is_rising g) lawful.0;
+      rising = graph.1;
       ranged = rule_kept (in_range t.level (figures_of g t)) FigureOutside lawful.1;
     }
 

@@ -5,6 +5,7 @@ use mathlib.Core.Path.{◌≡◌, sym}
 use native.Mathlib.Omega.{arith}
 use lib.ListN.{set, replicate, take, length}
 use Rattle.std.proofs.Common.{length-take-le, ap, ◌∙◌, refl}
+use Rattle.basics.proofs.Lists.{get_or-padded}
 use Rattle.chains.specs.Chains.{budget_of}
 use Rattle.chains.proofs.Laws.{budget_same}
 use Rattle.basics.proofs.Cells.{cells_none, cells_store}
@@ -29,12 +30,7 @@ scaled_next v percentage times held x h before stored = rw (before, stored) (sca
 -- Times stay within what sums may lean on, of which one is stored after the other.
 pub none_small : Small (replicate 32 0)
 unfolding Small
-none_small = go 32
-  where
-    go : (n : ℕ) (v : ℕ) → time_at (replicate n 0) v ≤ time_limit
-    go zero v = omega arith
-    go (suc n) zero = omega arith
-    go (suc n) (suc v) = go n v
+none_small v = omega (arith, get_or-padded [] 32 v)
 
 pub next_small : (held : List ℕ) (v x : ℕ) → Small held → x ≤ time_limit → Small (set held v x)
 unfolding Small
@@ -62,8 +58,3 @@ pub budget_taken : (masks : List ℕ) (k : ℕ) (times : List ℕ) → k ≤ len
 budget_taken masks k times few =
     ap (budget_of masks (time_at (take k times))) (length-take-le k times few)
     ∙ budget_same masks (time_at (take k times)) (time_at times) k (time_taken k times)
-
--- At 100 percent a time is as it was.
-pub scaled_whole : (time : ℕ) → scaled 100 time ≡ time
-unfolding scaled
-scaled_whole time = omega arith

@@ -27,7 +27,7 @@ use Rattle.graph_text.specs.Graph.{Graph, graph_of, is_rising, node_of, time_of,
 use Rattle.graph_text.specs.Read.{node_graph, read_of}
 use Rattle.graph_text.specs.declared.graph.NodeGraph.{NodeGraph}
 use Rattle.graph_text.specs.declared.text.BadFormat.{BadFormat}
-use Rattle.importer.proofs.Figures.{scaled_whole}
+use Rattle.importer.proofs.Orders.{scaled_whole}
 use Rattle.chains.specs.means.Bounds.{time_at}
 use Rattle.chains.proofs.Laws.{budget_same}
 use Rattle.importer.specs.declared.terms.Terms.{Terms}
@@ -62,7 +62,7 @@ module _ (g : Graph) (t : Terms) (few : g.count ≤ 32) where
   task_held =
       rw (
         budget_same (masks_of g) (time_at (scaled_times g.count 100 (times_of g))) (time_of g) g.count
-            (λ v h. scaled_held 100 v h ∙ scaled_whole (time_of g v)),
+            (λ v h. scaled_held 100 v h ∙ scaled_whole 100 (time_of g v) refl),
         budget_same (masks_of g) (time_at (scaled_times g.count t.percentage (times_of g))) (overload_time_of g t.percentage) g.count
             (scaled_held t.percentage),
       )

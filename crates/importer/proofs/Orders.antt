@@ -17,6 +17,7 @@ pub scaled_grows : (percentage time : ℕ) → 100 ≤ percentage → time ≤ s
 unfolding scaled
 scaled_grows percentage time h = omega (arith, mul-le-mul_left time h)
 
+-- At 100 percent a time is as it was.
 pub scaled_whole : (percentage time : ℕ) → percentage ≡ 100 → scaled percentage time ≡ time
 unfolding scaled
 scaled_whole percentage time e = rw e (omega arith)

@@ -1,31 +1,23 @@
 -- S14.4 and S2.12: where each entry names only lower ones, the mask of node v lies below 2 ^ v.
 use Prim.Native.Nat.{ℕ, zero, suc, ◌+◌, ◌<◌, ◌^◌}
-use mathlib.Core.Bool.{Bool, true, false, ◌||◌, false≢true}
+use mathlib.Core.Bool.{true}
 use mathlib.Core.List.{List, [], ◌∷◌}
-use mathlib.Core.Path.{◌≡◌, refl, sym, ap, ◌∙◌}
+use mathlib.Core.Path.{◌≡◌, refl, sym, ◌∙◌}
 use native.Mathlib.Omega.{arith}
-use lib.Dec.{eqb, ltb}
+use lib.Dec.{ltb}
 use lib.ListN.{get_or}
 use lib.Pow.{pow_pos}
-use borrow.Author.Tests.{eqb-true, ltb-true}
+use borrow.Author.Tests.{ltb-true}
 use Rattle.std.specs.List.{list_all}
 use Rattle.basics.specs.Lists.{is_in}
-use Rattle.basics.proofs.Logic.{left_true, right_true}
-use Rattle.basics.proofs.Cells.{cells-keep}
+use Rattle.basics.proofs.Cells.{cells-keep, cells-keep}
+use Rattle.std.proofs.lemmas.Bool.{and_parts}
+use Rattle.basics.proofs.Members.{all_member, is_in_lem}
 use Rattle.nodes.proofs.Bits.{below_of_has}
 use Rattle.nodes.proofs.Members.{has-set_of-filter}
 use Rattle.model.specs.Row.{predecessors_of}
 use Rattle.chains.specs.Laws.{LowerOnly}
 use Rattle.graph_text.specs.Graph.{Entry, Graph, rising_from, is_rising, no_entry, node_of, mask_of, masks_of}
-
--- A number that is in a list passes a test that all of the list pass.
-in_all : (test : ℕ → Bool) (x : ℕ) (numbers : List ℕ) → list_all test numbers ≡ true → is_in x numbers ≡ true → test x ≡ true
-in_all test x [] h m = absurd (false≢true m)
-in_all test x (n ∷ numbers) h m = go (eqb x n) refl m (in_all test x numbers (right_true (test n) (list_all test numbers) h))
-  where
-    go : (t : Bool) → eqb x n ≡ t → (t || is_in x numbers) ≡ true → (is_in x numbers ≡ true → test x ≡ true) → test x ≡ true
-    go true e k rest = ap test (eqb-true x n e) ∙ left_true (test n) (list_all test numbers) h
-    go false e k rest = rest k
 
 -- The mask of a node whose entry, number v + 1, names only lower ones.
 mask_below : (v : ℕ) (predecessors : List ℕ) → list_all (λ p. ltb p (suc v)) predecessors ≡ true → mask_of predecessors < 2 ^ v
@@ -33,8 +25,8 @@ unfolding mask_of
 mask_below v predecessors h =
     below_of_has v (mask_of predecessors)
     (λ j m.
-    let named = right_true (ltb j 32) (is_in (suc j) predecessors) (sym (has-set_of-filter (λ i. is_in (suc i) predecessors) 32 j) ∙ m) in
-    let lower = ltb-true (suc j) (suc v) (in_all (λ p. ltb p (suc v)) (suc j) predecessors h named) in
+    let named = (and_parts (ltb j 32) (is_in (suc j) predecessors) (sym (has-set_of-filter (λ i. is_in (suc i) predecessors) 32 j) ∙ m)).1 in
+    let lower = ltb-true (suc j) (suc v) (all_member (λ p. ltb p (suc v)) predecessors (suc j) h (is_in_lem (suc j) predecessors named)) in
     omega arith)
 
 -- The entry at place n of entries from number v on.
@@ -43,10 +35,10 @@ rising_at : (entries : List Entry) (v n number : ℕ) → number ≡ v + n → r
 rising_at [] v n number e h = refl
 rising_at (entry ∷ entries) v zero number e h =
     let same : number ≡ v = omega arith in
-    rw same (left_true (list_all (λ p. ltb p v) entry.predecessors) (rising_from (suc v) entries) h)
+    rw same (and_parts (list_all (λ p. ltb p v) entry.predecessors) (rising_from (suc v) entries) h).0
 rising_at (entry ∷ entries) v (suc n) number e h =
     rising_at entries (suc v) n number (omega arith)
-    (right_true (list_all (λ p. ltb p v) entry.predecessors) (rising_from (suc v) entries) h)
+    (and_parts (list_all (λ p. ltb p v) entry.predecessors) (rising_from (suc v) entries) h).1
 
 pub rising_lower : (g : Graph) → is_rising g ≡ true → LowerOnly (masks_of g) g.count
 unfolding LowerOnly predecessors_of masks_of is_rising node_of

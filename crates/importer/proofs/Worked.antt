@@ -1,7 +1,7 @@
 -- Worked facts by computation: imports by their bytes, and witnesses that the premises of the laws can be met.
 use Prim.Native.Nat.{ℕ, zero, suc, ◌<◌}
 use mathlib.Core.Path.{◌≡◌, refl, sym, ap}
-use mathlib.Core.Bool.{Bool, true, false, ◌||◌}
+use mathlib.Core.Bool.{true, false, or_self_left}
 use mathlib.Core.List.{List, [], ◌∷◌, ◌++◌}
 use native.Mathlib.Omega.{arith}
 use lib.Dec.{eqb, lit≤, eqb-suc-zero}
@@ -254,11 +254,7 @@ again_times (suc (suc v)) l = absurd (omega arith)
 again_names : (v j : ℕ) → v < 2 → is_in (suc j) (node_of row_graph v).predecessors ≡ is_in (suc j) (node_of again_graph v).predecessors
 unfolding node_of
 again_names zero j l = rw (eqb-suc-zero j)
-again_names (suc zero) j l = rw (eqb-suc-zero j) (go (eqb (suc j) 1))
-  where
-    go : (t : Bool) → (t || false) ≡ (t || (t || false))
-    go true = refl
-    go false = refl
+again_names (suc zero) j l = rw (eqb-suc-zero j) (sym (or_self_left (eqb (suc j) 1) false))
 again_names (suc (suc v)) j l = absurd (omega arith)
 
 pub row_same : task_from row_graph (terms 1 9 150) ≡ task_from again_graph (terms 1 9 150)

@@ -1,6 +1,7 @@
 -- S5.7: after k tasks were kept, the total held for the next one is the least of all sets of k + 1 tasks, up to M + 1.
 use Prim.Native.Nat.{ℕ, ◌+◌, ◌-◌, ◌≤◌, ◌<◌}
 use mathlib.Core.Path.{◌≡◌, refl, sym, ap, ◌∙◌, subst}
+use mathlib.Core.List.Memᴰ
 use mathlib.Core.List.{List, Memᴰ}
 use mathlib.Core.Bool.{false}
 use native.Mathlib.Omega.{arith}
@@ -8,7 +9,7 @@ use lib.ListN.{length, take}
 use borrow.Author.Tests.{eqb-true, eq-eqb}
 use Rattle.std.specs.Prelude.{filter}
 use Rattle.basics.specs.Order.{least, capped_at}
-use Rattle.basics.proofs.Members.{map-has, map_from, filter-has, filter_from}
+use Rattle.basics.proofs.Members.{filter-has, filter_from}
 use Rattle.basics.proofs.Order.{capped_is}
 use Rattle.shares.specs.declared.share.Share.{Share}
 use Rattle.shares.specs.Totals.{share_at, critical_total}
@@ -28,7 +29,7 @@ module _ (n : ℕ) (shares : List Share) (k : ℕ) where
       Memᴰ (critical_total (take n shares) + processors_for (typical_share_at shares) tasks) (totals_keeping n shares k)
   unfolding totals_keeping
   keeping_has tasks p many =
-      map-has (λ set. critical_total (take n shares) + processors_for (typical_share_at shares) set) _ tasks
+      Memᴰ.map (λ set. critical_total (take n shares) + processors_for (typical_share_at shares) set)
       (filter-has _ (subsets (without n shares)) tasks (part_subset p) (eq-eqb (length tasks) k many))
 
   keeping_from : (P : ℕ → Type 0) →
@@ -36,9 +37,9 @@ module _ (n : ℕ) (shares : List Share) (k : ℕ) where
       (y : ℕ) → Memᴰ y (totals_keeping n shares k) → P y
   unfolding totals_keeping
   keeping_from P each y m =
-      let image = map_from (λ set. critical_total (take n shares) + processors_for (typical_share_at shares) set) _ y m in
-      let kept = filter_from _ (subsets (without n shares)) image.0 image.1.0 in
-      rw image.1.1 (each image.0 (subset_part (without n shares) image.0 kept.0) (eqb-true _ k kept.1))
+      let image = Memᴰ.of_map (λ set. critical_total (take n shares) + processors_for (typical_share_at shares) set) _ m in
+      let kept = filter_from _ (subsets (without n shares)) image.0 image.1 in
+      rw (← image.2) (each image.0 (subset_part (without n shares) image.0 kept.0) (eqb-true _ k kept.1))
 
 module _ (M n : ℕ) (shares : List Share) (able : Keepable M n shares) where
   module _ {k : ℕ} {line : List Share} (kept : KeptSoFar M n shares k line) (there : n ≤ length line) where

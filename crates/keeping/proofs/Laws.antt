@@ -5,17 +5,18 @@ use mathlib.Core.Path.{◌≡◌, refl, sym, ap, ◌∙◌, subst}
 use mathlib.Core.Logic.{◌⊎◌, inl, inr}
 use mathlib.Core.Bool.{Bool, true, false, cond}
 use mathlib.Core.List.Memᴰ
-use mathlib.Core.List.{List, [], ◌∷◌, map, Memᴰ}
+use mathlib.Core.List.{List, [], ◌∷◌, Memᴰ}
 use Rattle.std.specs.Prelude.{Option, None, Some, unwrap_or}
 use native.Mathlib.Omega.{arith}
 use native.Mathlib.Decide.{dec_lt}
 use lib.ListN.{length, get_or, take, length-map, get_or-eq_default}
 use lib.Seq.{take-length}
 use borrow.Author.Tests.{leb-true, le-leb}
+use Rattle.std.specs.Cmp.{both_ways}
+use Rattle.std.proofs.lemmas.Bool.{false_from_ne_true}
 use Rattle.basics.specs.Lists.{range, is_in}
-use Rattle.basics.proofs.Logic.{bool_ext}
-use Rattle.basics.proofs.Lists.{length-range}
-use Rattle.basics.proofs.Members.{range-has, range-within, filter-has, filter_from}
+use Rattle.basics.proofs.Lists.{length-range, get_or-map_range}
+use Rattle.basics.proofs.Members.{range-has, range-within, filter-has, filter_from, is_in_lem, in_is}
 use Rattle.sheet.specs.declared.task.Task.{Task}
 use Rattle.sheet.specs.Format.{missing_task}
 use Rattle.sheet.specs.Level.{is_low}
@@ -26,7 +27,7 @@ use Rattle.basics.specs.Order.{no_later, least_by}
 use Rattle.keeping.specs.Kept.{low_numbers, subsets, processors_for, holdable, kept_rank, first_held, typical_share_at, left_over, kept_tasks, kept_share, with_kept}
 use Rattle.keeping.specs.KeptSet.{LowSet, HeldSet, BestKept, KeptShares}
 use Rattle.basics.proofs.Order.{no_later_then, least_member, least_first, least_none}
-use Rattle.keeping.proofs.Parts.{Part, nothing, taken, left, part_subset, subset_part, part_length, part_member, part_rising, filter_part, Rising, range_rising, rising_part, neighbours_rising, rising_neighbours, is_in_lem, in_is}
+use Rattle.keeping.proofs.Parts.{Part, nothing, taken, left, part_subset, subset_part, part_length, part_member, part_rising, filter_part, Rising, range_rising, rising_part, neighbours_rising, rising_neighbours}
 
 -- The first of the sets that can be held is one of them, and comes no later than any.
 module _ (share : ℕ → ℕ) (room : ℕ) (numbers : List ℕ) where
@@ -176,16 +177,7 @@ kept_best M tasks choice fits =
     few : (set : List ℕ) → HeldSet M tasks choice set → processors_for share set ≤ room
     few set held = let fit = held.fits in omega arith
 
--- Shares with those of the kept tasks, one by one.
-map-range_at : {A : Type 0} (f : ℕ → A) (first count i : ℕ) (d : A) → i < count → get_or (map f (range first count)) i d ≡ f (first + i)
-unfolding range
-map-range_at f first zero i d inside = absurd (omega arith)
-map-range_at f first (suc count) zero d inside = let e : first ≡ first + 0 = omega arith in ap f e
-map-range_at f first (suc count) (suc i) d inside =
-    let e : suc first + i ≡ first + suc i = omega arith in
-    map-range_at f (suc first) count i d (omega arith) ∙ ap f e
-
--- The share of task i, where it may be kept.
+-- Shares with those of the kept tasks, one by one: the share of task i, where it may be kept.
 abbrev pub share_if : Bool → Share → Share
 share_if kept s = cond kept (kept_share s) s
 
@@ -206,7 +198,7 @@ module _ (kept : List ℕ) (choice : List Share) where
           get_or (with_kept kept choice) i no_processors ≡ cond (is_in i kept) (kept_share (get_or choice i no_processors)) (get_or choice i no_processors)
       go (yes inside) =
           let e : 0 + i ≡ i = omega arith in
-          map-range_at (λ j. cond (is_in j kept) (kept_share (get_or choice j no_processors)) (get_or choice j no_processors)) 0 (length choice) i no_processors inside
+          get_or-map_range (λ j. cond (is_in j kept) (kept_share (get_or choice j no_processors)) (get_or choice j no_processors)) 0 (length choice) i no_processors inside
           ∙ ap (λ (j : ℕ). cond (is_in j kept) (kept_share (get_or choice j no_processors)) (get_or choice j no_processors)) e
       go (no past) =
           get_or-eq_default (with_kept kept choice) no_processors (omega (arith, with_length))
@@ -255,7 +247,7 @@ module _ (typical critical : ℕ → ℕ) (test : ℕ → Bool) where
     where
       behind : (j : ℕ) → Memᴰ j numbers → is_in j (i ∷ set) ≡ is_in j set
       behind j m =
-          bool_ext (is_in j (i ∷ set)) (is_in j set) (λ e. go (Memᴰ.cases_cons (is_in_lem j (i ∷ set) e)))
+          both_ways (is_in j (i ∷ set)) (is_in j set) (λ e. go (Memᴰ.cases_cons (is_in_lem j (i ∷ set) e)))
           (λ e. in_is j (i ∷ set) (Memᴰ.tail (is_in_lem j set e)))
         where
           go : (j ≡ i) ⊎ Memᴰ j set → is_in j set ≡ true
@@ -264,13 +256,12 @@ module _ (typical critical : ℕ → ℕ) (test : ℕ → Bool) where
   set_sum (left {i} {numbers} {set} p) rising same zero_before =
       omega (
         arith,
-        ap {B = ℕ} (λ (t : Bool). cond t (typical i) (critical i)) (same i (Memᴰ.head refl) ∙ out (is_in i set) refl),
+        ap {B = ℕ} (λ (t : Bool). cond t (typical i) (critical i)) (same i (Memᴰ.head refl) ∙ out),
         set_sum p rising.1 (λ j m. same j (Memᴰ.tail m)) zero_before,
       )
     where
-      out : (t : Bool) → is_in i set ≡ t → t ≡ false
-      out false e = refl
-      out true e = absurd (omega (arith, rising.0 i (part_member p i (is_in_lem i set e))))
+      out : is_in i set ≡ false
+      out = false_from_ne_true _ (λ e. omega (arith, rising.0 i (part_member p i (is_in_lem i set e))))
 
 -- The totals with the kept tasks' shares.
 module _ (kept : List ℕ) (choice : List Share) where

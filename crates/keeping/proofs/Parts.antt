@@ -1,18 +1,16 @@
 -- Sets of numbers as parts of a list: each number of the list is in or not. Every set that is enumerated is a part and
 -- every part is enumerated; a rising list of members of a rising list is a part; what a test keeps is one.
 use Prim.Native.Nat.{ℕ, zero, suc, ◌+◌, ◌≤◌, ◌<◌}
-use mathlib.Core.Path.{◌≡◌, refl, sym, ◌∙◌, subst}
+use mathlib.Core.Path.{◌≡◌, refl, sym, subst}
 use mathlib.Core.Logic.{◌⊎◌, inl, inr}
-use mathlib.Core.Bool.{Bool, true, false, ◌||◌, false≢true}
+use mathlib.Core.Bool.{Bool, true, false}
 use mathlib.Core.List.Memᴰ
 use mathlib.Core.List.{List, [], ◌∷◌, map, Memᴰ}
 use native.Mathlib.Omega.{arith}
-use lib.Dec.{eqb}
 use lib.ListN.{length, get_or}
-use borrow.Author.Tests.{eqb-true, eq-eqb}
 use Rattle.std.specs.Prelude.{filter}
-use Rattle.basics.specs.Lists.{range, kept_if, is_in}
-use Rattle.basics.proofs.Members.{map-has, map_from, range-within}
+use Rattle.basics.specs.Lists.{range, kept_if}
+use Rattle.basics.proofs.Members.{range-within}
 use Rattle.keeping.specs.Kept.{subsets}
 
 -- A part of a list of numbers.
@@ -24,7 +22,7 @@ pub data Part : List ℕ → List ℕ → Type 0 where
 pub part_subset : {numbers set : List ℕ} → Part numbers set → Memᴰ set (subsets numbers)
 part_subset nothing = Memᴰ.head refl
 part_subset (taken {i} {numbers} {set} p) =
-    Memᴰ.append_left (subsets numbers) (map-has (λ s. i ∷ s) (subsets numbers) set (part_subset p))
+    Memᴰ.append_left (subsets numbers) (Memᴰ.map (λ s. i ∷ s) (part_subset p))
 part_subset (left {i} {numbers} {set} p) = Memᴰ.append_right (map (λ s. i ∷ s) (subsets numbers)) (part_subset p)
 
 pub subset_part : (numbers set : List ℕ) → Memᴰ set (subsets numbers) → Part numbers set
@@ -34,8 +32,8 @@ subset_part (i ∷ numbers) set m = go (subset_part numbers) (Memᴰ.append_case
     go : ((s : List ℕ) → Memᴰ s (subsets numbers) → Part numbers s) →
         Memᴰ set (map (λ s. i ∷ s) (subsets numbers)) ⊎ Memᴰ set (subsets numbers) → Part (i ∷ numbers) set
     go rest (inl with-i) =
-        let found = map_from (λ s. i ∷ s) (subsets numbers) set with-i in
-        subst (Part (i ∷ numbers)) (sym found.1.1) (taken (rest found.0 found.1.0))
+        let found = Memᴰ.of_map (λ s. i ∷ s) (subsets numbers) with-i in
+        subst (Part (i ∷ numbers)) found.2 (taken (rest found.0 found.1))
     go rest (inr later) = left (rest set later)
 
 pub part_length : {numbers set : List ℕ} → Part numbers set → length set ≤ length numbers
@@ -123,21 +121,3 @@ rising_neighbours (i ∷ k ∷ set) r zero inside = r.0 k (Memᴰ.head refl)
 rising_neighbours (i ∷ k ∷ set) r (suc j) inside =
     let e : suc j + 1 ≡ suc (j + 1) = omega arith in
     rw e (rising_neighbours (k ∷ set) r.1 j (omega arith))
-
--- Whether a number is in a set.
-pub is_in_lem : (i : ℕ) (set : List ℕ) → is_in i set ≡ true → Memᴰ i set
-is_in_lem i [] e = absurd (false≢true e)
-is_in_lem i (j ∷ set) e = go (eqb i j) refl e (is_in_lem i set)
-  where
-    go : (t : Bool) → eqb i j ≡ t → (t || is_in i set) ≡ true → (is_in i set ≡ true → Memᴰ i set) → Memᴰ i (j ∷ set)
-    go true same h rest = Memᴰ.head (eqb-true i j same)
-    go false differs h rest = Memᴰ.tail (rest h)
-
-pub in_is : (i : ℕ) (set : List ℕ) → Memᴰ i set → is_in i set ≡ true
-in_is i [] m = absurd (Memᴰ.not-nil m)
-in_is i (j ∷ set) m = go (eqb i j) refl (in_is i set) (Memᴰ.cases_cons m)
-  where
-    go : (t : Bool) → eqb i j ≡ t → (Memᴰ i set → is_in i set ≡ true) → (i ≡ j) ⊎ Memᴰ i set → (t || is_in i set) ≡ true
-    go true e rest m' = refl
-    go false e rest (inl same) = absurd (false≢true (sym e ∙ eq-eqb i j same))
-    go false e rest (inr later) = rest later

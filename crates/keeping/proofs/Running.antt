@@ -3,13 +3,14 @@
 use Prim.Native.Nat.{ℕ, zero, suc, ◌+◌, ◌≤◌, ◌<◌}
 use mathlib.Core.Path.{◌≡◌}
 use mathlib.Core.Logic.{inl, inr}
+use mathlib.Core.List.Memᴰ
 use mathlib.Core.List.{List, [], ◌∷◌, Memᴰ}
 use native.Mathlib.Omega.{arith}
 use lib.ListN.{length, set, take}
 use borrow.Author.Tests.{eqb-true, eq-eqb}
 use Rattle.basics.specs.Lists.{range}
 use Rattle.basics.specs.Order.{least, capped_at}
-use Rattle.basics.proofs.Members.{map-has, map_from, range-has, range-within, filter-has, filter_from}
+use Rattle.basics.proofs.Members.{range-has, range-within, filter-has, filter_from}
 use Rattle.basics.proofs.Order.{capped_is}
 use Rattle.shares.specs.declared.share.Share.{Share}
 use Rattle.shares.specs.Totals.{share_at, critical_total}
@@ -51,15 +52,15 @@ module _ (n : ℕ) (shares : List Share) where
         Memᴰ (critical_total (take n shares) + typical_share_at shares i) (totals_with_one n shares)
     unfolding totals_with_one
     with_has i inside zero-share =
-        rw (← one_more_kept long i inside zero-share) (map-has (total_with_task n shares) (without n shares) i (low_has i inside zero-share))
+        rw (← one_more_kept long i inside zero-share) (Memᴰ.map (total_with_task n shares) (low_has i inside zero-share))
 
     with_from : (P : ℕ → Type 0) → ((j : ℕ) → j < n → critical_share_at shares j ≡ 0 → P (critical_total (take n shares) + typical_share_at shares j)) →
         (y : ℕ) → Memᴰ y (totals_with_one n shares) → P y
     unfolding totals_with_one
     with_from P each y m =
-        let one = map_from (total_with_task n shares) (without n shares) y m in
-        let low = low_from one.0 one.1.0 in
-        rw (one.1.1, one_more_kept long one.0 low.0 low.1) (each one.0 low.0 low.1)
+        let one = Memᴰ.of_map (total_with_task n shares) (without n shares) m in
+        let low = low_from one.0 one.1 in
+        rw (← one.2, one_more_kept long one.0 low.0 low.1) (each one.0 low.0 low.1)
 
 -- What is found of the next task to keep.
 module _ {M n : ℕ} {shares : List Share} where

@@ -8,7 +8,7 @@ use native.Mathlib.Decide.{dec_lt}
 use native.Mathlib.Omega.{arith}
 use lib.ListN.{take}
 use Rattle.std.specs.Prelude.{Option, Some, None, MatchOption, IfSome}
-use Rattle.basics.proofs.Below.{below_cases}
+use borrow.Author.Count.{below_more}
 use Rattle.shares.specs.declared.share.Share.{Share}
 use Rattle.shares.specs.Totals.{critical_total}
 use Rattle.keeping.specs.Kept.{typical_share_at}
@@ -37,9 +37,6 @@ module _ (M n : ℕ) (shares : List Share) where
     a_task : task < i → critical_share_at shares task ≡ 0 → below ≡ with task → below ≤ M →
         ((j : ℕ) → j < i → critical_share_at shares j ≡ 0 → NotAfter (typical_share_at shares) task j) → Seen i task below
 
-  -- Up to the next number.
-  below_next : (P : ℕ → Type 0) (i : ℕ) → ((j : ℕ) → j < i → P j) → P i → (j : ℕ) → j < i + 1 → P j
-  below_next P i before here j within = below_cases P i before here j (omega arith)
 
   at_least : (i task below : ℕ) → Seen i task below → (j : ℕ) → j < i → critical_share_at shares j ≡ 0 → below ≤ with j
   at_least i task below (nothing_seen none_yet whole more) j before low = let past = more j before low in omega arith
@@ -59,7 +56,7 @@ module _ (M n : ℕ) (shares : List Share) where
   seen_taken i task below seen low less task' below' here same =
       rw here
       (a_task (omega arith) low same (omega (arith, to_cap i task below seen))
-      (below_next (λ j. critical_share_at shares j ≡ 0 → NotAfter (typical_share_at shares) i j) i
+      (below_more (λ j. critical_share_at shares j ≡ 0 → NotAfter (typical_share_at shares) i j) i
       (λ j before zero-share. inl (omega (arith, at_least i task below seen j before zero-share)))
       (λ zero-share. inr (refl, omega arith))))
 
@@ -67,10 +64,10 @@ module _ (M n : ℕ) (shares : List Share) where
   seen_on : (i task below : ℕ) → Seen i task below → (critical_share_at shares i ≡ 0 → below ≤ with i) → Seen (i + 1) task below
   seen_on i task below (nothing_seen none_yet whole more) past =
       nothing_seen none_yet whole
-      (below_next (λ j. critical_share_at shares j ≡ 0 → M < with j) i more (λ low. omega (arith, past low)))
+      (below_more (λ j. critical_share_at shares j ≡ 0 → M < with j) i more (λ low. omega (arith, past low)))
   seen_on i task below (a_task inside zero-share same fits first) past =
       a_task (omega arith) zero-share same fits
-      (below_next (λ j. critical_share_at shares j ≡ 0 → NotAfter (typical_share_at shares) task j) i first
+      (below_more (λ j. critical_share_at shares j ≡ 0 → NotAfter (typical_share_at shares) task j) i first
       (λ low. later (dec_lt (typical_share_at shares task) (typical_share_at shares i)) (past low)))
     where
       later : Dec (typical_share_at shares task < typical_share_at shares i) → below ≤ with i → NotAfter (typical_share_at shares) task i

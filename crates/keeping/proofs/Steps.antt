@@ -3,7 +3,7 @@
 use Prim.Native.Nat.{ℕ, ◌+◌, ◌-◌, ◌≤◌, ◌<◌}
 use mathlib.Core.Path.{◌≡◌, refl, sym, ap, ◌∙◌}
 use mathlib.Core.Logic.{◌⊎◌, inl, inr}
-use mathlib.Core.Bool.{Bool, true, false, cond, ◌||◌, false≢true}
+use mathlib.Core.Bool.{Bool, true, false, cond, ◌||◌, or-false, or-true, false≢true}
 use mathlib.Core.List.Memᴰ
 use mathlib.Core.List.{List, [], ◌∷◌, Memᴰ}
 use native.Mathlib.Omega.{arith}
@@ -13,16 +13,17 @@ use lib.ListN.{length, get_or, set, take, length-set}
 use lib.Seq.{ext_get_or, get_or-set_same, get_or-set_other}
 use borrow.Author.Tests.{eq-eqb, ne_eqb}
 use Rattle.std.specs.Prelude.{filter}
+use Rattle.std.specs.Cmp.{both_ways}
+use Rattle.std.proofs.lemmas.Bool.{false_from_ne_true}
 use Rattle.basics.specs.Lists.{range, kept_if, is_in}
-use Rattle.basics.proofs.Logic.{bool_ext}
 use Rattle.basics.proofs.Lists.{filter_agree, filter_none}
-use Rattle.basics.proofs.Members.{filter-has, filter_from}
+use Rattle.basics.proofs.Members.{filter-has, filter_from, is_in_lem, in_is}
 use Rattle.shares.specs.declared.share.Share.{Share}
 use Rattle.shares.specs.Totals.{no_processors, share_at, critical_total}
 use Rattle.keeping.specs.Kept.{processors_for, typical_share_at, left_over, kept_share, with_kept}
 use Rattle.keeping.specs.Running.{critical_share_at, without, total_with_task}
 use Rattle.keeping.specs.means.Keeping.{kept_line, NotAfter, Next, none, found, Keepable}
-use Rattle.keeping.proofs.Parts.{part_rising, filter_part, Rising, range_rising, is_in_lem, in_is}
+use Rattle.keeping.proofs.Parts.{part_rising, filter_part, Rising, range_rising}
 use Rattle.keeping.proofs.Greedy.{Split, first_held_lem}
 use Rattle.keeping.proofs.Laws.{with_length, with_share_lem, with_typical}
 use Rattle.keeping.proofs.Running.{low_from, low_has, one_more_kept}
@@ -32,18 +33,10 @@ abbrev pub also : (ℕ → Bool) → ℕ → ℕ → Bool
 also test x i = test i || eqb i x
 
 also_old : (test : ℕ → Bool) (x i : ℕ) → (i ≡ x → ⊥) → also test x i ≡ test i
-also_old test x i other = ap (λ (t : Bool). test i || t) (ne_eqb i x other) ∙ go (test i)
-  where
-    go : (t : Bool) → (t || false) ≡ t
-    go true = refl
-    go false = refl
+also_old test x i other = ap (λ (t : Bool). test i || t) (ne_eqb i x other) ∙ or-false (test i)
 
 also_new : (test : ℕ → Bool) (x : ℕ) → also test x x ≡ true
-also_new test x = ap (λ (t : Bool). test x || t) (eq-eqb x x refl) ∙ go (test x)
-  where
-    go : (t : Bool) → (t || true) ≡ true
-    go true = refl
-    go false = refl
+also_new test x = ap (λ (t : Bool). test x || t) (eq-eqb x x refl) ∙ or-true (test x)
 
 -- What it takes is added.
 pub filter_also : (share : ℕ → ℕ) (test : ℕ → Bool) (x : ℕ) (numbers : List ℕ) → Rising numbers → Memᴰ x numbers → test x ≡ false →
@@ -159,26 +152,24 @@ module _ (M n : ℕ) (shares : List Share) (able : Keepable M n shares) where
     free_from i inside zero-share =
         go (is_in i (filter kept.test (without n shares))) refl (sym (ap (λ (s : Share). s.critical) (line_share i)) ∙ zero-share)
       where
-        out : Memᴰ i (without n shares) → is_in i (filter kept.test (without n shares)) ≡ false → (t : Bool) → kept.test i ≡ t → t ≡ false
-        out m e false q = refl
-        out m e true q = absurd (false≢true (sym e ∙ in_is i _ (filter-has kept.test (without n shares) i m q)))
+        out : Memᴰ i (without n shares) → is_in i (filter kept.test (without n shares)) ≡ false → kept.test i ≡ false
+        out m e = false_from_ne_true _ (λ q. false≢true (sym e ∙ in_is i _ (filter-has kept.test (without n shares) i m q)))
 
         go : (t : Bool) → is_in i (filter kept.test (without n shares)) ≡ t →
             (cond t (kept_share (share_at shares i)) (share_at shares i)).critical ≡ 0 →
             Memᴰ i (without n shares) × (kept.test i ≡ false)
         go true e h = absurd (let one = able.some_share i inside in omega arith)
-        go false e h = let m = low_has n shares i inside h in (m, out m e (kept.test i) refl)
+        go false e h = let m = low_has n shares i inside h in (m, out m e)
 
     pub free_has : (i : ℕ) → Memᴰ i (without n shares) → kept.test i ≡ false → critical_share_at line i ≡ 0
     unfolding critical_share_at
     free_has i m out =
         ap (λ (s : Share). s.critical) (line_share i)
-        ∙ ap {B = ℕ} (λ (t : Bool). (cond t (kept_share (share_at shares i)) (share_at shares i)).critical) (not_in (is_in i (filter kept.test (without n shares))) refl)
+        ∙ ap {B = ℕ} (λ (t : Bool). (cond t (kept_share (share_at shares i)) (share_at shares i)).critical) not_in
         ∙ (low_from n shares i m).1
       where
-        not_in : (t : Bool) → is_in i (filter kept.test (without n shares)) ≡ t → t ≡ false
-        not_in false e = refl
-        not_in true e = absurd (false≢true (sym out ∙ (filter_from kept.test (without n shares) i (is_in_lem i _ e)).1))
+        not_in : is_in i (filter kept.test (without n shares)) ≡ false
+        not_in = false_from_ne_true _ (λ e. false≢true (sym out ∙ (filter_from kept.test (without n shares) i (is_in_lem i _ e)).1))
 
     -- No more can be kept.
     pub kept_all : (x total : ℕ) → M < total → Next M n line x total → line ≡ kept_line M n shares
@@ -267,16 +258,13 @@ module _ (M n : ℕ) (shares : List Share) (able : Keepable M n shares) where
       now_in = in_is x _ (filter-has (also kept.test x) (without n shares) x task.low (also_new kept.test x))
 
       not_before : is_in x (filter kept.test (without n shares)) ≡ false
-      not_before = go (is_in x (filter kept.test (without n shares))) refl
-        where
-          go : (t : Bool) → is_in x (filter kept.test (without n shares)) ≡ t → t ≡ false
-          go false e = refl
-          go true e = absurd (false≢true (sym task.out ∙ (filter_from kept.test (without n shares) x (is_in_lem x _ e)).1))
+      not_before =
+          false_from_ne_true _ (λ e. false≢true (sym task.out ∙ (filter_from kept.test (without n shares) x (is_in_lem x _ e)).1))
 
       others_as_before : (i : ℕ) → (i ≡ x → ⊥) →
           is_in i (filter (also kept.test x) (without n shares)) ≡ is_in i (filter kept.test (without n shares))
       others_as_before i other =
-          bool_ext _ _
+          both_ways _ _
           (λ e.
           let here = filter_from (also kept.test x) (without n shares) i (is_in_lem i _ e) in
           in_is i _ (filter-has kept.test (without n shares) i here.0 (sym (also_old kept.test x i other) ∙ here.1)))

@@ -3,14 +3,15 @@
 -- that this speaks of every moment.
 use Prim.Native.Nat.{ℕ, ◌≤◌, ◌<◌}
 use mathlib.Core.Path.{◌≡◌, refl, sym, ap, subst, ◌∙◌}
-use mathlib.Core.Bool.{Bool, true, false, true≢false, and-eq-true_iff}
+use mathlib.Core.Bool.{true, false, true≢false, and-eq-true_iff}
+use mathlib.Core.List.Memᴰ
 use mathlib.Core.List.{List, [], ◌∷◌, ◌++◌, append_assoc, Memᴰ}
 use native.Mathlib.Omega.{arith}
 use native.Mathlib.Decide.{dec_lt}
 use lib.ListN.{length, get_or, take, length-take}
 use lib.Seq.{get_or-take}
-use Rattle.std.specs.Prelude.{filter}
-use Rattle.basics.proofs.Members.{map-has, filter-has, get_or-has, greatest-has}
+use Rattle.std.proofs.lemmas.Bool.{true_from_ne_false}
+use Rattle.basics.proofs.Members.{filter-has, get_or-has, greatest-has}
 use Rattle.sheet.specs.declared.task.Budget.{Budget}
 use Rattle.sheet.specs.declared.task.Task.{Task}
 use Rattle.sheet.specs.declared.task.TaskSet.{TaskSet}
@@ -42,17 +43,16 @@ unfolding begun later_release first_release
 origin m [] i known alive = old alive refl
 origin m (x ∷ calls) i known alive = go (origin (next m x) calls i (rw (length-step m x) known) alive)
   where
-    was : is_release_of i m x ≡ false → (row_at (next m x) i).job.alive ≡ true → (t : Bool) → (row_at m i).job.alive ≡ t → t ≡ true
-    was other now true e = refl
-    was other now false e = absurd (true≢false (sym now ∙ dead_step m x i known other e))
+    was : is_release_of i m x ≡ false → (row_at (next m x) i).job.alive ≡ true → (row_at m i).job.alive ≡ true
+    was other now = true_from_ne_false _ (λ e. true≢false (sym now ∙ dead_step m x i known other e))
 
     here : (row_at (next m x) i).job.alive ≡ true → releases_in i (next m x) calls ≡ 0 → Turn m i x → Origin m i (x ∷ calls)
-    here now last (same t r mode e) = old (was r now (row_at m i).job.alive refl) (zero_count (is_release_of i m x) _ r last)
+    here now last (same t r mode e) = old (was r now) (zero_count (is_release_of i m x) _ r last)
     here now last (begins e a at) =
         young (first_release m x calls i e a) (ap (λ (y : Call). releases_in i (next m y) calls) (sym e) ∙ last)
     here now last (ticks reports e a at) =
         let r : is_release_of i m x ≡ false = ap (is_release_of i m) e in
-        old (was r now (row_at m i).job.alive refl) (zero_count (is_release_of i m x) _ r last)
+        old (was r now) (zero_count (is_release_of i m x) _ r last)
 
     go : Origin (next m x) i calls → Origin m i (x ∷ calls)
     go (old now last) = here now last (turn m i x known)
@@ -95,7 +95,7 @@ module _ (ts : TaskSet) (shares : List Share) (planned : Planned ts shares) wher
   unfolding longest_deadline task_in
   longest_at i h high =
       greatest-has _ _
-      (map-has (λ t. t.figures.deadline) (filter (λ t. is_high t.level) tasks) (get_or ts.tasks i missing_task)
+      (Memᴰ.map (λ t. t.figures.deadline)
       (filter-has (λ t. is_high t.level) tasks (get_or ts.tasks i missing_task) member high))
     where
       tasks : List Task

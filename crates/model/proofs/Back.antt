@@ -9,6 +9,8 @@ use Rattle.std.specs.Prelude.{Option, Some, None}
 use native.Mathlib.Omega.{arith}
 use lib.ListN.{length}
 use Rattle.std.specs.Prelude.{Result, Ok, Err, ⊤, is_ok}
+use Rattle.std.proofs.lemmas.Option.{none-some}
+use Rattle.std.proofs.lemmas.Bool.{false_from_ne_true}
 use Rattle.sheet.specs.declared.refusal.Refusal.{Refusal}
 use Rattle.std.specs.List.{list_any}
 use Rattle.basics.proofs.Lists.{any_some}
@@ -53,11 +55,7 @@ few_ticks m n limit w all-young =
 -- A call that is no accepted tick does not return.
 idle_answer : (m : Model) (x : Call) → is_tick m x ≡ false → is_returned (step m x).answer ≡ false
 unfolding released step
-idle_answer m (tick reports) idle = go (is_returned (step m (tick reports)).answer) refl
-  where
-    go : (t : Bool) → is_returned (step m (tick reports)).answer ≡ t → t ≡ false
-    go true e = absurd (true≢false (sym (returning m reports e).accepted ∙ idle))
-    go false e = refl
+idle_answer m (tick reports) idle = false_from_ne_true _ (λ e. true≢false (sym (returning m reports e).accepted ∙ idle))
 idle_answer m (release i) idle = go (refusal_of m (release i))
   where
     go : (o : Result ⊤ Refusal) → is_returned (step_by o m (release i)).answer ≡ false
@@ -185,12 +183,9 @@ back limit (x ∷ calls) m n w early waits enough =
     go y e false is rest =
         then n (omega (arith, ap {B = ℕ} (λ (b : Bool). cond b 1 0) is)) (waiting_idle m n x w is parts.0) (idle_answer m x is) rest
 
-not_some : {i : ℕ} → ◌≡◌ {A = Option ℕ} None (Some i) → ⊥
-not_some e = let z : ◌≡◌ {A = ℕ} 0 1 = cc in omega arith
-
 -- Where a lowest late task is found, some task is late.
 late_found : (j : ℕ) (rows : List Row) (i : ℕ) → lowest_late j rows ≡ Some i → list_any is_late rows ≡ true
-late_found j [] i e = absurd (not_some e)
+late_found j [] i e = absurd (none-some i e)
 late_found j (r ∷ rows) i e = go (is_late r) _ _ e (late_found _ rows i)
   where
     go : (t : Bool) (q : ℕ) (o : Option ℕ) → cond t (Some q) o ≡ Some i → (o ≡ Some i → list_any is_late rows ≡ true) →

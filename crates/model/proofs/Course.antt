@@ -4,10 +4,11 @@ use Prim.Native.Nat.{ℕ, ◌+◌, ◌<◌}
 use mathlib.Core.Path.{◌≡◌, refl, sym, ap, subst, subst₃, fun_ext, ◌∙◌}
 use mathlib.Core.Bool.{Bool, true, false, cond, ◌&&◌, ◌||◌, true≢false, and-true}
 use mathlib.Core.List.{List, [], ◌∷◌, ◌++◌}
-use native.Mathlib.Nat.{add-zero, zero-add}
+use native.Mathlib.Nat.{add-zero, zero-add, add_assoc}
 use native.Mathlib.Omega.{arith}
 use lib.Bits.{bit_or}
 use lib.ListN.{length, get_or}
+use Rattle.std.proofs.lemmas.Bool.{and_left}
 use Rattle.basics.specs.Lists.{bit}
 use Rattle.nodes.specs.Sets.{has}
 use Rattle.nodes.proofs.Bits.{has_or}
@@ -16,7 +17,7 @@ use Rattle.model.specs.Row.{Row, running_set, joined, ticked_row, is_late, survi
 use Rattle.model.specs.Step.{Model, Call, tick, row_at, granted, running_at}
 use Rattle.model.specs.Run.{after, is_accepted, is_tick, is_release_of, releases_in, is_running, runs_on, runs_in, is_due, TrueReports}
 use Rattle.model.proofs.Nodes.{all_ended_at, all_ended_intro}
-use Rattle.model.proofs.Steps.{next, Turn, same, begins, ticks, TickAt, Settled, in_critical, in_typical, turns, turn, release_of_lem, false_and, count_zero}
+use Rattle.model.proofs.Steps.{next, Turn, same, begins, ticks, TickAt, Settled, in_critical, in_typical, turns, turn, release_of_lem, count_zero}
 use Rattle.model.proofs.Lasting.{length-step, kept_by_call}
 use Rattle.model.proofs.Job.{pace, Live, Over, OneMore, AfterTick, goes_on, ends, live_tick}
 
@@ -47,10 +48,7 @@ true_from_next i len c m x calls none h before reports rest e z a v =
     h (x ∷ before) reports rest (ap (λ (l : List Call). x ∷ l) e)
     (ap (λ (t : Bool). cond t 1 0 + releases_in i (next m x) before) none ∙ omega (arith, z)) a v
     ∙ ap (λ (n : ℕ). is_due (is_running i v (after (next m x) before)) n (len v))
-    (grouped (c v) (cond (runs_on i v m x) 1 0) (runs_in i v (next m x) before))
-  where
-    grouped : (a b d : ℕ) → a + (b + d) ≡ a + b + d
-    grouped a b d = omega arith
+    (sym (add_assoc (c v) (cond (runs_on i v m x) 1 0) (runs_in i v (next m x) before)))
 
 -- S8.3: what task i is granted is its pace in the mode. Only here does the proof of a job learn what decides the grant.
 granted_paced : (m : Model) (i : ℕ) → granted m i ≡ share_in m.critical (pace (row_at m i).fixed)
@@ -77,12 +75,12 @@ over_ticked r report o =
           all_ended_intro r.fixed.nodes (bit_or r.job.ended report)
           (λ v l. has_or r.job.ended report v
           ∙ ap (λ (t : Bool). t || has report v) (all_ended_at r.fixed.nodes r.job.ended v o.nodes l));
-      gone = false_and r.job.alive _ o.gone;
+      gone = and_left r.job.alive _ o.gone;
     }
 
 over_switched : (r : Row) → Over r → Over (switched_row r)
 unfolding switched_row
-over_switched r o = record { nodes = o.nodes; gone = false_and r.job.alive _ o.gone }
+over_switched r o = record { nodes = o.nodes; gone = and_left r.job.alive _ o.gone }
 
 over_step : (m : Model) (x : Call) (i : ℕ) → i < length m.rows → is_release_of i m x ≡ false → Over (row_at m i) →
     Over (row_at (next m x) i)
@@ -95,11 +93,11 @@ Dead r = r.job.alive ≡ false
 
 dead_ticked : (r : Row) (report : ℕ) → Dead r → Dead (ticked_row r report)
 unfolding ticked_row
-dead_ticked r report e = false_and r.job.alive _ e
+dead_ticked r report e = and_left r.job.alive _ e
 
 dead_switched : (r : Row) → Dead r → Dead (switched_row r)
 unfolding switched_row
-dead_switched r e = false_and r.job.alive _ e
+dead_switched r e = and_left r.job.alive _ e
 
 pub dead_step : (m : Model) (x : Call) (i : ℕ) → i < length m.rows → is_release_of i m x ≡ false →
     (row_at m i).job.alive ≡ false → (row_at (next m x) i).job.alive ≡ false

@@ -2,8 +2,8 @@
 -- the ticks behind it were full ones in typical mode: in typical mode there are fewer than V in all, and in critical
 -- mode no more of them come.
 use Prim.Native.Nat.{ℕ, ◌≤◌, ◌<◌}
-use mathlib.Core.Path.{◌≡◌, refl, sym, ap, ◌∙◌}
-use mathlib.Core.Bool.{Bool, true, false, ◌||◌, false≢true}
+use mathlib.Core.Path.{◌≡◌, refl, sym, ap, ◌∙◌, subst}
+use mathlib.Core.Bool.{Bool, true, false, ◌||◌}
 use mathlib.Core.List.{List}
 use native.Mathlib.Omega.{arith}
 use borrow.Author.Tests.{leb-false}
@@ -76,17 +76,13 @@ module _ (len : ℕ → ℕ) (work span i : ℕ) (f : Fixed) (high : is_high f.l
         on_tick = λ now later x calls t on. timely_tick now later x t on;
       }
 
-T_true : (t : Bool) → t ≡ true → T t
-T_true true e = tt
-T_true false e = false≢true e
-
 module _ (ts : TaskSet) (shares : List Share) (planned : Planned ts shares) (i : ℕ) (known : i < ts.count)
     (level : is_high (task_in ts i).level ≡ true) where
   high_is : is_high (planned_fixed ts shares i).level ≡ true
   high_is = (high_fixed ts shares i level).0
 
   passing : T (passes (task_in ts i).figures (share_at shares i).typical (share_at shares i).critical)
-  passing = T_true _ (planned.high i known level).passing
+  passing = subst T (sym (planned.high i known level).passing) tt
 
   virtual_in : (planned_fixed ts shares i).virtual_deadline ≤ (planned_fixed ts shares i).deadline
   unfolding fresh_row

@@ -6,6 +6,7 @@ use mathlib.Core.List.{List, [], ◌∷◌}
 use native.Mathlib.Omega.{arith}
 use lib.Dec.{lit<, lit≤}
 use lib.ListN.{get_or, replicate}
+use Rattle.basics.proofs.Lists.{get_or-padded}
 use Rattle.sheet.specs.declared.task.TaskSet.{TaskSet}
 use Rattle.shares.specs.declared.share.Share.{Share}
 use Rattle.shares.specs.Test.{excess, demand, passes, division_of, virtual_deadline}
@@ -113,15 +114,9 @@ nominal_alone = record { positive = positive; work = lit≤ tt; span = span }
     positive : (v : ℕ) → v < 3 → 1 ≤ lengths_a v
     positive v h = (at_most v h).0
 
-    none : (v : ℕ) → ◌≡◌ {A = ℕ} (get_or (0 ∷ 0 ∷ 0 ∷ []) v 0) 0
-    none zero = refl
-    none (suc zero) = refl
-    none (suc (suc zero)) = refl
-    none (suc (suc (suc v))) = refl
-
     span : (u : ℕ) (rest : List ℕ) → Chain 3 (precedes (0 ∷ 0 ∷ 0 ∷ [])) u rest → along lengths_a u rest ≤ 4
     span u rest (single l) = (at_most u l).1
-    span u rest (link {v = v} l e c) = absurd (true≢false (sym e ∙ ap (λ (n : ℕ). has n u) (none v) ∙ has_zero u))
+    span u rest (link {v = v} l e c) = absurd (true≢false (sym e ∙ ap (λ (n : ℕ). has n u) (get_or-padded [] 3 v) ∙ has_zero u))
 
 -- S10.7: the deadline of a job of it passes with the 45th tick after the release.
 passed_alone : DeadlinePassed (task_in sheet_a 0) 0 (after alone (release 0 ∷ [])) (replicate 45 (tick (0 ∷ [])))

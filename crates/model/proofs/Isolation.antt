@@ -9,8 +9,8 @@ use Rattle.std.specs.Prelude.{Option, Some, None}
 use native.Mathlib.Omega.{arith}
 use lib.Dec.{ltb}
 use lib.ListN.{length}
+use Rattle.std.proofs.lemmas.Bool.{or_parts}
 use Rattle.std.specs.List.{list_any}
-use Rattle.basics.proofs.Logic.{left_false, right_false}
 use Rattle.sheet.specs.declared.task.Task.{Task}
 use Rattle.shares.specs.declared.share.Share.{Share}
 use Rattle.sheet.specs.Level.{is_high, is_low}
@@ -317,7 +317,7 @@ typical_while t zero m (c ∷ calls) h e u = e
 typical_while zero (suc s) m (c ∷ calls) h e u = absurd (omega arith)
 typical_while (suc t) (suc s) m (c ∷ calls) h e u =
     typical_while (left (is_tick m c) t) (left (is_tick m c) s) (next m c) calls (left_le (is_tick m c) s t h)
-    (stays_typical m c e (left_false (is_switched (step m c).answer) _ u)) (right_false (is_switched (step m c).answer) _ u)
+    (stays_typical m c e (or_parts (is_switched (step m c).answer) _ u).0) (or_parts (is_switched (step m c).answer) _ u).1
 
 -- S10.15: the mode is typical throughout, and so is the share that counts.
 pub isolated_typical : (t : ℕ) (r q : TaskRun) → Planned r.tasks r.shares → Planned q.tasks q.shares → IsolatedTypical t r q

@@ -10,7 +10,7 @@ use borrow.Author.Tests.{eqb-true, eqb-false, eq-eqb, ne_eqb, lt-ltb}
 use lib.Bits.{bit_and, and_le_l}
 use lib.Dec.{eqb, ltb}
 use lib.Pow.{pow_mono}
-use Rattle.basics.proofs.Logic.{bool_ext}
+use Rattle.std.specs.Cmp.{both_ways}
 use Rattle.basics.specs.Lists.{bit, count, all_below}
 use Rattle.nodes.specs.Sets.{has}
 use Rattle.nodes.proofs.Bits.{has_zero, has_above, has_and, has_or, has_ext}
@@ -40,7 +40,7 @@ due_last false ran length = refl
 subset_test : (k a b : ℕ) → a < 2 ^ k → is_subset a b ≡ all_below k (λ u. not (has a u) || has b u)
 unfolding is_subset
 subset_test k a b h =
-    bool_ext (eqb (bit_and a b) a) (all_below k (λ u. not (has a u) || has b u))
+    both_ways (eqb (bit_and a b) a) (all_below k (λ u. not (has a u) || has b u))
     (λ e. all_intro k (λ u. not (has a u) || has b u)
     (λ u l. within (has a u) (has b u) (sym (has_and a b u) ∙ ap (λ (n : ℕ). has n u) (eqb-true (bit_and a b) a e))))
     (λ e. eq-eqb (bit_and a b) a (has_ext k (bit_and a b) a (lt_of_le_of_lt (and_le_l a b) h) h
@@ -89,7 +89,7 @@ runs_is grant r d alive v l =
 -- All nodes ended, as a test of each.
 all_ended_test : (k set : ℕ) → all_ended k set ≡ all_below k (has set)
 all_ended_test k set =
-    bool_ext (all_ended k set) (all_below k (has set))
+    both_ways (all_ended k set) (all_below k (has set))
     (λ e. all_intro k (has set) (λ v l. all_ended_at k set v e l))
     (λ e. all_ended_intro k set (all_at k (has set) e))
 

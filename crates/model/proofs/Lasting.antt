@@ -11,6 +11,7 @@ use lib.Bits.{bit_or, or_lt}
 use lib.ListN.{length, get_or, length-map, get_or-map, get_or-eq_default}
 use lib.Pow.{pow_pos}
 use lib.Seq.{map-set_same}
+use Rattle.std.proofs.lemmas.Bool.{false_from_ne_true}
 use Rattle.std.specs.List.{list_any}
 use Rattle.nodes.proofs.Bits.{has_zero}
 use Rattle.model.specs.Row.{Fixed, Row, is_subset, all_ended, running_set, released_row, joined, ticked_row, has_high_job, switched_row, fixed_part}
@@ -117,11 +118,7 @@ pub record KeptSound (r : Row) : Type 0 where
   pub sound : SoundRow r
 
 none_ended : (k : ℕ) → 1 ≤ k → all_ended k 0 ≡ false
-none_ended k h = go (all_ended k 0) refl
-  where
-    go : (t : Bool) → all_ended k 0 ≡ t → t ≡ false
-    go true e = sym (all_ended_at k 0 0 e h) ∙ has_zero 0
-    go false e = refl
+none_ended k h = false_from_ne_true _ (λ e. false≢true (sym (has_zero 0) ∙ all_ended_at k 0 0 e h))
 
 pub sound_released : (r : Row) → KeptSound r → KeptSound (released_row r)
 unfolding released_row

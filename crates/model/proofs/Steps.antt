@@ -13,6 +13,7 @@ use lib.Seq.{get_or-set_same, get_or-set_other}
 use Rattle.basics.proofs.Lists.{any_none}
 use Rattle.model.specs.Row.{Row, is_subset, running_set, released_row, ticked_row, has_high_job, is_late, switched_row}
 use Rattle.std.specs.Prelude.{Result, Ok, Err, ⊤, is_ok}
+use Rattle.std.proofs.lemmas.Bool.{and_left}
 use Rattle.sheet.specs.declared.refusal.Refusal.{Refusal}
 use Rattle.sheet.specs.declared.refusal.Refusal.TheVariants.{UnknownTask, WrongCount}
 use Rattle.sheet.specs.Refusal.{refused_if, ◌or_else◌}
@@ -37,9 +38,6 @@ count_zero false n e = (refl, omega arith)
 pub zero_count : (t : Bool) (n : ℕ) → t ≡ false → n ≡ 0 → cond t 1 0 + n ≡ 0
 zero_count true n e z = absurd (true≢false e)
 zero_count false n e z = omega arith
-
-pub false_and : (x y : Bool) → x ≡ false → (x && y) ≡ false
-false_and x y e = ap (λ (t : Bool). t && y) e
 
 ok_is : (o : Result ⊤ Refusal) → is_ok o ≡ true → o ≡ Ok tt
 ok_is (Ok x) e = refl
@@ -82,7 +80,7 @@ none_late j (r ∷ rows) i e h = go i h (is_late r) refl _ _ e (none_late _ rows
     go : (i : ℕ) → i < suc (length rows) → (t : Bool) → is_late r ≡ t → (q : ℕ) (o : Option ℕ) → cond t (Some q) o ≡ None →
         ((u : ℕ) → o ≡ None → u < length rows → is_late (get_or rows u no_row) ≡ false) →
         is_late (get_or (r ∷ rows) i no_row) ≡ false
-    go i b true s q o n rest = let z : ◌≡◌ {A = ℕ} 0 1 = cc in absurd (omega arith)
+    go i b true s q o n rest = absurd (cc)
     go zero b false s q o n rest = s
     go (suc u) b false s q o n rest = rest u n (omega arith)
 
@@ -101,7 +99,7 @@ returned_rows (r ∷ rows) = ap (λ (rs : List Row). r ∷ rs) (returned_rows ro
 -- Where no high job is alive, none is late.
 early_none : (r : Row) → has_high_job r ≡ false → is_late r ≡ false
 unfolding is_late
-early_none r e = false_and (has_high_job r) _ e
+early_none r e = and_left (has_high_job r) _ e
 
 -- What an accepted tick leaves of task i: its part of the tick, in critical or in typical mode, and in typical mode the
 -- task is not late; or the tick switched.

@@ -5,9 +5,10 @@ use mathlib.Core.Bool.{Bool, true, false, ◌&&◌, and-true, true≢false}
 use native.Mathlib.Omega.{arith}
 use lib.Dec.{ltb}
 use borrow.Author.Tests.{ltb-true, ltb-false, lt-ltb}
+use Rattle.std.proofs.lemmas.Bool.{and_parts}
+use borrow.Author.Count.{below_more}
 use Rattle.basics.specs.Lists.{bit, count, all_below}
-use Rattle.basics.proofs.Logic.{left_true}
-use Rattle.basics.proofs.Below.{below_cases, all_at}
+use Rattle.basics.proofs.Below.{all_at}
 use Rattle.basics.proofs.Counts.{count_ext, count_mono}
 use Rattle.model.specs.Budget.{sum_below}
 
@@ -50,7 +51,7 @@ pub sum_at_lem : (k : ℕ) (f : ℕ → ℕ) (v : ℕ) → v < k → f v ≤ sum
 unfolding sum_below
 sum_at_lem zero f v l = absurd (omega arith)
 sum_at_lem (suc k) f v l =
-    below_cases (λ u. f u ≤ sum_below k f + f k) k (λ u h. omega (arith, sum_at_lem k f u h)) (omega arith) v l
+    below_more (λ u. f u ≤ sum_below k f + f k) k (λ u h. omega (arith, sum_at_lem k f u h)) (omega arith) v (omega arith)
 
 pub count_some : (p : ℕ → Bool) (k v : ℕ) → v < k → p v ≡ true → 1 ≤ count p k
 count_some p k v l e =
@@ -75,7 +76,7 @@ lowest_all s p k few v l = rw (lt-ltb (count p v) s (omega (arith, count_mono p 
 
 pub lowest_passes : (s : ℕ) (p : ℕ → Bool) (v : ℕ) → lowest s p v ≡ true → p v ≡ true
 unfolding lowest
-lowest_passes s p v e = left_true (p v) (ltb (count p v) s) e
+lowest_passes s p v e = (and_parts (p v) (ltb (count p v) s) e).0
 
 pub lowest_same : (s v : ℕ) (p q : ℕ → Bool) → ((u : ℕ) → u ≤ v → p u ≡ q u) → lowest s p v ≡ lowest s q v
 unfolding lowest

@@ -1,28 +1,27 @@
 -- The bits of a set kept in a number: `has` of each operation on words, parts of a set, and that the bits determine
 -- the set. By induction on the bit's place or on the digits, one halving a step.
-use Prim.Native.Nat.{ℕ, zero, suc, ◌-◌, ◌*◌, ◌/◌, ◌%◌, ◌^◌, ◌≤◌, ◌<◌, zero-le}
+use Prim.Native.Nat.{ℕ, zero, suc, ◌-◌, ◌/◌, ◌%◌, ◌^◌, ◌≤◌, ◌<◌, zero-le}
 use mathlib.Core.Path.{◌≡◌, refl, sym, ap, ◌∙◌}
 use mathlib.Core.Logic.{◌⊎◌, inl, inr}
 use mathlib.Core.Bool.{Bool, true, false, not, ◌&&◌, ◌||◌, true≢false, and-eq-true_iff}
-use native.Mathlib.Nat.{div-one, zero-div, div-eq_of_lt, lt_of_lt_of_le, lt_of_not-le, le_antisymm, pow-suc, one-mul}
+use native.Mathlib.Nat.{div-one, zero-div, div-eq_of_lt, lt_of_lt_of_le, lt_of_not-le, le_antisymm, pow-suc}
 use native.Mathlib.Numerals.{one-add}
 use native.Mathlib.Omega.{arith}
 use borrow.Author.Tests.{eqb-true, lt-ltb}
 use lib.Arith.{bin_ind}
 use lib.Bits.{bit_and, bit_or, and_shr, or_shr, and_mod, or_mod}
 use lib.Dec.{eqb, ltb, eqb-zero-suc, eqb-suc-zero, eqb-suc-suc, leb-suc-suc, leb-suc-zero, leb-zero}
-use lib.Pow.{pow_pos, pow_mono, shr-shr, shl_exact, lt_of_le_ones}
+use lib.Pow.{pow_pos, pow_mono, shr-shr, lt_of_le_ones}
+use Rattle.basics.proofs.Logic.{under}
 use Rattle.nodes.specs.Sets.{has}
-
--- A number below two is one of its two values.
-two_cases : (n : ℕ) → n < 2 → (n ≡ 0) ⊎ (n ≡ 1)
-two_cases zero h = inl refl
-two_cases (suc zero) h = inr refl
-two_cases (suc (suc n)) h = absurd (omega arith)
 
 -- The lowest digit of a number, by its cases.
 pub digit_cases : (n : ℕ) → (n % 2 ≡ 0) ⊎ (n % 2 ≡ 1)
-digit_cases n = two_cases (n % 2) (omega arith)
+digit_cases n = go (n % 2) (omega arith)
+  where
+    go : (d : ℕ) → d < 2 → (d ≡ 0) ⊎ (d ≡ 1)
+    go zero h = inl refl
+    go (suc d) h = inr (omega arith)
 
 -- The lowest bit is the lowest digit, and the others are the bits of the half.
 pub has_first : (set : ℕ) → has set zero ≡ eqb (set % 2) 1
@@ -139,12 +138,4 @@ pub within_and : (a b : ℕ) → Within (bit_and a b) a
 within_and a b v e = ((and-eq-true_iff (has a v) (has b v)).0 (sym (has_and a b v) ∙ e)).0
 
 pub has-without : (a b v : ℕ) → has (a - bit_and a b) v ≡ (has a v && not (has b v))
-has-without a b v = has_sub a (bit_and a b) v (within_and a b) ∙ rw has_and (go (has a v) (has b v))
-  where
-    go : (s t : Bool) → (s && not (s && t)) ≡ (s && not t)
-    go true t = refl
-    go false t = refl
-
--- A word of width w with bit v alone, as a shift makes it.
-pub shl_one : (w v : ℕ) → v < w → (1 * 2 ^ v) % 2 ^ w ≡ 2 ^ v
-shl_one w v h = shl_exact 1 v w (omega arith) (omega arith) ∙ one-mul (2 ^ v)
+has-without a b v = has_sub a (bit_and a b) v (within_and a b) ∙ rw has_and (under (has a v) (λ e. rw e))

@@ -1,12 +1,13 @@
 -- One set within another: the spec's test, the bits, and the word's `a & b == a` say the same.
 use Prim.Native.Nat.{ℕ, ◌^◌, ◌<◌}
-use mathlib.Core.Path.{◌≡◌, refl, sym, ap, ◌∙◌}
-use mathlib.Core.Bool.{Bool, true, false, ◌&&◌, and-eq-true_iff}
+use mathlib.Core.Path.{◌≡◌, sym, ap, ◌∙◌}
+use mathlib.Core.Bool.{true, and-true, and-eq-true_iff}
 use native.Mathlib.Nat.{lt_of_le_of_lt}
 use borrow.Author.Tests.{eqb-true, eq-eqb}
 use lib.Bits.{bit_and, and_le_l}
 use lib.Dec.{eqb}
-use Rattle.basics.proofs.Logic.{bool_ext}
+use Rattle.std.specs.Cmp.{both_ways}
+use Rattle.basics.proofs.Logic.{under}
 use Rattle.nodes.specs.Sets.{has, members, is_within}
 use Rattle.nodes.proofs.Bits.{has_and, has_ext}
 use Rattle.basics.proofs.Members.{all_member, all-members}
@@ -22,15 +23,11 @@ unfolding is_within
 has-is_within k a b w = all-members (has b) (members k a) (λ v m. let i = members_mem k a v m in w v i.1 i.0)
 
 -- The word's test.
-implied : (s t : Bool) → (s ≡ true → t ≡ true) → (s && t) ≡ s
-implied true t f = f refl
-implied false t f = refl
-
 pub and_eq_is_within : (k a b : ℕ) → a < 2 ^ k → eqb (bit_and a b) a ≡ is_within k a b
 and_eq_is_within k a b below =
-    bool_ext (eqb (bit_and a b) a) (is_within k a b)
+    both_ways (eqb (bit_and a b) a) (is_within k a b)
     (λ e. has-is_within k a b (λ v h m.
     ((and-eq-true_iff (has a v) (has b v)).0 (sym (has_and a b v) ∙ ap (λ (n : ℕ). has n v) (eqb-true (bit_and a b) a e) ∙ m)).1))
     (λ e. eq-eqb (bit_and a b) a
     (has_ext k (bit_and a b) a (lt_of_le_of_lt (and_le_l a b) below) below
-    (λ v h. has_and a b v ∙ implied (has a v) (has b v) (is_within-has k a b v e h))))
+    (λ v h. has_and a b v ∙ under (has a v) (is_within-has k a b v e h) ∙ and-true (has a v))))

@@ -3,7 +3,6 @@ use Prim.Native.Nat.{ℕ, zero, suc, ◌/◌, ◌%◌, ◌≤◌, ◌<◌}
 use mathlib.Core.Bool.{Bool, true, false, cond}
 use mathlib.Core.List.{List, [], ◌∷◌, ◌++◌}
 use mathlib.Core.Path.{◌≡◌, refl, sym, ap, ◌∙◌}
-use native.Mathlib.Nat.{div-lt_self}
 use native.Mathlib.Omega.{arith}
 use lib.Dec.{ltb}
 use lib.ListN.{get_or}
@@ -12,10 +11,6 @@ use Rattle.std.specs.List.{list_all}
 use Rattle.basics.specs.Digits.{digit, is_digit}
 use Rattle.basics.proofs.Digits.{value_both, digits_both}
 use Rattle.plan_text.specs.Decimal.{digits_within, decimal, IsDecimal}
-
--- A tenth of what is not 0 is smaller.
-pub tenth : (n : ℕ) → 1 ≤ n → n / 10 < n
-tenth n h = div-lt_self (omega arith) (omega arith)
 
 -- Any allowance of n or more gives the same digits.
 same_digits : (k j n : ℕ) → n ≤ k → n ≤ j → digits_within k n ≡ digits_within j n
@@ -33,7 +28,7 @@ same_digits (suc k) (suc j) n h g =
     go true e rest = refl
     go false e rest =
         let more = ltb-false n 10 e in
-        ap (λ l. l ++ digit (n % 10) ∷ []) (rest (tenth n (omega arith)))
+        ap (λ l. l ++ digit (n % 10) ∷ []) (rest (omega arith))
 
 pub one_digit : (n : ℕ) → n < 10 → decimal n ≡ digit n ∷ []
 unfolding decimal digits_within
@@ -44,7 +39,6 @@ pub more_digits : (n : ℕ) → 10 ≤ n → decimal n ≡ decimal (n / 10) ++ d
 unfolding decimal digits_within
 more_digits zero h = absurd (omega arith)
 more_digits (suc n) h =
-    let less = tenth (suc n) (omega arith) in
     rw (le-ltb (suc n) 10 h, same_digits n (suc n / 10) (suc n / 10) (omega arith) (omega arith))
 
 digit_is : (d : ℕ) → d < 10 → list_all is_digit (digit d ∷ []) ≡ true
@@ -79,7 +73,7 @@ reads-within (suc k) n h = go (ltb n 10) refl (reads-within k (n / 10))
     go true e rest = one_reads n (ltb-true n 10 e)
     go false e rest =
         let more = ltb-false n 10 e in
-        more_reads n (digits_within k (n / 10)) more (rest (omega (arith, tenth n (omega arith))))
+        more_reads n (digits_within k (n / 10)) more (rest (omega arith))
 
 -- The printed decimal of a number reads back to it.
 pub decimal-reads : (n : ℕ) → IsDecimal n (decimal n)

@@ -6,8 +6,9 @@ use mathlib.Core.List.{List}
 use mathlib.Core.Path.{◌≡◌, refl, sym, ◌∙◌}
 use lib.Dec.{leb}
 use lib.ListN.{length}
-use borrow.Author.Tests.{leb-true}
 use Rattle.std.specs.Prelude.{Result, Ok, Err}
+use Rattle.std.proofs.lemmas.Bool.{and_parts}
+use Rattle.basics.proofs.Logic.{within_bounds}
 use Rattle.sheet.specs.declared.refusal.Refusal.{Refusal}
 use Rattle.sheet.specs.declared.refusal.Refusal.TheVariants.{BadHeader}
 use Rattle.sheet.specs.declared.task.Task.{Task}
@@ -17,7 +18,6 @@ use Rattle.sheet.specs.Format.{processors_of, count_of, tasks_below, task_set_of
 use Rattle.basics.specs.Numbers.{within}
 use Rattle.reader.specs.Reading.{header_lawful, header_answer, place_answer, end_answer, record_answer, read_of, read_answer}
 use Rattle.sheet.proofs.Faults.{after_accepted, after_refused, or_else_ok, or_else_err}
-use Rattle.basics.proofs.Logic.{left_true, right_true}
 
 -- The task set of a sheet, by its fields.
 pub set_whole : (s : List ℕ) (processors count : ℕ) (tasks : List Task) → processors ≡ processors_of s → count ≡ count_of s → tasks ≡ tasks_below s (count_of s) → ◌≡◌ {A = TaskSet} (record { processors = processors; count = count; tasks = tasks }) (task_set_of s)
@@ -56,8 +56,8 @@ module _ (s : List ℕ) where
 pub header_count : (s : List ℕ) → header_lawful s ≡ true → (1 ≤ count_of s) × (count_of s ≤ 16)
 unfolding header_lawful
 header_count s e =
-    let both = right_true (leb 2 (length s) && within 1 64 (processors_of s)) (within 1 16 (count_of s)) (left_true _ _ e) in
-    (leb-true 1 (count_of s) (left_true _ _ both), leb-true (count_of s) 16 (right_true (leb 1 (count_of s)) _ both))
+    let both = (and_parts (leb 2 (length s) && within 1 64 (processors_of s)) (within 1 16 (count_of s)) (and_parts _ _ e).0).1 in
+    within_bounds 1 16 (count_of s) both
 
 -- What a reading says of the answer: the sheet's task set where it is accepted, and else its refusal.
 pub read_ok : (s : List ℕ) {set : TaskSet} → read_of s ≡ Ok set → (read_answer s ≡ Ok tt) × (set ≡ task_set_of s)

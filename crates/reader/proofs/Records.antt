@@ -4,9 +4,11 @@ use mathlib.Core.Bool.{true, false, ◌&&◌, not}
 use mathlib.Core.List.{List}
 use mathlib.Core.Path.{◌≡◌, refl, sym, ap, ◌∙◌}
 use native.Mathlib.Omega.{arith}
-use lib.Dec.{leb, eqb}
-use borrow.Author.Tests.{leb-true, eqb-true}
+use lib.Dec.{eqb}
+use borrow.Author.Tests.{eqb-true}
 use Rattle.std.specs.Prelude.{Err}
+use Rattle.std.proofs.lemmas.Bool.{and_parts}
+use Rattle.basics.proofs.Logic.{within_bounds}
 use Rattle.sheet.specs.declared.refusal.Refusal.TheVariants.{BadRecord, NotHeavy}
 use Rattle.sheet.specs.declared.task.Task.{Task}
 use Rattle.sheet.specs.Refusal.{refused_if}
@@ -16,16 +18,13 @@ use Rattle.sheet.specs.Level.{level_lawful, bytes_before_masks}
 use Rattle.sheet.specs.Rules.{shape_lawful, figures_lawful, masks_lawful, is_heavy, task_answer}
 use Rattle.sheet.proofs.Logic.{length_broken}
 use Rattle.reader.specs.Reading.{shape_answer, record_answer}
-use Rattle.basics.proofs.Logic.{left_true, right_true}
 
 -- A lawful shape has at most 32 nodes.
 pub nodes_few : (level nodes bytes : ℕ) → shape_lawful level nodes bytes ≡ true → nodes ≤ 32
 unfolding shape_lawful
 nodes_few level nodes bytes e =
-    leb-true nodes 32
-    (right_true (leb 1 nodes) (leb nodes 32)
-    (right_true (level_lawful level) (within 1 32 nodes)
-    (left_true (level_lawful level && within 1 32 nodes) (eqb bytes (bytes_before_masks level + 4 * nodes)) e)))
+    let lawful = (and_parts (level_lawful level && within 1 32 nodes) (eqb bytes (bytes_before_masks level + 4 * nodes)) e).0 in
+    (within_bounds 1 32 nodes (and_parts (level_lawful level) (within 1 32 nodes) lawful).1).1
 
 -- A record of fewer than two bytes has no lawful shape.
 pub short_shape : (level nodes bytes : ℕ) → bytes < 2 → false ≡ shape_lawful level nodes bytes
@@ -36,7 +35,7 @@ short_shape level nodes bytes short = sym (length_broken (level_lawful level && 
 pub shape_size : (level nodes bytes : ℕ) → shape_lawful level nodes bytes ≡ true → bytes ≡ bytes_before_masks level + 4 * nodes
 unfolding shape_lawful
 shape_size level nodes bytes e =
-    eqb-true bytes (bytes_before_masks level + 4 * nodes) (right_true (level_lawful level && within 1 32 nodes) _ e)
+    eqb-true bytes (bytes_before_masks level + 4 * nodes) (and_parts (level_lawful level && within 1 32 nodes) _ e).1
 
 -- A task at the place of task i that keeps every other rule is refused for 6 alone.
 pub record_answers : (s : List ℕ) (i : ℕ) (task : Task) → task_at s (offset_of s i) ≡ task →

@@ -11,7 +11,7 @@ use borrow.Author.Tests.{ltb-true, leb-true, eqb-true, eqb-false, eq-eqb, ne_eqb
 use Rattle.sheet.specs.declared.task.Figures.{Figures}
 use Rattle.sheet.specs.declared.task.Task.{Task}
 use Rattle.std.specs.Prelude.{Some, None}
-use Rattle.basics.proofs.Logic.{left_true, right_true}
+use Rattle.std.proofs.lemmas.Bool.{and_parts}
 use Rattle.sheet.specs.Level.{is_low}
 use Rattle.shares.specs.Low.{low_share, has_low_share, low_answer}
 use Rattle.shares.specs.Search.{least_critical}
@@ -22,11 +22,11 @@ use Rattle.shares.proofs.Offers.{tabulated}
 module _ (M : ℕ) (f : Figures) where
   pub has_below : has_low_share M f ≡ true → f.nominal.span < f.deadline
   unfolding has_low_share
-  has_below h = ltb-true _ _ (left_true (ltb f.nominal.span f.deadline) _ h)
+  has_below h = ltb-true _ _ (and_parts (ltb f.nominal.span f.deadline) _ h).0
 
   pub has_within : has_low_share M f ≡ true → low_share f ≤ M
   unfolding has_low_share
-  has_within h = leb-true _ _ (right_true (ltb f.nominal.span f.deadline) _ h)
+  has_within h = leb-true _ _ (and_parts (ltb f.nominal.span f.deadline) _ h).1
 
   -- A low task's number is 0 at its share.
   pub low_critical_own : has_low_share M f ≡ true → low_critical M f (low_share f) ≡ 0
@@ -70,14 +70,14 @@ module _ (M : ℕ) (f : Figures) where
       go : (h : Bool) → has_low_share M f ≡ h → cond h (Some (low_share f)) None ≡ Some s →
           (has_low_share M f ≡ true) × (low_share f ≡ s)
       go true has e = (has, cc)
-      go false has e = absurd (let z : ◌≡◌ {A = ℕ} 0 1 = cc in omega arith)
+      go false has e = absurd (cc)
 
   pub answer_no_share : low_answer M f ≡ None → has_low_share M f ≡ false
   unfolding low_answer
   answer_no_share = go (has_low_share M f) refl
     where
       go : (h : Bool) → has_low_share M f ≡ h → cond h (Some (low_share f)) None ≡ None → has_low_share M f ≡ false
-      go true has e = absurd (let z : ◌≡◌ {A = ℕ} 0 1 = cc in omega arith)
+      go true has e = absurd (cc)
       go false has e = has
 
   -- The offer of a low task with no share in a cell.

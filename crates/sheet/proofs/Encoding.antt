@@ -9,6 +9,7 @@ use lib.Dec.{ltb}
 use lib.ListN.{length, get_or, replicate}
 use borrow.Author.Tests.{ltb-true}
 use Rattle.std.specs.List.{list_all}
+use Rattle.std.proofs.lemmas.Bool.{and_parts}
 use Rattle.basics.specs.Lists.{cells_from}
 use Rattle.sheet.specs.declared.task.Task.{Task}
 use Rattle.basics.specs.Numbers.{byte_at, u16_at, u32_at, u16_bytes, u32_bytes}
@@ -18,7 +19,6 @@ use Rattle.sheet.specs.Encoding.{figure_bytes, masks_bytes, record_bytes}
 use Rattle.sheet.specs.Laws.{figure_room, Encodable, RoundTrip, RecordLength, RecordOfBytes}
 use Rattle.basics.proofs.Bytes.{byte_behind, u16_behind, u32_behind, u16_whole, u32_whole}
 use Rattle.basics.proofs.Cells.{cells_whole}
-use Rattle.basics.proofs.Logic.{left_true, right_true}
 
 -- The first mask, and those behind it.
 module _ (mask : ℕ) (s : List ℕ) where
@@ -38,9 +38,9 @@ unfolding masks_bytes u32_bytes
 mask_at masks zero j back few fit h = absurd (omega arith)
 mask_at [] (suc k) j back few fit h = absurd (omega arith)
 mask_at (mask ∷ masks) (suc k) zero back few fit h =
-    mask_first mask (masks_bytes k masks ++ back) (ltb-true mask (2 ^ 32) (left_true (ltb mask (2 ^ 32)) _ fit))
+    mask_first mask (masks_bytes k masks ++ back) (ltb-true mask (2 ^ 32) (and_parts (ltb mask (2 ^ 32)) _ fit).0)
 mask_at (mask ∷ masks) (suc k) (suc j) back few fit h =
-    mask_next mask (masks_bytes k masks ++ back) j ∙ mask_at masks k j back (omega arith) (right_true (ltb mask (2 ^ 32)) _ fit) (omega arith)
+    mask_next mask (masks_bytes k masks ++ back) j ∙ mask_at masks k j back (omega arith) (and_parts (ltb mask (2 ^ 32)) _ fit).1 (omega arith)
 
 -- A task's record with figures of the given width, up to its masks and with them.
 abbrev up_to_masks : Bool → Task → List ℕ

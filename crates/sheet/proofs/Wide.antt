@@ -1,11 +1,11 @@
 -- S2.14: what a level says that is not wide, and the wide form of a level.
 use Prim.Native.Nat.{ℕ, ◌+◌, ◌≤◌, ◌<◌}
 use mathlib.Core.Bool.{Bool, true, false, or-false}
-use mathlib.Core.Path.{◌≡◌, refl, sym, ◌∙◌}
+use mathlib.Core.Path.{◌≡◌, refl}
 use native.Mathlib.Omega.{arith}
 use lib.Dec.{leb, eqb}
-use borrow.Author.Tests.{leb-false, le-leb, lt-leb, eqb-true, eqb-false, eq-eqb, ne_eqb}
-use Rattle.basics.proofs.Logic.{test_same, leb_same}
+use borrow.Author.Tests.{leb-false, le-leb, lt-leb, ne_eqb}
+use Rattle.std.proofs.lemmas.Bool.Decides.{nat_tests}
 use Rattle.sheet.specs.Level.{level_lawful, is_high, is_wide, figure_limit, bytes_before_masks}
 use Rattle.sheet.specs.Format.{figure_at}
 use Rattle.sheet.specs.Encoding.{figure_bytes}
@@ -49,18 +49,11 @@ module _ (level more : ℕ) (sixteen : more ≡ level + 16) (below : level < 16)
 
   more_high : is_high more ≡ is_high level
   unfolding is_high
-  more_high =
-      rw (ne_eqb more 1 (λ e. omega arith), ne_eqb level 17 (λ e. omega arith))
-      (test_same (eqb more 17) (eqb level 1)
-      (λ e. let is = eqb-true more 17 e in eq-eqb level 1 (omega arith))
-      (λ e. let is_not = eqb-false more 17 e in ne_eqb level 1 (λ same. is_not (omega arith)))
-      ∙ sym (or-false (eqb level 1)))
+  more_high = grind (arith, nat_tests)
 
   more_lawful : level_lawful more ≡ level_lawful level
   unfolding level_lawful
-  more_lawful =
-      rw (lt-leb more 1 (omega arith), le-leb 16 more (omega arith), lt-leb 16 level below)
-      (leb_same more 17 level 1 (λ e. omega arith) (λ e. omega arith) ∙ sym (or-false (leb level 1)))
+  more_lawful = grind (arith, nat_tests)
 
 pub wide_levels : WideLevels
 unfolding WideLevels wide_level

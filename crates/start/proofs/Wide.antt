@@ -13,16 +13,15 @@ use Rattle.sheet.specs.declared.task.TaskSet.{TaskSet}
 use Rattle.sheet.specs.Format.{task_in, task_set_of}
 use Rattle.sheet.specs.Wide.{wide_task, wide_set}
 use Rattle.reader.specs.Reading.{read_answer}
-use Rattle.reader.proofs.Readings.{read_ok}
 use Rattle.reader.proofs.Worked.{dye_sheet, worked}
 use Rattle.allocation.specs.declared.allocate.Allocation.{Allocation}
 use Rattle.allocation.specs.Allocation.{allocation_at, allocation_answer, allocated_of, allocations_for}
 use Rattle.allocation.specs.Lawful.{LawfulSet}
-use Rattle.allocation.specs.Wide.{wide_form, WideRead, WideAllocated}
+use Rattle.allocation.specs.Wide.{wide_form, WideAllocated}
 use Rattle.allocation.proofs.Accepted.{sheet_lawful}
 use Rattle.allocation.proofs.Allocations.{answer_same}
-use Rattle.allocation.proofs.Sheets.{wide_task_lem, wide_read}
-use Rattle.allocation.proofs.Wide.{wide_allocated}
+use Rattle.allocation.proofs.Sheets.{wide_task_lem}
+use Rattle.allocation.proofs.Wide.{wide_allocated, wide_told}
 use Rattle.entries.specs.declared.state.TaskState.{TaskState}
 use Rattle.dispatcher.specs.declared.state.State.{State}
 use Rattle.start.specs.Fresh.{fresh_entry, zero_entry}
@@ -70,10 +69,6 @@ module _ (s : List ℕ) (accepted : read_answer s ≡ Ok tt) where
   unfolding WideAllocated
   same = answer_same (wide_form s) s (wide_allocated s accepted)
 
-  told : wide_set (task_set_of s) ≡ task_set_of (wide_form s)
-  unfolding WideRead
-  told = (read_ok (wide_form s) (wide_read s accepted)).1
-
   fixed : allocation_answer s ≡ Ok tt → allocations_for (wide_form s) ≡ allocations_for s
   unfolding WideAllocated
   fixed e = allocations_same (wide_form s) s (wide_allocated s accepted) (same ∙ e) e
@@ -81,7 +76,7 @@ module _ (s : List ℕ) (accepted : read_answer s ≡ Ok tt) where
   by_answer : (a : Answer) → allocation_answer s ≡ a → start_of (wide_form s) ≡ record { state = wide_state (start_of s).state; answer = (start_of s).answer }
   unfolding start_of prepared_of
   by_answer (Err r) e = rw (same, e) (ap (λ (st : State). record { state = st; answer = Err r }) zero_wide)
-  by_answer (Ok u) e = rw (same, e, fixed e, ← told, fresh_wide (task_set_of s) (sheet_lawful s accepted) (allocations_for s))
+  by_answer (Ok u) e = rw (same, e, fixed e, ← (wide_told s accepted), fresh_wide (task_set_of s) (sheet_lawful s accepted) (allocations_for s))
 
 pub wide_started : WideStarted
 unfolding WideStarted

@@ -8,11 +8,11 @@ use native.Mathlib.Numerals.{add-one}
 use borrow.Author.Rules.{rules}
 use borrow.Author.Tests.{tests}
 use lib.ListN.{get_or}
-use Rattle.std.specs.Prelude.{Option, Some, None, MatchOption, Ok, Err}
-use Rattle.std.specs.Option.{option_map}
+use Rattle.std.specs.Prelude.{MatchOption, Ok, Err}
 use Rattle.std.specs.List.{find, range_with_len}
 use Rattle.std.proofs.lemmas.Iterator.{YieldsList-from_range}
 use Rattle.std.proofs.lemmas.Iterator.Search.{find_from_yields_List}
+use Rattle.std.proofs.lemmas.Iterator.Adapters.{option_map_id}
 use Rattle.sheet.specs.declared.refusal.Refusal.TheVariants.{NoShare}
 use Rattle.sheet.specs.Refusal.{first_over}
 use Rattle.allocation.specs.means.Selection.{offers_none, offer_answer, missing_offer}
@@ -37,14 +37,10 @@ module _ (M : ℕ) (cells : List (List ℕ)) where
       go true e rest = rw e refl
       go false e rest = rw (e, add-one k) rest
 
-same : (r : Option ℕ) → option_map (λ x. x) r ≡ r
-same None = refl
-same (Some x) = refl
-
 pub returns : goal.returns
 returns c =
     let M = c.args.offers.now.processors in
     let cells = c.args.offers.now.cells in
     let found = find_from_yields_List (none_of M cells) _ _ c.find.result c.find.ensures.ran
     (YieldsList-from_range 0 c.args.offers.now.count c.args.offers.now.count (cc) (omega arith)) (λ x b q k. search (rules, tests)) in
-    rw (sym (same c.find.result) ∙ found) (first_found M cells 0 c.args.offers.now.count)
+    rw (sym (option_map_id c.find.result) ∙ found) (first_found M cells 0 c.args.offers.now.count)

@@ -1,6 +1,7 @@
 -- `allocation::selection::select`: the goals that the check leaves.
 use Rattle.basics.specs.Lists.{cells_from}
-use Rattle.allocation.proofs.Lines.{offer_small, best_total_within}
+use Rattle.allocation.proofs.Optimal.{best_total_within}
+use Rattle.allocation.proofs.Lines.{offer_small}
 use Rattle.allocation.proofs.Walk.{selection_none, selection_some, first_is, total_is, Step, rest_small, walk_some, walk_step, walk_done}
 use Prim.Native.Nat.{◌≤◌, ◌<◌}
 use mathlib.Core.Path.{◌≡◌, refl, sym, ap, ◌∙◌}

@@ -6,14 +6,14 @@ use lib.ListN.{drop}
 use borrow.Author.Rules.{rules}
 use Rattle.std.proofs.lemmas.Iterator.{YieldsList-from_range}
 use Rattle.std.proofs.lemmas.Iterator.Search.{all_from_yields_List}
+use Rattle.std.proofs.lemmas.List.{take_rest}
 use Rattle.basics.proofs.Below.{list_all-range}
 use Rattle.exports.specs.Words.{entry_start, entry_fits}
-use Rattle.exports.proofs.Decoded.{rest_whole}
 use Rattle.exports.proofs.decoding.entries_fit.Goals as goal
 
 pub returns : goal.returns
 returns c =
     let test = λ (i : ℕ). entry_fits (drop (entry_start i) c.args.line.now) in
     all_from_yields_List test _ _ c.all.result c.all.ensures.ran (YieldsList-from_range 0 16 16 refl (omega arith))
-    (λ x b q k. let e = ap entry_fits (rest_whole c.args.line.now (entry_start x)) in search (rules, e))
+    (λ x b q k. let e = ap entry_fits (take_rest c.args.line.now (entry_start x)) in search (rules, e))
     ∙ list_all-range test 16

@@ -4,7 +4,8 @@ use native.Mathlib.Omega.{arith}
 use Rattle.exports.proofs.Lines.{StateLine, state_line}
 use Rattle.exports.specs.Words.{entry_start, entry_from, entry_fits}
 use lib.ListN.{length-drop}
-use Rattle.exports.proofs.Decoded.{rest_whole, state_below, state_none, state_store, state_whole}
+use Rattle.std.proofs.lemmas.List.{take_rest}
+use Rattle.exports.proofs.Decoded.{state_below, state_none, state_store, state_whole}
 use Rattle.exports.proofs.decoding.state_from.Goals.{Start}
 use Rattle.exports.proofs.decoding.state_from.Goals as goal
 
@@ -38,18 +39,18 @@ slice_bounds-entry_from-start c = omega (arith, (facts (goal.at.slice_bounds-ent
 
 pub entry_from-requires-clause-room : goal.entry_from-requires-clause-room
 entry_from-requires-clause-room c =
-    rw (rest_whole c.args.line.now (entry_start c.loop-i.i))
+    rw (take_rest c.args.line.now (entry_start c.loop-i.i))
     (omega (arith, (facts (goal.at.entry_from-requires-clause-room c).Start).long, length-drop (entry_start c.loop-i.i) c.args.line.now))
 
 pub entry_from-requires-clause-fits : goal.entry_from-requires-clause-fits
 entry_from-requires-clause-fits c =
-    ap entry_fits (rest_whole c.args.line.now (entry_start c.loop-i.i))
+    ap entry_fits (take_rest c.args.line.now (entry_start c.loop-i.i))
     ∙ (facts (goal.at.entry_from-requires-clause-fits c).Start).entries c.loop-i.i (omega arith)
 
 pub loop-i-preserved : goal.loop-i-preserved
 loop-i-preserved c =
     state_store c.args.line.now c.loop-i.i c.loop-i.state _ (omega arith) c.loop-i.invariant
-    (c.entry_from.ensures ∙ ap entry_from (rest_whole c.args.line.now (entry_start c.loop-i.i)))
+    (c.entry_from.ensures ∙ ap entry_from (take_rest c.args.line.now (entry_start c.loop-i.i)))
 
 pub returns : goal.returns
 returns c =

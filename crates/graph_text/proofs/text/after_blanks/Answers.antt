@@ -1,7 +1,8 @@
 -- `graph_text::text::after_blanks`: a blank passed leaves the numerals, and the loop stops at another byte or at the end.
 use Rattle.std.proofs.Common.{sym, ◌∙◌}
+use Rattle.std.proofs.lemmas.List.{nil_from_length}
 use Rattle.graph_text.specs.means.Scan.{BeginsFull}
-use Rattle.graph_text.proofs.Numerals.{blank_passed, no_bytes}
+use Rattle.graph_text.proofs.Numerals.{blank_passed}
 use Rattle.graph_text.proofs.text.after_blanks.Goals as goal
 
 pub loop-b-preserved : goal.loop-b-preserved
@@ -15,4 +16,4 @@ returns-then-not-is_blank-clause-stops c = rw c.in-Some.ensures.cases.0 (sym c.i
 
 pub returns-in_default-clause-stops : goal.returns-in_default-clause-stops
 unfolding BeginsFull
-returns-in_default-clause-stops c = rw (no_bytes c.loop-b.rest.now c.in_default.ensures.cases) tt
+returns-in_default-clause-stops c = rw (nil_from_length c.loop-b.rest.now c.in_default.ensures.cases) tt

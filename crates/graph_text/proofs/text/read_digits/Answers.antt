@@ -1,9 +1,10 @@
 -- `graph_text::text::read_digits`: a digit goes into the value, or makes it too great; else the numeral ends.
 use Rattle.std.proofs.Common.{◌≡◌, ◌*◌, ◌+◌, ◌-◌, sym, ap, ◌∙◌, arith}
 use Rattle.std.proofs.lemmas.Result.{err_from_is_err_and}
+use Rattle.std.proofs.lemmas.List.{nil_from_length}
 use Rattle.graph_text.specs.Text.{before_mark}
 use Rattle.graph_text.specs.means.Scan.{numerals_after}
-use Rattle.graph_text.proofs.Numerals.{digit_is, no_bytes, digit_more, digits_end, digits_to_end, too_great, more_taken, more_refused}
+use Rattle.graph_text.proofs.Numerals.{digit_is, digit_more, digits_end, digits_to_end, too_great, more_taken, more_refused}
 use Rattle.graph_text.proofs.text.read_digits.Goals.{Else-not-is_ascii_digit, in-Some+then-not-is_ascii_digit, in_default}
 use Rattle.graph_text.proofs.text.read_digits.Goals as goal
 
@@ -40,5 +41,5 @@ returns c =
           (digits_end _ _ _ c.loop-b.invariant.small (sym (digit_is _) ∙ sym w.is_ascii_digit.ensures.value ∙ w.if-not-is_ascii_digit.true))
       | in_default w ↦
           sym c.loop-b.invariant.same
-          ∙ rw (no_bytes c.loop-b.rest.now w.in_default.ensures.cases) (digits_to_end c.loop-b.value c.loop-b.invariant.small)
+          ∙ rw (nil_from_length c.loop-b.rest.now w.in_default.ensures.cases) (digits_to_end c.loop-b.value c.loop-b.invariant.small)
     ]

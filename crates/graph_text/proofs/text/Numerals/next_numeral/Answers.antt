@@ -3,9 +3,10 @@
 use Rattle.std.proofs.Common.{◌≡◌, ◌-◌, ◌∷◌, sym, ap, ◌∙◌}
 use Rattle.std.proofs.lemmas.Result.{err_from_is_err_and}
 use borrow.Author.Tests.{ne_eqb}
+use Rattle.std.proofs.lemmas.List.{nil_from_length}
 use Rattle.graph_text.specs.Text.{before_mark, end_mark, numerals_of}
 use Rattle.graph_text.specs.means.Scan.{numerals_after}
-use Rattle.graph_text.proofs.Numerals.{digit_is, no_bytes, no_blank, none_at_end, none_at_mark, fault_at, digits_begin}
+use Rattle.graph_text.proofs.Numerals.{digit_is, no_blank, none_at_end, none_at_mark, fault_at, digits_begin}
 use Rattle.graph_text.proofs.text.Numerals.next_numeral.Goals.{After-split_first, In-Some, Else-not-is_ascii_digit}
 use Rattle.graph_text.proofs.text.Numerals.next_numeral.Goals as goal
 
@@ -18,7 +19,7 @@ front-at c = left_at (goal.at.In-Some c).After-split_first ∙ ap numerals_of c.
 
 pub returns-in_default-clause-told : goal.returns-in_default-clause-told
 returns-in_default-clause-told c =
-    left_at (goal.at.returns-in_default-clause-told c).After-split_first ∙ ap numerals_of (no_bytes _ c.in_default.ensures.cases) ∙ none_at_end
+    left_at (goal.at.returns-in_default-clause-told c).After-split_first ∙ ap numerals_of (nil_from_length _ c.in_default.ensures.cases) ∙ none_at_end
 
 pub returns-then-b-eq35-clause-told : goal.returns-then-b-eq35-clause-told
 returns-then-b-eq35-clause-told c = front-at (goal.at.returns-then-b-eq35-clause-told c).In-Some ∙ none_at_mark _ _ c.if-b-eq35.true
