@@ -40,10 +40,7 @@ written_none task set buffer place left all room =
 
 module _ (whole : List ℕ) (bytes task : ℕ) (buffer : List ℕ) (place : ℕ) (left : List ℕ) (w : Written whole bytes task buffer place left) where
   module _ (v : ℕ) (more : List ℕ) (first : left ≡ v ∷ more) where
-    -- There is room for another pair, whose node is one of a word.
-    pub pair_room : place + 2 ≤ length buffer
-    pair_room = omega (arith, w.room, w.size, ap length first)
-
+    -- The next node is one of a word.
     pub pair_node : v < 32
     pair_node = w.nodes v (rw first (Memᴰ.head refl))
 

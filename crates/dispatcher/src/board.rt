@@ -22,13 +22,10 @@ fn put_nodes(buffer: &mut [u8], at: usize, task: u8, nodes: NodeSet)
     requires { at + 2 * length (members 32 nodes) ≤ length buffer.old }
     ensures { buffer.new ≡ sets buffer.old at (pairs_of task (members 32 nodes)) }
 {
-    // The place goes on by a pair: `at + 2 * i` behind an `enumerate` would read no plainer.
-    let mut place = at;
-    for v in nodes.iter() {
-        buffer[place] = task;
+    for (i, v) in nodes.iter().enumerate() {
+        buffer[at + 2 * i] = task;
         // A member is below 32, and `u32` has no `From` to `u8`.
-        buffer[place + 1] = v as u8;
-        place += 2;
+        buffer[at + 2 * i + 1] = v as u8;
     }
 }
 

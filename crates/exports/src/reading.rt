@@ -10,7 +10,6 @@ use sheet::refusal::answer_word;
 use sheet::task::{TaskSet, zero_task};
 
 /// S3.5: what stands for the task set of a sheet that is refused.
-/// Written out, as `zero_task` is, of which it is made.
 #[tactic(auto, unfolding(sheet::specs::Format::zero_task_set))]
 fn zero_task_set() -> TaskSet
     ensures { result ≡ zero_task_set }

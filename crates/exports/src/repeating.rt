@@ -1,5 +1,6 @@
 //! Calls of the dispatcher made a number of times, with the line read once, for the benchmarks. Three loops of two
-//! lines: one over a closure that keeps the state, or not, would read no plainer.
+//! lines: one function over a closure was tried. It could only promise the steps of the closure (`FoldsTo`), of which
+//! each call would prove its word anew, and of the buffer that the closure of the boards borrows nothing is known after.
 ghost use Rattle.std.specs.Prelude.{◌≡◌};
 ghost use Rattle.exports.specs.Repeats.{ticks_call, releases_call, boards_call};
 
@@ -17,7 +18,7 @@ pub extern "C" fn dibwunek_tick_many(state: &[u32], reports: &[u32], count: u32)
     }
     let mut s = state_from(state);
     let mut word = answer_word(Ok(()));
-    for i in 0..count {
+    for _ in 0..count {
         let ticked = dispatcher::tick::tick(s, reports);
         word = tick_word(ticked.answer);
         s = ticked.state;
@@ -35,7 +36,7 @@ pub extern "C" fn dibwunek_release_many(state: &[u32], task: usize, count: u32) 
     }
     let before = state_from(state);
     let mut word = answer_word(Ok(()));
-    for i in 0..count {
+    for _ in 0..count {
         let released = dispatcher::release::release(before, task);
         word = answer_word(released.answer);
     }
@@ -53,7 +54,7 @@ pub extern "C" fn dibwunek_board_many(state: &[u32], buffer: &mut [u8], count: u
     }
     let shown = state_from(state);
     let mut word = answer_word(Ok(()));
-    for i in 0..count {
+    for _ in 0..count {
         let boarded = dispatcher::board::board(shown, buffer);
         word = answer_word(boarded.answer);
     }

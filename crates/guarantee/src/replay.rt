@@ -38,7 +38,8 @@ fn put_turns(out: &mut [u8], from: usize, state: State, calls: &[u8])
 {
     let size = record_size(state.count);
     let mut current = state;
-    // By a sum, since of `from + i * size` it would be left to show that the product does not wrap.
+    // By a sum: `from + i * size` behind an `enumerate` was tried. It proves, once it is shown that the calls can be
+    // counted, with twenty lines of proof more, and takes eight instructions more for each of 32 calls.
     let mut place = from;
     for call in LoggedCalls::new(calls) {
         let after = turn_of(&current, call);

@@ -9,3 +9,4 @@ pub mod Wide
 pub mod Limits
 pub mod Worked
 pub mod Said
+pub mod Zeros

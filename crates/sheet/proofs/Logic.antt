@@ -9,9 +9,7 @@ use native.Mathlib.Nat.{div-lt_iff_lt-mul, div-eq_of_lt, le_of_eq}
 use lib.Dec.{ltb, eqb}
 use lib.ListN.{get_or}
 use lib.Pow.{pow_pos}
-use borrow.Author.Tests.{lt-ltb, le-ltb, ne_eqb, leb-true}
-use Rattle.std.proofs.lemmas.Bool.{and_parts}
-use Rattle.std.proofs.lemmas.Bool.Decides.{nat_tests}
+use borrow.Author.Tests.{lt-ltb, le-ltb, ne_eqb}
 use Rattle.sheet.specs.Level.{is_wide, bytes_before_masks}
 use Rattle.sheet.specs.Rules.{mask_lawful}
 

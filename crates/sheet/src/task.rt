@@ -21,7 +21,7 @@ pub struct Figures {
 /// and the number of its nodes, k. The bytes stand last, so that there is no gap between the fields.
 /// 32 masks and k, since there is no heap. The definitions read a task of any k, so that k ≤ 32 is no ghost field: it
 /// is a clause of what reads the masks.
-#[derive(Clone, Copy, Debug, PartialEq, Eq)]
+#[derive(Clone, Copy, Debug, Default, PartialEq, Eq)]
 pub struct Task {
     pub figures: Figures,
     pub predecessors: [u32; 32],
@@ -38,16 +38,10 @@ pub struct TaskSet {
     pub tasks: [Task; 16],
 }
 
-/// S3.5: a task of zeros, which stands in the place of one that is not there. Written out, since what a derived
-/// `Default` says of an array of 32 closes no proof.
-#[tactic(auto, unfolding(crate::specs::Format::zero_task))]
+/// S3.5: a task of zeros, which stands in the place of one that is not there.
+#[tactic(auto, using(crate::proofs::Zeros::default_is_zero_task))]
 pub fn zero_task() -> Task
     ensures { result ≡ zero_task }
 {
-    Task {
-        figures: Figures::default(),
-        predecessors: [0; 32],
-        level: 0,
-        nodes: 0,
-    }
+    Task::default()
 }

@@ -14,7 +14,7 @@ const NO_JOB: Job = Job {
 };
 
 /// S7.3: an entry that stands for no task.
-/// Written out, for its array of 32, as `sheet::task::zero_task` is.
+/// Written out: with `TaskState::default()` it proves too, but a tick on words takes 2,325 instructions more.
 #[tactic(auto, unfolding(crate::specs::Fresh::zero_entry))]
 pub fn zero_entry() -> TaskState
     ensures { result ≡ zero_entry }

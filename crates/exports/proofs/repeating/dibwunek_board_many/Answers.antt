@@ -23,25 +23,25 @@ returns-then-not-is_state c =
 is : (c : Else-not-is_state) → is_state c.args.state.now ≡ true
 is c = sym c.is_state.ensures ∙ c.if-not-is_state.false
 
-pub loop-i-init : goal.loop-i-init
+pub loop-init : goal.loop-init
 unfolding last_word boards_of answer_word
-loop-i-init c = (omega arith, refl, c.answer_word-word.ensures, refl)
+loop-init c = (omega arith, refl, c.answer_word-word.ensures, refl)
 
-pub loop-i-preserved : goal.loop-i-preserved
-loop-i-preserved c =
+pub loop-preserved : goal.loop-preserved
+loop-preserved c =
     let boarded =
     c.board-boarded.ensures.answered
-    ∙ ap (λ (s : State). boarded_of s (length c.loop-i.buffer)) c.state_from-shown.ensures
-    ∙ ap (boarded_of (state_from c.args.state.now)) c.loop-i.invariant.1 in (
+    ∙ ap (λ (s : State). boarded_of s (length c.loop.buffer)) c.state_from-shown.ensures
+    ∙ ap (boarded_of (state_from c.args.state.now)) c.loop.invariant.1 in (
       omega arith,
-      c.board-boarded.auto.buffer ∙ c.loop-i.invariant.1,
-      last_next c.loop-i.i _ _ (c.answer_word-word-in-loop-i.ensures ∙ ap (λ (r : Boarded). answer_word r.answer) boarded),
-      boards_next c.loop-i.i (state_from c.args.state.now) c.args.buffer.now c.loop-i.buffer _ c.loop-i.invariant.3
-          (c.board-boarded.ensures.written ∙ ap (λ (s : State). board_of s c.loop-i.buffer) c.state_from-shown.ensures),
+      c.board-boarded.auto.buffer ∙ c.loop.invariant.1,
+      last_next c.loop.counter _ _ (c.answer_word-word-in-loop.ensures ∙ ap (λ (r : Boarded). answer_word r.answer) boarded),
+      boards_next c.loop.counter (state_from c.args.state.now) c.args.buffer.now c.loop.buffer _ c.loop.invariant.3
+          (c.board-boarded.ensures.written ∙ ap (λ (s : State). board_of s c.loop.buffer) c.state_from-shown.ensures),
     )
 
 pub returns : goal.returns
 returns c =
     let s = state_from c.args.state.now in
-    let all : c.loop-i.i ≡ c.args.count = omega arith in
-    let called = boards_of_state c.args.count c.args.state.now c.args.buffer.now (is (goal.at.returns c).Else-not-is_state) in record { answered = c.loop-i.invariant.2 ∙ ap (λ (n : ℕ). last_word n (answer_word (boarded_of s (length c.args.buffer.now)).answer)) all ∙ called.0; written = c.loop-i.invariant.3 ∙ ap (λ (n : ℕ). boards_of n s c.args.buffer.now) all ∙ called.1 }
+    let all : c.loop.counter ≡ c.args.count = omega arith in
+    let called = boards_of_state c.args.count c.args.state.now c.args.buffer.now (is (goal.at.returns c).Else-not-is_state) in record { answered = c.loop.invariant.2 ∙ ap (λ (n : ℕ). last_word n (answer_word (boarded_of s (length c.args.buffer.now)).answer)) all ∙ called.0; written = c.loop.invariant.3 ∙ ap (λ (n : ℕ). boards_of n s c.args.buffer.now) all ∙ called.1 }

@@ -1,5 +1,5 @@
 -- `exports::repeating::dibwunek_release_many` meets its contract. The loop's invariant: the word is that of the last
--- release made. The measure is the releases left. Assumes nothing.
+-- release made.
 use Prim.Native.Nat.{◌≤◌}
 use mathlib.Core.Path.{◌≡◌}
 use Rattle.dispatcher.specs.Calls.{release_of}
@@ -8,5 +8,5 @@ use Rattle.exports.specs.Words.{state_from}
 use Rattle.exports.specs.Repeats.{last_word}
 use Rattle.exports.proofs.repeating.dibwunek_release_many.Given as goal
 
-abbrev pub invariant-loop-i : goal.invariant-loop-i
-invariant-loop-i l = (l.i ≤ l.count) × (l.word ≡ last_word l.i (answer_word (release_of (state_from l.state) l.task).answer))
+abbrev pub invariant-loop : goal.invariant-loop
+invariant-loop l = (l.counter ≤ l.count) × (l.word ≡ last_word l.counter (answer_word (release_of (state_from l.state) l.task).answer))

@@ -20,21 +20,21 @@ returns-then-not-is_state c =
 is : (c : Else-not-is_state) → is_state c.args.state.now ≡ true
 is c = sym c.is_state.ensures ∙ c.if-not-is_state.false
 
-pub loop-i-init : goal.loop-i-init
+pub loop-init : goal.loop-init
 unfolding answer_word
-loop-i-init c =
+loop-init c =
     let all : c.args.count - 0 ≡ c.args.count = omega arith in
     (omega arith, rw c.answer_word-word.ensures (ap₂ (λ (n : ℕ) (s : State). ticks_word n accepted_word s c.args.reports.now) all c.state_from-s.ensures))
 
-pub loop-i-preserved : goal.loop-i-preserved
-loop-i-preserved c = (
+pub loop-preserved : goal.loop-preserved
+loop-preserved c = (
   omega arith,
-  ticks_next c.args.count c.loop-i.i c.loop-i.word c.loop-i.s c.args.reports.now (omega arith) _ _ c.tick_word-word.ensures c.tick-ticked.ensures.whole
-      ∙ c.loop-i.invariant.1,
+  ticks_next c.args.count c.loop.counter c.loop.word c.loop.s c.args.reports.now (omega arith) _ _ c.tick_word-word.ensures c.tick-ticked.ensures.whole
+      ∙ c.loop.invariant.1,
 )
 
 pub returns : goal.returns
 returns c =
-    ticks_none c.args.count c.loop-i.i c.loop-i.word c.loop-i.s c.args.reports.now (omega arith)
-    ∙ c.loop-i.invariant.1
+    ticks_none c.args.count c.loop.counter c.loop.word c.loop.s c.args.reports.now (omega arith)
+    ∙ c.loop.invariant.1
     ∙ ticks_of_state c.args.count c.args.state.now c.args.reports.now (is (goal.at.returns c).Else-not-is_state)

@@ -1,5 +1,5 @@
 -- `exports::repeating::dibwunek_tick_many` meets its contract. The loop's invariant: the ticks that are left, after
--- those that were made, give the word of all. The measure is the ticks left. Assumes nothing.
+-- those that were made, give the word of all.
 use Prim.Native.Nat.{◌-◌, ◌≤◌}
 use mathlib.Core.Path.{◌≡◌}
 use Rattle.exports.specs.Words.{state_from}
@@ -7,6 +7,6 @@ use Rattle.exports.specs.Ticks.{accepted_word}
 use Rattle.exports.specs.Repeats.{ticks_word}
 use Rattle.exports.proofs.repeating.dibwunek_tick_many.Given as goal
 
-abbrev pub invariant-loop-i : goal.invariant-loop-i
-invariant-loop-i l =
-    (l.i ≤ l.count) × (ticks_word (l.count - l.i) l.word l.s l.reports ≡ ticks_word l.count accepted_word (state_from l.state) l.reports)
+abbrev pub invariant-loop : goal.invariant-loop
+invariant-loop l =
+    (l.counter ≤ l.count) × (ticks_word (l.count - l.counter) l.word l.s l.reports ≡ ticks_word l.count accepted_word (state_from l.state) l.reports)
