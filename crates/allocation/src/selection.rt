@@ -5,7 +5,7 @@
 //! gives is a number of its own, which four proofs here would have to rewrite, and it reads no plainer.
 ghost use Rattle.std.specs.Prelude.{◌≡◌, [], ◌+◌, ◌≤◌, ◌<◌, length, get_or, replicate};
 ghost use Rattle.shares.specs.Offer.{tabulate};
-ghost use Rattle.allocation.specs.means.Selection.{cell_at, least_from, best_share, total_with, totals_of, offers_up_to, last_totals, selection_of, total_at, padded, lowered, Small, missing_offer};
+ghost use Rattle.allocation.specs.means.Selection.{cell_at, least_from, best_share, total_with, totals_of, offers_up_to, last_totals, selection_of, total_at, padded, lowered, Small, OfferWithin};
 
 use crate::offers::Offers;
 use shares::share::Share;
@@ -45,16 +45,13 @@ fn lower(totals: &mut Totals, a: u8, critical: u8, rest: &[u8; 128])
     }
 }
 
-/// The totals of task i, of its offer by value, and of the tasks after it, which have the totals rest.
-/// Task i by its number: an offer handed in alone was tried, and takes a clause on its cells in place of that on i.
-fn totals_with(offers: &Offers, i: usize, rest: &Totals) -> Totals
-    requires known { i < offers.now.count }
+/// The totals of a task with this offer, and of the tasks after it, which have the totals rest.
+fn totals_with(offers: &Offers, offer: [u8; 64], rest: &Totals) -> Totals
+    requires within { OfferWithin offers.now.processors offer }
     requires small { Small rest.now }
-    ensures { result ≡ tabulate (total_with offers.now.processors
-        (cell_at (get_or offers.now.cells i missing_offer)) (total_at rest.now)) 0 65 }
+    ensures { result ≡ tabulate (total_with offers.now.processors (cell_at offer) (total_at rest.now)) 0 65 }
 {
     let m = offers.processors;
-    let offer = offers.cells[i];
     let after = padded(offers, rest);
     let mut least = [m + 1; 65];
     for a in 1..=m {
@@ -82,7 +79,7 @@ fn last_totals(offers: &Offers, all: &mut [Totals; 17])
 {
     let count = offers.count as usize;
     for k in 0..count {
-        all[k + 1] = totals_with(offers, count - 1 - k, &all[k]);
+        all[k + 1] = totals_with(offers, offers.cells[count - 1 - k], &all[k]);
     }
 }
 

@@ -37,7 +37,6 @@ module _ (M n : ℕ) (shares : List Share) where
     a_task : task < i → critical_share_at shares task ≡ 0 → below ≡ with task → below ≤ M →
         ((j : ℕ) → j < i → critical_share_at shares j ≡ 0 → NotAfter (typical_share_at shares) task j) → Seen i task below
 
-
   at_least : (i task below : ℕ) → Seen i task below → (j : ℕ) → j < i → critical_share_at shares j ≡ 0 → below ≤ with j
   at_least i task below (nothing_seen none_yet whole more) j before low = let past = more j before low in omega arith
   at_least i task below (a_task inside zero-share same fits first) j before low = go (first j before low)

@@ -21,7 +21,7 @@ totals_with-requires c =
     let offers = offers_up_to c.args.offers.now.count c.args.offers.now.cells in
     let long = offers_length c.args.offers.now.count c.args.offers.now.cells (omega arith) in
     record {
-      known = omega arith;
+      within = c.args.offers.now.within (c.args.offers.now.count - 1 - c.loop-k.k) (omega arith);
       small =
           rw (c.loop-k.invariant.1, lines_at c.args.offers.now.processors c.args.offers.now.count offers long c.loop-k.k c.loop-k.k (omega arith) (omega arith))
           (totals_small c.args.offers.now.processors _ (omega arith));
