@@ -1,8 +1,6 @@
 //! S5.3 and S5.7: the selection. Totals over the tasks, from the last task on, and then a walk forward over the best
 //! shares. Shares, totals and their sums are bytes: two numbers of at most m + 1 come to at most 130. In a row of
-//! totals m + 1 stands for none and for any total above m (S5.7), so that a minimum needs no test. Where a byte makes
-//! an index or a count, `usize::from` stands if the proof closes with it alone; else `as usize`: what `usize::from`
-//! gives is a number of its own, which four proofs here would have to rewrite, and it reads no plainer.
+//! totals m + 1 stands for none and for any total above m (S5.7), so that a minimum needs no test.
 ghost use Rattle.std.specs.Prelude.{◌≡◌, [], ◌+◌, ◌≤◌, ◌<◌, length, get_or, replicate};
 ghost use Rattle.shares.specs.Offer.{tabulate};
 ghost use Rattle.allocation.specs.means.Selection.{cell_at, least_from, best_share, total_with, totals_of, offers_up_to, last_totals, selection_of, total_at, padded, lowered, Small, OfferWithin};
@@ -55,7 +53,7 @@ fn totals_with(offers: &Offers, offer: [u8; 64], rest: &Totals) -> Totals
     let after = padded(offers, rest);
     let mut least = [m + 1; 65];
     for a in 1..=m {
-        lower(&mut least, a, offer[a as usize - 1], &after);
+        lower(&mut least, a, offer[usize::from(a) - 1], &after);
     }
     least
 }
@@ -77,7 +75,7 @@ fn last_totals(offers: &Offers, all: &mut [Totals; 17])
     ensures { all.new ≡ last_totals offers.now.processors
         (offers_up_to offers.now.count offers.now.cells) offers.now.count }
 {
-    let count = offers.count as usize;
+    let count = usize::from(offers.count);
     for k in 0..count {
         all[k + 1] = totals_with(offers, offers.cells[count - 1 - k], &all[k]);
     }
@@ -93,9 +91,9 @@ fn best_share(offer: &[u8; 64], rest: &Totals, t: u8) -> u8
     ensures { result ≡ best_share (cell_at offer.now) (total_at rest.now) t }
 {
     let mut best: u8 = 1;
-    let mut least = offer[0] + rest[t as usize - 1];
+    let mut least = offer[0] + rest[usize::from(t) - 1];
     for a in 2..=t {
-        let next = offer[a as usize - 1] + rest[(t - a) as usize];
+        let next = offer[usize::from(a) - 1] + rest[usize::from(t - a)];
         if next < least {
             best = a;
             least = next;
@@ -112,7 +110,7 @@ fn first_least(offers: &Offers, totals: &Totals) -> u8
 {
     let mut best: u8 = 0;
     for t in 1..=offers.processors {
-        if totals[t as usize] < totals[best as usize] {
+        if totals[usize::from(t)] < totals[usize::from(best)] {
             best = t;
         }
     }
@@ -123,11 +121,11 @@ fn first_least(offers: &Offers, totals: &Totals) -> u8
 pub fn select(offers: &Offers) -> Result<[Share; 16], Refusal>
     ensures { result ≡ selection_of offers.now.processors (offers_up_to offers.now.count offers.now.cells) }
 {
-    let count = offers.count as usize;
+    let count = usize::from(offers.count);
     let mut all = [no_totals(offers); 17];
     last_totals(offers, &mut all);
     let mut left = first_least(offers, &all[count]);
-    if offers.processors < all[count][left as usize] {
+    if offers.processors < all[count][usize::from(left)] {
         return Err(Refusal::NoFit);
     }
     let mut shares = [Share::default(); 16];
@@ -135,7 +133,7 @@ pub fn select(offers: &Offers) -> Result<[Share; 16], Refusal>
         let a = best_share(&offers.cells[i], &all[count - 1 - i], left);
         shares[i] = Share {
             typical: a,
-            critical: offers.cells[i][a as usize - 1],
+            critical: offers.cells[i][usize::from(a) - 1],
         };
         left -= a;
     }

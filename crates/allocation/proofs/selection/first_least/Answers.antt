@@ -5,7 +5,7 @@ use mathlib.Core.Logic.{◌⊎◌, inl, inr}
 use native.Mathlib.Omega.{arith}
 use Rattle.allocation.specs.means.Selection.{least_from, total_at}
 use Rattle.allocation.proofs.Firsts.{least_start, least_taken, least_kept}
-use Rattle.allocation.proofs.selection.first_least.Goals.{then-totals-t, else-totals-t}
+use Rattle.allocation.proofs.selection.first_least.Goals.{Joined-totals-from, then-totals-from, else-totals-from}
 use Rattle.allocation.proofs.selection.first_least.Goals as goal
 
 -- One total more.
@@ -25,17 +25,23 @@ next f t best best' one below so_far (inr (more, same)) =
 pub loop-t-init : goal.loop-t-init
 loop-t-init c = (omega arith, omega arith, omega arith, least_start (total_at c.args.totals.now) 0)
 
-pub loop-t-preserved : goal.loop-t-preserved
+-- The best so far, once t is tested.
+best : (c : Joined-totals-from) →
+    (c.if-totals-from.best < c.loop-t.t + 1) × (c.if-totals-from.best ≡ least_from (total_at c.args.totals.now) 0 c.loop-t.t)
 unfolding total_at
-loop-t-preserved c =
-    let both = next (total_at c.args.totals.now) c.loop-t.t c.loop-t.best c.if-totals-t.best (omega arith) (omega arith) c.loop-t.invariant.3
-    (elim c.if-totals-t.branch [ then-totals-t w ↦ inl (omega arith, w.best-is) | else-totals-t w ↦ inr (omega arith, w.best-is) ]) in
-    (omega arith, omega arith, both.0, both.1 ∙ ap (least_from (total_at c.args.totals.now) 0) (omega arith))
+best c =
+    next (total_at c.args.totals.now) c.loop-t.t c.loop-t.best c.if-totals-from.best (omega arith) (omega arith) c.loop-t.invariant.3
+    (elim c.if-totals-from.branch [
+      | then-totals-from w ↦ inl (rw (← c.from.ensures, ← c.from-in-loop-t.ensures) (omega arith), w.best-is)
+      | else-totals-from w ↦ inr (rw (← c.from.ensures, ← c.from-in-loop-t.ensures) (omega arith), w.best-is)
+    ])
 
-pub returns-after-totals-t : goal.returns-after-totals-t
-unfolding total_at
-returns-after-totals-t c =
-    let both = next (total_at c.args.totals.now) c.loop-t.t c.loop-t.best c.if-totals-t.best (omega arith) (omega arith) c.loop-t.invariant.3
-    (elim c.if-totals-t.branch [ then-totals-t w ↦ inl (omega arith, w.best-is) | else-totals-t w ↦ inr (omega arith, w.best-is) ]) in
+pub loop-t-preserved : goal.loop-t-preserved
+loop-t-preserved c =
+    let it = best (goal.at.loop-t-preserved c).Joined-totals-from in
+    (omega arith, omega arith, it.0, it.1 ∙ ap (least_from (total_at c.args.totals.now) 0) (omega arith))
+
+pub returns-after-totals-from : goal.returns-after-totals-from
+returns-after-totals-from c =
     let last : c.loop-t.t ≡ c.args.offers.now.processors = omega arith in
-    rw last at both.1
+    rw last at (best (goal.at.returns-after-totals-from c).Joined-totals-from).1

@@ -21,7 +21,7 @@ totals_with-requires c =
     let offers = offers_up_to c.args.offers.now.count c.args.offers.now.cells in
     let long = offers_length c.args.offers.now.count c.args.offers.now.cells (omega arith) in
     record {
-      within = c.args.offers.now.within (c.args.offers.now.count - 1 - c.loop-k.k) (omega arith);
+      within = rw c.from-count.ensures (c.args.offers.now.within (c.args.offers.now.count - 1 - c.loop-k.k) (omega arith));
       small =
           rw (c.loop-k.invariant.1, lines_at c.args.offers.now.processors c.args.offers.now.count offers long c.loop-k.k c.loop-k.k (omega arith) (omega arith))
           (totals_small c.args.offers.now.processors _ (omega arith));
@@ -33,7 +33,7 @@ loop-k-preserved c =
     let long = offers_length c.args.offers.now.count c.args.offers.now.cells (omega arith) in
     let with = total_with c.args.offers.now.processors (cell_at (get_or c.args.offers.now.cells (c.args.offers.now.count - 1 - c.loop-k.k) missing_offer)) in
     let stored : c.totals_with.result ≡ (line c.args.offers.now.processors offers c.args.offers.now.count (c.loop-k.k + 1)) =
-    c.totals_with.ensures
+    (rw c.from-count.ensures at c.totals_with.ensures)
     ∙ ap (λ (l : List (List ℕ)). tabulate (with (total_at (get_or l c.loop-k.k missing_totals))) 0 65) c.loop-k.invariant.1
     ∙ ap (λ (x : List ℕ). tabulate (with (total_at x)) 0 65) (lines_at c.args.offers.now.processors c.args.offers.now.count offers long c.loop-k.k c.loop-k.k (omega arith) (omega arith))
     ∙ line_more c.args.offers.now.processors c.args.offers.now.count c.args.offers.now.cells (omega arith) c.loop-k.k (omega arith) in (

@@ -43,7 +43,7 @@ more c =
     let after = total_at c.padded-after.result in
     let before : (j : ℕ) → j < 63 → after j ≡ c.args.offers.now.processors + 1 =
     λ j inside. ap (λ (l : List ℕ). total_at l j) c.padded-after.ensures ∙ padded_before c.args.offers.now.processors c.args.rest.now j inside in
-    up_to_more c.args.offers.now.processors (cell_at c.args.offer) after before c.loop-a.a c.loop-a.least _ (omega arith) (omega arith) c.loop-a.invariant.2 c.lower.ensures
+    up_to_more c.args.offers.now.processors (cell_at c.args.offer) after before c.loop-a.a c.loop-a.least _ (omega arith) (omega arith) c.loop-a.invariant.2 (rw c.from.ensures at c.lower.ensures)
 
 pub loop-a-preserved : goal.loop-a-preserved
 loop-a-preserved c = (omega arith, omega arith, more (goal.at.loop-a-preserved c).After-lower)
