@@ -149,10 +149,6 @@ module _ (s : List ℕ) where
     unfolding allocations_for
     allocated_at i inside = allocations_at (task_set_of s) _ read_lawful.few_tasks i inside
 
-    pub allocated_length : length (allocations_for s) ≡ 16
-    unfolding allocations_for
-    allocated_length = allocations_length (task_set_of s) _
-
     pub allocated_bounded : AllBounded (allocations_for s) (task_set_of s).count
     allocated_bounded =
         record {

@@ -1,23 +1,14 @@
--- The cells of offers and totals: an offer's cells one after the other, and what tabulated numbers say.
+-- The cells of offers and totals: what tabulated numbers say.
 use Prim.Native.Nat.{ℕ, zero, suc, ◌+◌, ◌≤◌, ◌<◌}
 use mathlib.Core.Path.{◌≡◌, refl, ap}
-use mathlib.Core.Bool.{Bool, true, false, ◌&&◌}
+use mathlib.Core.Bool.{Bool, true, false}
 use mathlib.Core.Logic.{◌⊎◌, inl, inr}
 use mathlib.Core.List.Memᴰ
-use mathlib.Core.List.{List, ◌∷◌, Memᴰ}
-use native.Mathlib.Numerals.{add-one}
+use mathlib.Core.List.{◌∷◌, Memᴰ}
 use native.Mathlib.Omega.{arith}
-use lib.Dec.{ltb, leb}
-use lib.ListN.{length, get_or, drop}
-use lib.Seq.{drop-cons}
+use lib.Dec.{leb}
 use borrow.Author.Tests.{leb-true, leb-false}
 use Rattle.shares.specs.Offer.{tabulate}
-use Rattle.allocation.specs.means.Selection.{offers_none}
-
-module _ (M : ℕ) (offer : List ℕ) (i : ℕ) (inside : i < length offer) where
-  offers_open : offers_none M (drop i offer) ≡ ltb M (get_or offer i 0) && offers_none M (drop (i + 1) offer)
-  unfolding offers_none
-  offers_open = rw (drop-cons offer i 0, add-one i)
 
 -- The members of tabulated numbers.
 pub tabulate_from : (g : ℕ → ℕ) (k n x : ℕ) → Memᴰ x (tabulate g k n) → (a : ℕ) × ((k ≤ a) × (x ≡ g a))

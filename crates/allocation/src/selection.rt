@@ -1,7 +1,7 @@
 //! S5.3 and S5.7: the selection. Totals over the tasks, from the last task on, and then a walk forward over the best
 //! shares. Shares, totals and their sums are bytes: two numbers of at most m + 1 come to at most 130. In a row of
 //! totals m + 1 stands for none and for any total above m (S5.7), so that a minimum needs no test.
-ghost use Rattle.std.specs.Prelude.{◌≡◌, [], ◌+◌, ◌≤◌, ◌<◌, length, get_or, replicate};
+ghost use Rattle.std.specs.Prelude.{◌≡◌, [], ◌≤◌, length, replicate};
 ghost use Rattle.shares.specs.Offer.{tabulate};
 ghost use Rattle.allocation.specs.means.Selection.{cell_at, least_from, best_share, total_with, totals_of, offers_up_to, last_totals, selection_of, total_at, padded, lowered, Small, OfferWithin};
 
@@ -81,7 +81,8 @@ fn last_totals(offers: &Offers, all: &mut [Totals; 17])
     }
 }
 
-/// S5.3: the first share of a task from 1 to t at which its critical share and the rest's total come to the least.
+/// S5.3: the first share of a task from 1 to t at which its critical share and the rest's total come to the least. By
+/// hand, as `first_least`.
 #[tactic(auto, using(crate::proofs::Lines::sum_fits))]
 fn best_share(offer: &[u8; 64], rest: &Totals, t: u8) -> u8
     requires some { 1 ≤ t }

@@ -1,5 +1,5 @@
 -- Numbers in bytes: bytes in front move each place by their number, a number of two or four bytes is the sum of its
--- bytes, and four stores write one.
+-- bytes, and runs of stores lie one behind the other.
 use Prim.Native.Nat.{ℕ, suc, ◌≤◌, ◌<◌, ◌+◌, ◌*◌, ◌/◌, ◌%◌}
 use mathlib.Core.List.{List, [], ◌∷◌, ◌++◌}
 use mathlib.Core.Path.{◌≡◌, refl, sym, ap, ◌∙◌}

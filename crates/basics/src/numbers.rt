@@ -6,7 +6,7 @@ ghost use Rattle.std.proofs.lemmas.List.Edits.{sets};
 ghost use Rattle.basics.specs.Lists.{cells};
 ghost use Rattle.basics.specs.Numbers.{byte_at, u16_at, u32_at, u16_bytes, u32_bytes};
 
-/// The byte at a place; 0 past the end.
+/// The byte at a place; 0 past the end, as a definition reads it, so that no reader has to tell none from 0.
 #[tactic(auto, using(std::proofs::lemmas::Option::gets), unfolding(crate::specs::Numbers::byte_at))]
 pub fn byte_at(s: &[u8], at: usize) -> u8
     ensures { result ≡ byte_at s.now at }
@@ -49,7 +49,8 @@ pub fn u32s_at<const N: usize>(s: &[u8], at: usize, count: usize) -> [u32; N]
     numbers
 }
 
-/// Writes the low two bytes of a number from a place on.
+/// Writes the low two bytes of a number from a place on. A line, as `put_u32` is: one function over the width would
+/// be that line again.
 #[tactic(auto, unfolding(crate::specs::Numbers::u16_bytes), using(crate::proofs::Stores::put_mid_sets))]
 pub fn put_u16(out: &mut [u8], at: usize, x: u32)
     requires { at + 2 ≤ length out.old }

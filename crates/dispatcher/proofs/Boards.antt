@@ -1,4 +1,4 @@
--- The board's bytes, written one after the other: a cleared buffer, a task's pairs, and the tasks' blocks.
+-- The board's bytes, written one after the other: a task's pairs, and the tasks' blocks.
 use Prim.Native.Nat.{ℕ, zero, suc, ◌+◌, ◌-◌, ◌*◌, ◌≤◌, ◌<◌}
 use mathlib.Core.Path.{◌≡◌, refl, sym, ap, ap₂, ◌∙◌}
 use mathlib.Core.Bool.{Bool, true, false}

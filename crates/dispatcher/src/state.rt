@@ -5,8 +5,9 @@ use entries::state::TaskState;
 
 /// S7.1: `processors` is M and `count` is n; the mode is typical or critical; tasks have the first n of the sixteen
 /// entries.
-/// By value, with sixteen entries, as the buyer asks. The mode is a flag, as S13.1 has it in a word. A state that is
-/// handed in may be unsound (S7.2), so that n ≤ 16 is no ghost field: it is a clause of what reads the entries.
+/// By value, with sixteen entries, as the buyer asks. The mode is a flag: an enum of two would be made a truth value
+/// again by each definition, by the model and by a word (S13.1). A state that is handed in may be unsound (S7.2), so
+/// that n ≤ 16 is no ghost field: it is a clause of what reads the entries.
 #[derive(Clone, Copy, Debug, PartialEq, Eq)]
 pub struct State {
     pub processors: u8,
@@ -45,7 +46,7 @@ impl State {
             && leb (typical_total (row_shares (model_of self.now).rows)) self.now.processors
             && leb (critical_total (row_shares (model_of self.now).rows)) self.now.processors) }
     {
-        // One pass: `all` and two sums would go over the entries three times.
+        // One pass: `all` and two sums would go over the entries three times, and a `Pass` holds what a tick finds too.
         let processors = u32::from(self.processors);
         let mut typical = 0;
         let mut critical = 0;

@@ -88,7 +88,7 @@ fn pass_over(state: &mut State, reports: &[u32]) -> Result<Pass, Refusal>
 }
 
 /// S8.6, S8.9: what becomes of the mode after the tasks' parts of a tick, by the lowest late task and whether a high
-/// job is alive.
+/// job is alive. S8.6 is of the typical mode and S8.9 of the critical one, so that a test of the mode stands here.
 fn turn(state: &mut State, late: Option<u8>, high: bool) -> TickAnswer
     requires few { state.old.count ≤ 16 }
     requires lowest { late ≡ lowest_late 0 (model_of state.old).rows }

@@ -128,7 +128,8 @@ impl TaskState {
         self.ready().lowest(u32::from(self.share.in_mode(critical)))
     }
 
-    /// S8.6: whether a switch leaves the task's job: that of a high task, and that of a low one that is kept.
+    /// S8.6: whether a switch leaves the task's job: that of a high task, and that of a low one that is kept. S7.4: the
+    /// critical share of one that is not is 0.
     #[tactic(auto, unfolding(model::specs::Row::survives, crate::specs::Entry::fixed_of, shares::specs::Low::is_kept, sheet::specs::Level::is_low))]
     pub fn survives(&self) -> bool
         ensures { result ≡ survives (fixed_of self.now) }

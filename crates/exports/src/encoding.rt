@@ -8,7 +8,7 @@ use dispatcher::state::State;
 use entries::state::TaskState;
 use shares::share::Share;
 
-/// S13.1: writes an entry over the first of these words.
+/// S13.1: writes an entry over the first of these words. Field by field: S13.1 fixes the word of each.
 fn write_entry(words: &mut [u32], e: &TaskState)
     requires { entry_size ≤ length words.old }
     ensures held { EntryHeld e.now }

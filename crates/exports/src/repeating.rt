@@ -1,5 +1,5 @@
-//! Calls of the dispatcher made a number of times, with the line read once, for the benchmarks. Three loops of two
-//! lines: one function over a closure was tried. It could only promise the steps of the closure (`FoldsTo`), of which
+//! Calls of the dispatcher made a number of times, with the line read once, for the benchmarks. Three short
+//! loops: one function over a closure was tried. It could only promise the steps of the closure (`FoldsTo`), of which
 //! each call would prove its word anew, and of the buffer that the closure of the boards borrows nothing is known after.
 ghost use Rattle.std.specs.Prelude.{◌≡◌};
 ghost use Rattle.exports.specs.Repeats.{ticks_call, releases_call, boards_call};

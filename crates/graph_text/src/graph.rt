@@ -34,7 +34,8 @@ impl Node {
 
 /// A graph by its nodes, of which the first 32 are held: their times, their masks, their count, and whether
 /// every entry names lower numbers only.
-/// Two arrays of 32, since there is no heap, and apart, since an import scales the times alone.
+/// Two arrays of 32, since there is no heap, and apart, since an import scales the times alone. `rising` is a mark and
+/// no error, since an import is refused for other causes first (S14.9).
 #[derive(Clone, Copy, Debug, PartialEq, Eq)]
 pub struct NodeGraph {
     pub times: [u16; 32],

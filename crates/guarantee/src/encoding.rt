@@ -90,7 +90,7 @@ pub fn count_calls(calls: &[u8]) -> usize
     LoggedCalls::new(calls).count()
 }
 
-/// The reports of a tick.
+/// The reports of a tick, and zeros behind them: 255, as many as a byte counts, since there is no heap.
 pub fn reports_of(call: &[u8], count: u8) -> [u32; 255]
     requires { 2 + 4 * count ≤ length call.now }
     ensures value { take count result ≡ reports_at call.now 2 count }

@@ -1,4 +1,4 @@
--- Times by a percentage: each product stays within a word, and one node more is one cell more.
+-- Times by a percentage: one node more is one cell more.
 use Prim.Native.Nat.{ℕ, zero, suc, ◌+◌, ◌≤◌, ◌<◌}
 use mathlib.Core.List.{List, [], ◌∷◌}
 use mathlib.Core.Path.{◌≡◌, sym}

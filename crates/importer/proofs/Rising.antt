@@ -10,7 +10,7 @@ use lib.Pow.{pow_pos}
 use borrow.Author.Tests.{ltb-true}
 use Rattle.std.specs.List.{list_all}
 use Rattle.basics.specs.Lists.{is_in}
-use Rattle.basics.proofs.Cells.{cells-keep, cells-keep}
+use Rattle.basics.proofs.Cells.{cells-keep}
 use Rattle.std.proofs.lemmas.Bool.{and_parts}
 use Rattle.basics.proofs.Members.{all_member, is_in_lem}
 use Rattle.nodes.proofs.Bits.{below_of_has}

@@ -30,7 +30,8 @@ fn critical_total(shares: &[Share]) -> u8
 
 /// Of the tasks without a critical share the first with the least typical share, and the critical total with it, where
 /// that is within m.
-/// By hand: what `min_by_key` says plainly is not that it gives the first, and here some tasks do not count.
+/// By hand: `min_by_key` was tried where the choice takes its first least total (`allocation`), and takes more
+/// instructions; here a `filter` would stand before it.
 fn next_kept(shares: &[Share], total: u8, m: u8) -> Option<NextKept>
     requires keepable { Keepable m (length shares.now) shares.now }
     requires is_total { total ≡ critical_total shares.now }
@@ -43,6 +44,7 @@ fn next_kept(shares: &[Share], total: u8, m: u8) -> Option<NextKept>
         ≡ capped_at (m + 1) (least (totals_with_one (length shares.now) shares.now)) }
 {
     let mut next = None;
+    // m + 1 is more than any total within m, so that one test is enough. A critical share of 0 is none (S7.4).
     let mut smallest = m + 1;
     for (task, share) in shares.iter().enumerate() {
         let with = total + share.typical;

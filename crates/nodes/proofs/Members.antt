@@ -1,5 +1,5 @@
 -- Sets and the lists of their members: `members` and `set_of` undo each other, and `members` of each operation on
--- words is a `keep` of the joined tests. Each law of `set_of` follows from one halving step, `set_of_next`, and the
+-- words is a `filter` of the joined tests. Each law of `set_of` follows from one halving step, `set_of_next`, and the
 -- rest from the bits.
 use Prim.Native.Nat.{ℕ, zero, suc, ◌+◌, ◌-◌, ◌*◌, ◌/◌, ◌%◌, ◌^◌, ◌<◌}
 use mathlib.Core.Path.{◌≡◌, refl, sym, ap, ap₂, ◌∙◌}

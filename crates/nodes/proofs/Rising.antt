@@ -1,4 +1,4 @@
--- Rising lists of numbers below k are the lists of members: each is `keep` of being in it, so `members k (set_of vs)`
+-- Rising lists of numbers below k are the lists of members: each is `filter` of being in it, so `members k (set_of vs)`
 -- is vs.
 use Prim.Native.Nat.{ℕ, zero, suc, ◌+◌, ◌^◌, ◌≤◌, ◌<◌}
 use mathlib.Core.Path.{◌≡◌, refl, sym, ap, ap₂, ◌∙◌}

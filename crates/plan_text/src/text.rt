@@ -1,6 +1,6 @@
 //! A text that grows at its end.
 //! No `write!`: it answers whether all fits, and here what does not fit is lost without an answer.
-ghost use Rattle.std.specs.Prelude.{◌≡◌, ◌≤◌, [], ◌∷◌, length};
+ghost use Rattle.std.specs.Prelude.{◌≡◌, ◌≤◌, [], length};
 ghost use Rattle.plan_text.specs.Decimal.{decimal};
 ghost use Rattle.plan_text.specs.means.Growth.{room, with_byte, with_bytes};
 

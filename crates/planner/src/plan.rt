@@ -10,7 +10,7 @@ use allocation::allocate::{Allocation, allocate};
 use basics::numbers::put_u32;
 use sheet::refusal::Refusal;
 
-/// Writes two bytes at a place.
+/// Writes two bytes at a place. They are two numbers, and `put_u16` writes one.
 fn put_pair(buffer: &mut [u8], at: usize, x: u8, y: u8)
     requires { at + 2 ≤ length buffer.old }
     ensures { buffer.new ≡ sets buffer.old at (x ∷ y ∷ []) }

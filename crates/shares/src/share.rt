@@ -13,7 +13,7 @@ pub struct Share {
 impl Share {
     ghost use Rattle.shares.specs.Totals.{share_in};
 
-    /// S8.3: the share that the mode allows.
+    /// S8.3: the share that the mode allows. S8.3 has the two modes, so that a test of the mode stands here.
     pub fn in_mode(self, critical: bool) -> u8
         ensures { result ≡ share_in critical self }
     {

@@ -1,5 +1,5 @@
 //! S3 and S9: why a call is refused.
-ghost use Rattle.std.specs.Prelude.{◌≡◌, ℕ, ◌≤◌};
+ghost use Rattle.std.specs.Prelude.{◌≡◌, ◌≤◌};
 ghost use Rattle.sheet.specs.Refusal.{number, task, answer_word};
 
 use std::error::Error;

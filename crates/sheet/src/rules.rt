@@ -1,5 +1,5 @@
 //! S2.7 to S2.13: the rules of a record, each a test on what the record says.
-ghost use Rattle.std.specs.Prelude.{◌≡◌, ◌+◌, ◌≤◌};
+ghost use Rattle.std.specs.Prelude.{◌≡◌, ◌≤◌};
 ghost use Rattle.sheet.specs.Rules.{shape_lawful, in_range, in_order, low_lawful, figures_lawful};
 ghost use Rattle.sheet.specs.Rules.{masks_lawful, is_heavy, task_answer};
 
@@ -26,8 +26,8 @@ pub fn masks_lawful(masks: &[u32; 32], nodes: u8) -> bool
     (0..usize::from(nodes)).all(|v| masks[v] >> v == 0)
 }
 
-/// The level goes beside the figures: of a task these methods would ask callers for masks that they do not read, and
-/// it stays a byte (`level.rt` says why).
+/// The level goes beside the figures, a byte (`level.rt` says why): a caller may have figures and no task, and methods
+/// of a task would ask it for one.
 impl Figures {
     /// S2.9: whether each figure is in the range of the level.
     #[tactic(auto, unfolding(crate::specs::Rules::in_range))]

@@ -7,7 +7,7 @@ use entries::state::{Job, TaskState};
 use shares::share::Share;
 use sheet::task::Task;
 
-/// S8.1: no job is alive, and no node has ended.
+/// S8.1: no job is alive, and no node has ended. A constant, which no `Default` gives.
 const NO_JOB: Job = Job {
     ended: 0,
     alive: false,

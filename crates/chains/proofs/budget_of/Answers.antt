@@ -1,5 +1,4 @@
--- `chains::budget_of` meets its contract: the work is the sum of the times, and the span the longest chain among all the nodes.
--- Assumes nothing.
+-- `chains::budget_of`: the work is the sum of the times, and the span the longest chain among all the nodes.
 use Prim.Native.Nat.{ℕ}
 use mathlib.Core.Path.{ap₂, ◌∙◌}
 use native.Mathlib.Omega.{arith}

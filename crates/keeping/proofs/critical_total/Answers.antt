@@ -1,4 +1,4 @@
--- `keeping::critical_total` meets its contract: what the chain gives are the critical shares.
+-- `keeping::critical_total`: what the chain gives are the critical shares.
 use Prim.Native.Nat.{ℕ, ◌+◌}
 use mathlib.Core.List.{List, [], ◌∷◌}
 use mathlib.Core.Path.{◌≡◌, ◌∙◌}

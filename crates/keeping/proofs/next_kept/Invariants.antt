@@ -1,4 +1,4 @@
--- `keeping::next_kept` meets its contract. The loop's invariant: what was found among the tasks passed.
+-- `keeping::next_kept`: what was found among the tasks passed.
 use lib.ListN.{length}
 use Rattle.keeping.proofs.Scan.{SeenSoFar}
 use Rattle.keeping.proofs.next_kept.Given as goal

@@ -1,5 +1,4 @@
--- `keeping::with_kept` meets its contract. The loop's invariant: what is kept so far, and its critical total, which
--- rises up to m.
+-- `keeping::with_kept`: what is kept so far, and its critical total, which rises up to m.
 use Prim.Native.Nat.{ℕ, ◌-◌}
 use mathlib.Core.Path.{◌≡◌}
 use lib.ListN.{take}

@@ -1,4 +1,4 @@
--- `start::begin`. The loop's invariant: the entries of the tasks passed are fresh.
+-- `start::begin`: the entries of the tasks passed are fresh.
 use mathlib.Core.Bool.{false}
 use mathlib.Core.Path.{◌≡◌}
 use Rattle.start.specs.Start.{entries_below}

@@ -1,5 +1,5 @@
--- `allocation::allocate::allocations_of` meets its contract. The loop's invariant: what is fixed for the tasks passed
--- stands in its cells, and the next blocks begin where theirs end.
+-- `allocation::allocate::allocations_of`: what is fixed for the tasks passed stands in its cells, and the next blocks
+-- begin where theirs end.
 use mathlib.Core.Bool.{true, false}
 use mathlib.Core.Path.{◌≡◌}
 use Rattle.basics.specs.Lists.{cells}

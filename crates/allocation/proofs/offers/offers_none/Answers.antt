@@ -1,4 +1,4 @@
--- `allocation::offers::offers_none` meets its contract: the chain's test is the definition's.
+-- `allocation::offers::offers_none`: the chain's test is the definition's.
 use Prim.Native.Nat.{ℕ}
 use mathlib.Core.Bool.{Bool, ◌&&◌}
 use mathlib.Core.List.{List, [], ◌∷◌}

@@ -1,5 +1,4 @@
--- `allocation::offers::offers_of` meets its contract. The loop's invariant: the offers of the tasks passed stand in
--- their cells.
+-- `allocation::offers::offers_of`: the offers of the tasks passed stand in their cells.
 use Rattle.basics.specs.Lists.{cells}
 use Rattle.sheet.specs.Format.{task_in}
 use mathlib.Core.Path.{◌≡◌}

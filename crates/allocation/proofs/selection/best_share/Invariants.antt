@@ -1,5 +1,4 @@
--- `allocation::selection::best_share` meets its contract. The loop's invariant: best is the first best share before a,
--- and least its total.
+-- `allocation::selection::best_share`: best is the first best share before a, and least its total.
 use Prim.Native.Nat.{◌-◌, ◌≤◌}
 use Rattle.allocation.proofs.Lines.{BestUpTo}
 use Rattle.allocation.proofs.selection.best_share.Given as goal

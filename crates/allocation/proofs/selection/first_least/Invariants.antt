@@ -1,5 +1,4 @@
--- `allocation::selection::first_least` meets its contract. The loop's invariant: best is the first least of the totals
--- before t.
+-- `allocation::selection::first_least`: best is the first least of the totals before t.
 use Prim.Native.Nat.{◌+◌, ◌-◌, ◌≤◌, ◌<◌}
 use mathlib.Core.Path.{◌≡◌}
 use Rattle.allocation.specs.means.Selection.{least_from, total_at}

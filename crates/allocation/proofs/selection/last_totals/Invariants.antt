@@ -1,5 +1,4 @@
--- `allocation::selection::last_totals` meets its contract. The loop's invariant: the totals of the last k tasks stand
--- in their place.
+-- `allocation::selection::last_totals`: the totals of the last k tasks stand in their place.
 use Rattle.allocation.specs.means.Selection.{offers_up_to}
 use Rattle.allocation.proofs.Lines.{lines}
 use Prim.Native.Nat.{◌≤◌}

@@ -1,4 +1,4 @@
--- `allocation::selection::lower` meets its contract. The loop's invariant: the totals from 1 on below t are lowered.
+-- `allocation::selection::lower`: the totals from 1 on below t are lowered.
 use Prim.Native.Nat.{◌≤◌}
 use mathlib.Core.Path.{◌≡◌}
 use lib.ListN.{length}

@@ -1,5 +1,5 @@
--- `allocation::selection::select` meets its contract. The loop's invariant: the shares of the tasks passed stand in
--- their cells, and those of the tasks left are the best of what is left.
+-- `allocation::selection::select`: the shares of the tasks passed stand in their cells, and those of the tasks left are
+-- the best of what is left.
 use Rattle.basics.specs.Lists.{cells}
 use Prim.Native.Nat.{ℕ, ◌≤◌}
 use mathlib.Core.Path.{◌≡◌}

@@ -1,5 +1,4 @@
--- `allocation::selection::totals_with` meets its contract. The loop's invariant: the totals are lowered by the shares
--- below a.
+-- `allocation::selection::totals_with`: the totals are lowered by the shares below a.
 use Prim.Native.Nat.{◌+◌, ◌-◌, ◌≤◌}
 use mathlib.Core.Path.{◌≡◌}
 use Rattle.shares.specs.Offer.{tabulate}

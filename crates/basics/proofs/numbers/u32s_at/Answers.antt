@@ -1,4 +1,4 @@
--- `basics::numbers::u32s_at`: no cell is filled at first, a store fills one more, and at the end all asked for are.
+-- `basics::numbers::u32s_at`: no cell is filled at first, and a store fills one more.
 use Rattle.std.proofs.Common.{◌+◌, ◌*◌, sym, arith}
 use Rattle.basics.specs.Numbers.{u32_at}
 use Rattle.basics.proofs.Cells.{cells_none, cells_store}

@@ -1,4 +1,4 @@
--- `dispatcher::board::put_nodes`: each turn writes the pair of the next node, for which there is room.
+-- `dispatcher::board::put_nodes`: each turn writes the pair of the next node.
 use Prim.Native.Nat.{◌+◌, ◌*◌}
 use mathlib.Core.Path.{◌≡◌}
 use native.Mathlib.Omega.{arith}

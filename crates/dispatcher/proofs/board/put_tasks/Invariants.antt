@@ -1,4 +1,4 @@
--- `dispatcher::board::put_tasks`. The loop's invariant: the buffer is the board with the blocks of the tasks passed.
+-- `dispatcher::board::put_tasks`: the buffer is the board with the blocks of the tasks passed.
 use mathlib.Core.Path.{◌≡◌}
 use lib.ListN.{length}
 use Rattle.dispatcher.proofs.Boards.{Boarding}

@@ -1,5 +1,4 @@
--- `dispatcher::tick::pass_over`. The loop's invariant: what the pass has found, and the state with the parts of the
--- tasks passed.
+-- `dispatcher::tick::pass_over`: what the pass has found, and the state with the parts of the tasks passed.
 use Rattle.dispatcher.proofs.Ticks.{Scanned}
 use Rattle.dispatcher.proofs.tick.pass_over.Given as goal
 

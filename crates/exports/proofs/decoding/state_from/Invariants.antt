@@ -1,4 +1,4 @@
--- `exports::decoding::state_from`. The loop's invariant: the entries passed are read.
+-- `exports::decoding::state_from`: the entries passed are read.
 use mathlib.Core.Path.{◌≡◌}
 use Rattle.exports.proofs.Decoded.{state_below}
 use Rattle.exports.proofs.decoding.state_from.Given as goal

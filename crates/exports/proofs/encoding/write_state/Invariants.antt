@@ -1,4 +1,4 @@
--- `exports::encoding::write_state`. The loop's invariant: what is written, with the entries left, is the whole.
+-- `exports::encoding::write_state`: what is written, with the entries left, is the whole.
 use lib.Seq.{sets}
 use Rattle.exports.specs.Words.{entries_words}
 use Rattle.exports.proofs.Stored.{Storing}

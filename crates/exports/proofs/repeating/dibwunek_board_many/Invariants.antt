@@ -1,5 +1,5 @@
--- `exports::repeating::dibwunek_board_many` meets its contract. The loop's invariant: the word is that of the last
--- board made, and the buffer is what the boards made leave.
+-- `exports::repeating::dibwunek_board_many`: the word is that of the last board made, and the buffer is what the boards
+-- made leave.
 use Prim.Native.Nat.{◌≤◌}
 use mathlib.Core.Path.{◌≡◌}
 use lib.ListN.{length}

@@ -1,5 +1,4 @@
--- `exports::repeating::dibwunek_release_many` meets its contract. The loop's invariant: the word is that of the last
--- release made.
+-- `exports::repeating::dibwunek_release_many`: the word is that of the last release made.
 use Prim.Native.Nat.{◌≤◌}
 use mathlib.Core.Path.{◌≡◌}
 use Rattle.dispatcher.specs.Calls.{release_of}

@@ -1,5 +1,4 @@
--- `exports::repeating::dibwunek_tick_many` meets its contract. The loop's invariant: the ticks that are left, after
--- those that were made, give the word of all.
+-- `exports::repeating::dibwunek_tick_many`: the ticks that are left, after those that were made, give the word of all.
 use Prim.Native.Nat.{◌-◌, ◌≤◌}
 use mathlib.Core.Path.{◌≡◌}
 use Rattle.exports.specs.Words.{state_from}

@@ -1,4 +1,4 @@
--- `guarantee::record::put_task` meets its contract: a mark and two numbers, one behind the other. Assumes nothing.
+-- `guarantee::record::put_task`: a mark and two numbers, one behind the other.
 use Prim.Native.Nat.{ℕ, ◌+◌}
 use mathlib.Core.List.{List}
 use mathlib.Core.Path.{◌≡◌, ap, ◌∙◌}

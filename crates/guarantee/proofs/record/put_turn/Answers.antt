@@ -1,4 +1,4 @@
--- `guarantee::record::put_turn` meets its contract: three bytes, and the state behind them. Assumes nothing.
+-- `guarantee::record::put_turn`: three bytes, and the state behind them.
 use mathlib.Core.Path.{◌∙◌}
 use Rattle.guarantee.proofs.Records.{turn_stored}
 use Rattle.guarantee.proofs.record.put_turn.Goals as goal

@@ -1,4 +1,4 @@
--- `guarantee::replay::replay` meets its contract: the whole length is known before anything is written. Assumes nothing.
+-- `guarantee::replay::replay`: the whole length is known before anything is written.
 use Prim.Native.Nat.{ℕ, ◌+◌, ◌*◌, ◌≤◌}
 use mathlib.Core.List.{List}
 use mathlib.Core.Path.{◌≡◌, sym, ap, ◌∙◌}

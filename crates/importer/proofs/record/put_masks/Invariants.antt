@@ -1,5 +1,4 @@
--- `importer::record::put_masks` meets its contract. The loop's invariant: what is written, with the masks left, is the whole. The measure is the
--- masks left. Assumes nothing.
+-- `importer::record::put_masks`: what is written, with the masks left, is the whole.
 use Prim.Native.Nat.{◌+◌, ◌*◌, ◌-◌, ◌≤◌}
 use mathlib.Core.Path.{◌≡◌}
 use lib.ListN.{length, drop}

@@ -1,4 +1,4 @@
--- `importer::record::write_record` meets its contract: the stores are the record's bytes, part behind part. Assumes nothing.
+-- `importer::record::write_record`: the stores are the record's bytes, part behind part.
 use Rattle.importer.proofs.Writing.{record_stored}
 use Rattle.importer.proofs.record.write_record.Goals as goal
 

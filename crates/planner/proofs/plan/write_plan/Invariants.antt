@@ -1,5 +1,4 @@
--- `planner::plan::write_plan` meets its contract. The loop's invariant: the bytes of the tasks passed stand in each
--- part.
+-- `planner::plan::write_plan`: the bytes of the tasks passed stand in each part.
 use mathlib.Core.Path.{◌≡◌}
 use lib.ListN.{length}
 use Rattle.planner.proofs.Plans.{parts_up_to}

@@ -1,4 +1,4 @@
--- `planner::plan::write_task` meets its contract: the stores are those of the definition.
+-- `planner::plan::write_task`: the stores are those of the definition.
 use mathlib.Core.Path.{refl}
 use native.Mathlib.Omega.{arith}
 use Rattle.planner.proofs.Plans.{task_set}

@@ -1,5 +1,5 @@
--- `shares::offer::high_offer` meets its contract. The loop's invariant: the offer is done below typical share a and
--- says m + 1 from a on, which is right above m. The measure is what is left of m + 1.
+-- `shares::offer::high_offer`: the offer is done below typical share a and says m + 1 from a on, which is right above
+-- m.
 use Prim.Native.Nat.{◌+◌, ◌-◌, ◌≤◌}
 use mathlib.Core.Path.{◌≡◌}
 use Rattle.shares.specs.Search.{least_critical}

@@ -1,5 +1,4 @@
--- `shares::offer::low_offer` meets its contract: an offer of m + 1, with 0 in the cell of the task's share where it has
--- one.
+-- `shares::offer::low_offer`: an offer of m + 1, with 0 in the cell of the task's share where it has one.
 use mathlib.Core.Path.{◌≡◌}
 use mathlib.Core.Bool.{true}
 use native.Mathlib.Omega.{arith}

@@ -1,5 +1,4 @@
--- `shares::search::least_critical` meets its contract. The loop's invariant: what the search from b gives is what it
--- gives from a, and b is from a to m + 1. The measure is what is left of m + 1.
+-- `shares::search::least_critical`: what the search from b gives is what it gives from a, and b is from a to m + 1.
 use Prim.Native.Nat.{◌+◌, ◌-◌, ◌*◌, ◌≤◌}
 use mathlib.Core.Path.{◌≡◌}
 use Rattle.shares.specs.means.Terms.{meets}

@@ -1,5 +1,4 @@
--- `dispatcher::state::State::has_sound_entries`. The loop's invariant: every entry passed is sound, and these are its
--- shares.
+-- `dispatcher::state::State::has_sound_entries`: every entry passed is sound, and these are its shares.
 use Rattle.dispatcher.proofs.Entries.{Passed}
 use Rattle.dispatcher.proofs.state.State.has_sound_entries.Given as goal
 

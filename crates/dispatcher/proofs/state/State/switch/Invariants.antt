@@ -1,5 +1,4 @@
--- `dispatcher::state::State::switch`. The loop's invariant: the entries passed are switched, and those to come are as
--- they were.
+-- `dispatcher::state::State::switch`: the entries passed are switched, and those to come are as they were.
 use mathlib.Core.Path.{◌≡◌}
 use Rattle.dispatcher.proofs.Switches.{switched_up_to}
 use Rattle.dispatcher.proofs.state.State.switch.Given as goal

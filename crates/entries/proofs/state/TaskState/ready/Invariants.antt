@@ -1,5 +1,5 @@
--- `entries::state::TaskState::ready`. The loop's invariant: the nodes gathered, with those that are left, are those
--- whose predecessors have all ended.
+-- `entries::state::TaskState::ready`: the nodes gathered, with those that are left, are those whose predecessors have
+-- all ended.
 use Rattle.entries.specs.Entry.{row_of}
 use Rattle.entries.proofs.NodeSets.{is_unblocked, Gathered}
 use Rattle.entries.proofs.state.TaskState.ready.Given as goal
