@@ -7,18 +7,14 @@ ghost use Rattle.exports.specs.Fields.{field_of};
 
 use crate::fields::field_of;
 use sheet::refusal::answer_word;
-use sheet::task::{TaskSet, zero_task};
+use sheet::task::TaskSet;
 
 /// S3.5: what stands for the task set of a sheet that is refused.
-#[tactic(auto, unfolding(sheet::specs::Format::zero_task_set))]
+#[tactic(auto, using(sheet::proofs::Zeros::default_is_zero_task_set))]
 fn zero_task_set() -> TaskSet
     ensures { result ≡ zero_task_set }
 {
-    TaskSet {
-        processors: 0,
-        count: 0,
-        tasks: [zero_task(); 16],
-    }
+    TaskSet::default()
 }
 
 /// S3.1: the reader's answer: its number, and 256 times its task.

@@ -12,8 +12,8 @@ fn put_masks(out: &mut [u8], k: usize, masks: &[u32; 32])
     requires { (k ≤ 32) × (12 + 4 * k ≤ length out.old) }
     ensures { out.new ≡ sets out.old 12 (masks_bytes k masks.now) }
 {
-    for v in 0..k {
-        put_u32(out, 12 + 4 * v, masks[v]);
+    for (v, mask) in masks[..k].iter().enumerate() {
+        put_u32(out, 12 + 4 * v, *mask);
     }
 }
 

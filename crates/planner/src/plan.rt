@@ -6,7 +6,7 @@ ghost use Rattle.allocation.specs.means.Bounds.{Bounded, AllBounded};
 ghost use Rattle.planner.specs.Plan.{plan_bytes, plan_answer, planned};
 ghost use Rattle.planner.specs.means.Writing.{TaskFits, with_task};
 
-use allocation::allocate::{Allocation, allocate};
+use allocation::allocate::{Allocated, Allocation, allocate};
 use basics::numbers::put_u32;
 use sheet::refusal::Refusal;
 
@@ -34,13 +34,13 @@ fn write_task(buffer: &mut [u8], n: usize, i: usize, a: &Allocation)
 }
 
 /// S5.5: the plan's 9n bytes, at the front of the buffer.
-fn write_plan(buffer: &mut [u8], allocations: &[Allocation; 16], n: u8)
-    requires room { 9 * n ≤ length buffer.old }
-    requires all_bounded { AllBounded allocations.now n }
-    ensures { buffer.new ≡ sets buffer.old 0 (plan_bytes n allocations.now) }
+fn write_plan(buffer: &mut [u8], allocated: &Allocated)
+    requires room { 9 * allocated.now.count ≤ length buffer.old }
+    requires all_bounded { AllBounded allocated.now.allocations allocated.now.count }
+    ensures { buffer.new ≡ sets buffer.old 0 (plan_bytes allocated.now.count allocated.now.allocations) }
 {
-    let count = usize::from(n);
-    for (i, allocation) in allocations[..count].iter().enumerate() {
+    let count = usize::from(allocated.count);
+    for (i, allocation) in allocated.allocations[..count].iter().enumerate() {
         write_task(buffer, count, i, allocation);
     }
 }
@@ -54,10 +54,9 @@ pub fn plan(sheet: &[u8], buffer: &mut [u8]) -> Result<(), Refusal>
     ensures written { buffer.new ≡ planned sheet.now buffer.old }
 {
     let allocated = allocate(sheet)?;
-    let n = allocated.count;
-    if buffer.len() < 9 * usize::from(n) {
+    if buffer.len() < 9 * usize::from(allocated.count) {
         return Err(Refusal::ShortBuffer);
     }
-    write_plan(buffer, &allocated.allocations, n);
+    write_plan(buffer, &allocated);
     Ok(())
 }

@@ -31,7 +31,7 @@ pub struct Task {
 
 /// S2: a sheet's processors, M, the number of its tasks, n, and the tasks.
 /// Sixteen tasks and n, since there is no heap.
-#[derive(Clone, Copy, Debug, PartialEq, Eq)]
+#[derive(Clone, Copy, Debug, Default, PartialEq, Eq)]
 pub struct TaskSet {
     pub processors: u8,
     pub count: u8,

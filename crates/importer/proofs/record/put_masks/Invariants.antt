@@ -1,5 +1,5 @@
 -- `importer::record::put_masks`: what is written, with the masks left, is the whole.
-use Prim.Native.Nat.{◌+◌, ◌*◌, ◌-◌, ◌≤◌}
+use Prim.Native.Nat.{◌+◌, ◌*◌, ◌-◌}
 use mathlib.Core.Path.{◌≡◌}
 use lib.ListN.{length, drop}
 use lib.Seq.{sets}
@@ -8,9 +8,5 @@ use Rattle.importer.proofs.record.put_masks.Given as goal
 
 abbrev pub invariant-loop-v : goal.invariant-loop-v
 invariant-loop-v l =
-    (l.v ≤ l.k)
-    × (length l.out ≡ length l.initial.out)
+    (length l.out ≡ length l.initial.out)
     × (sets l.out (12 + 4 * l.v) (masks_bytes (l.k - l.v) (drop l.v l.masks)) ≡ sets l.initial.out 12 (masks_bytes l.k l.masks))
-
-abbrev pub decreases-loop-v : goal.decreases-loop-v
-decreases-loop-v l = l.k - l.v

@@ -8,7 +8,7 @@ use Rattle.allocation.specs.declared.allocate.Allocated.{Allocated}
 use Rattle.allocation.specs.Allocation.{allocation_answer, allocations_for}
 use Rattle.allocation.proofs.Allocations.{allocated_ok, allocated_err, allocated_bounded}
 use Rattle.planner.proofs.Plans.{plan_refused, plan_room, plan_accepted, planned_refused, planned_accepted}
-use Rattle.planner.proofs.plan.plan.Goals.{After-from_residual, In_ok-allocated}
+use Rattle.planner.proofs.plan.plan.Goals.{In_ok-allocated}
 use Rattle.planner.proofs.plan.plan.Goals as goal
 
 pub returns-in_err-allocated : goal.returns-in_err-allocated

@@ -12,15 +12,15 @@ use Rattle.planner.proofs.plan.write_plan.Goals.{In-loop-i}
 use Rattle.planner.proofs.plan.write_plan.Goals as goal
 
 pub loop-i-init : goal.loop-i-init
-loop-i-init c = (refl, parts_none c.args.n c.args.allocations.now c.args.buffer.now)
+loop-i-init c = (refl, parts_none c.args.allocated.now.count c.args.allocated.now.allocations c.args.buffer.now)
 
-inside : (c : In-loop-i) → c.loop-i.i < c.args.n
+inside : (c : In-loop-i) → c.loop-i.i < c.args.allocated.now.count
 inside c = omega (arith, length-take {A = Allocation})
 
 one : (c : In-loop-i) →
-    get_or (take c.from-count.result c.args.allocations.now) c.loop-i.i no_allocation ≡ allocation_at c.args.allocations.now c.loop-i.i
+    get_or (take c.from-count.result c.args.allocated.now.allocations) c.loop-i.i no_allocation ≡ allocation_at c.args.allocated.now.allocations c.loop-i.i
 unfolding allocation_at
-one c = get_or-take c.from-count.result c.args.allocations.now c.loop-i.i no_allocation (omega (arith, inside c))
+one c = get_or-take c.from-count.result c.args.allocated.now.allocations c.loop-i.i no_allocation (omega (arith, inside c))
 
 pub write_task-requires-clause-bounded : goal.write_task-requires-clause-bounded
 write_task-requires-clause-bounded c =
@@ -33,14 +33,14 @@ loop-i-preserved c =
       c.write_task.auto.buffer ∙ c.loop-i.invariant.0,
       c.write_task.ensures
           ∙ rw (one at, c.from-count.ensures)
-          (ap (with_task c.args.n c.loop-i.i (allocation_at c.args.allocations.now c.loop-i.i)) c.loop-i.invariant.1
-          ∙ parts_more c.args.n c.args.allocations.now c.args.buffer.now c.loop-i.i (inside at)),
+          (ap (with_task c.args.allocated.now.count c.loop-i.i (allocation_at c.args.allocated.now.allocations c.loop-i.i)) c.loop-i.invariant.1
+          ∙ parts_more c.args.allocated.now.count c.args.allocated.now.allocations c.args.buffer.now c.loop-i.i (inside at)),
     )
 
 pub returns : goal.returns
 returns c =
     let few = c.requires.all_bounded.few in
-    let all : c.loop-i.i ≡ c.args.n = omega (arith, length-take {A = Allocation}) in
+    let all : c.loop-i.i ≡ c.args.allocated.now.count = omega (arith, length-take {A = Allocation}) in
     c.loop-i.invariant.1
-    ∙ ap (parts_up_to c.args.n c.args.allocations.now c.args.buffer.now) all
-    ∙ parts_all c.args.n c.args.allocations.now c.args.buffer.now
+    ∙ ap (parts_up_to c.args.allocated.now.count c.args.allocated.now.allocations c.args.buffer.now) all
+    ∙ parts_all c.args.allocated.now.count c.args.allocated.now.allocations c.args.buffer.now

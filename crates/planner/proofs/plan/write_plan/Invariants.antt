@@ -6,4 +6,4 @@ use Rattle.planner.proofs.plan.write_plan.Given as goal
 
 abbrev pub invariant-loop-i : goal.invariant-loop-i
 invariant-loop-i l =
-    (length l.buffer ≡ length l.initial.buffer) × (l.buffer ≡ parts_up_to l.n l.allocations l.initial.buffer l.i)
+    (length l.buffer ≡ length l.initial.buffer) × (l.buffer ≡ parts_up_to l.allocated.count l.allocated.allocations l.initial.buffer l.i)
