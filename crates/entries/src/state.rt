@@ -111,10 +111,11 @@ impl TaskState {
             return NodeSet::from_bits(0);
         }
         let ended = self.job.ended;
+        let masks = &self.predecessors[..usize::from(self.nodes)];
         let mut set = 0;
-        // By index: v is the node too. It is below 32, and `usize` has no `From` to `u32`.
-        for v in 0..usize::from(self.nodes) {
-            set += node_if(is_unblocked(self.predecessors[v], ended), v as u32);
+        for (v, &mask) in masks.iter().enumerate() {
+            // Below 32, and `usize` has no `From` to `u32`.
+            set += node_if(is_unblocked(mask, ended), v as u32);
         }
         NodeSet::from_bits(set - (set & ended))
     }

@@ -81,12 +81,8 @@ impl NodeSet {
         if self.bits.count_ones() <= count {
             return self;
         }
-        let mut picked = 0;
         // `u32` has no `From` to `usize`.
-        for node in self.iter().take(count as usize) {
-            picked += bit(node);
-        }
-        NodeSet::from_bits(picked)
+        NodeSet::from_bits(self.iter().take(count as usize).map(bit).sum())
     }
 }
 

@@ -23,7 +23,8 @@ pub fn masks_lawful(masks: &[u32; 32], nodes: u8) -> bool
     requires { nodes ≤ 32 }
     ensures { result ≡ masks_lawful masks.now nodes }
 {
-    (0..usize::from(nodes)).all(|v| masks[v] >> v == 0)
+    let masks = &masks[..usize::from(nodes)];
+    masks.iter().enumerate().all(|(v, mask)| mask >> v == 0)
 }
 
 /// The level goes beside the figures, a byte (`level.rt` says why): a caller may have figures and no task, and methods
