@@ -41,8 +41,7 @@ pub fn write_state(line: &mut [u32], state: &State)
     line[0] = u32::from(state.processors);
     line[1] = u32::from(state.count);
     line[2] = u32::from(state.critical);
-    // By index: of what is written behind an adapter of `iter_mut` nothing is known.
-    for i in 0..16 {
-        write_entry(&mut line[3 + ENTRY_WORDS * i..], &state.entries[i]);
+    for (i, e) in state.entries.iter().enumerate() {
+        write_entry(&mut line[3 + ENTRY_WORDS * i..], e);
     }
 }
