@@ -57,7 +57,7 @@ pub fn budget_of(times: &[u32], masks: &[u32; 32]) -> Budget
     ensures { result ≡ budget_of masks.now (time_at times.now) (length times.now) }
 {
     let chains = chains_below(times.len(), times, masks);
-    // At most 32 nodes.
+    // At most 32 nodes, and `usize` has no `From` to `u32`.
     let nodes = NodeSet::full(times.len() as u32);
     Budget {
         work: total(times),

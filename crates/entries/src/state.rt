@@ -129,8 +129,8 @@ impl TaskState {
         self.ready().lowest(u32::from(self.share.in_mode(critical)))
     }
 
-    /// S8.6: whether a switch leaves the task's job: that of a high task, and that of a low one that is kept. S7.4: the
-    /// critical share of one that is not is 0.
+    /// S8.6: whether a switch leaves the task's job: that of a high task, and that of a low one that is kept. A low task
+    /// that is not kept has the critical share 0 (S7.4).
     #[tactic(auto, unfolding(model::specs::Row::survives, crate::specs::Entry::fixed_of, shares::specs::Low::is_kept, sheet::specs::Level::is_low))]
     pub fn survives(&self) -> bool
         ensures { result ≡ survives (fixed_of self.now) }

@@ -76,7 +76,7 @@ pub fn state_from(line: &[u32]) -> State
         critical: line[2] != 0,
         entries: [zero_entry(); 16],
     };
-    // By index: `chunks_exact(ENTRY_WORDS).enumerate()` was proved, and reads a line in 13 instructions more, of 7,155.
+    // By index: `chunks_exact(ENTRY_WORDS).enumerate()` was proved, and takes 13 of 7,155 instructions more for a line.
     for i in 0..16 {
         state.entries[i] = entry_from(&line[3 + ENTRY_WORDS * i..]);
     }

@@ -10,7 +10,7 @@ use crate::text::{BadFormat, Numerals};
 /// S14.5: the most nodes that are held.
 const NODES: u32 = 32;
 
-/// An entry as a node: its time, its mask, and whether it names lower numbers only (S14.4).
+/// An entry as a node: its time, its mask, and whether it names lower numbers only (S14.4), a mark as in a graph.
 #[derive(Clone, Copy)]
 struct Node {
     time: u16,

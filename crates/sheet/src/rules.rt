@@ -27,8 +27,8 @@ pub fn masks_lawful(masks: &[u32; 32], nodes: u8) -> bool
     masks.iter().enumerate().all(|(v, mask)| mask >> v == 0)
 }
 
-/// The level goes beside the figures, a byte (`level.rt` says why): a caller may have figures and no task, and methods
-/// of a task would ask it for one.
+/// The level goes beside the figures, a byte (`level.rt` says why): a whole `Task` in their place would ask every caller
+/// for masks too, which no rule of figures reads.
 impl Figures {
     /// S2.9: whether each figure is in the range of the level.
     #[tactic(auto, unfolding(crate::specs::Rules::in_range))]

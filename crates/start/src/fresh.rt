@@ -7,7 +7,7 @@ use entries::state::{Job, TaskState};
 use shares::share::Share;
 use sheet::task::Task;
 
-/// S8.1: no job is alive, and no node has ended. A constant, which no `Default` gives.
+/// S8.1: no job is alive, and no node has ended. A constant, in which `default()` can't be called.
 const NO_JOB: Job = Job {
     ended: 0,
     alive: false,
