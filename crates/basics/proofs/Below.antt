@@ -32,6 +32,11 @@ all_same (suc k) p q h = ap₂ ◌&&◌ (all_same k p q (λ v l. h v (omega arit
 pub all_fails : (k : ℕ) (p : ℕ → Bool) (v : ℕ) → v < k → p v ≡ false → all_below k p ≡ false
 all_fails k p v l e = false_from_ne_true _ (λ all. cc (all_at k p all v l))
 
+-- One more number.
+pub all_more : (n : ℕ) (test : ℕ → Bool) → all_below n test ≡ true → test n ≡ true → all_below (suc n) test ≡ true
+unfolding all_below
+all_more n test h e = rw (h, e)
+
 -- The numbers of a range that std lists, tested one by one.
 all_below-range : (test : ℕ → Bool) (first n : ℕ) → all_below (first + n) test ≡ (all_below first test && list_all test (range_with_len first n))
 unfolding all_below

@@ -7,7 +7,7 @@ use native.Mathlib.Omega.{arith}
 use native.Mathlib.Nat.{mod-add-div, mod-eq_of_lt, div-div-eq-div-mul}
 use lib.ListN.{length, set}
 use lib.Seq.{get_or-append-add, set_comm, sets}
-use Rattle.basics.specs.Numbers.{byte_at, u16_at, u32_at}
+use Rattle.basics.specs.Numbers.{byte_at, u16_at, u32_at, u32_bytes}
 
 -- Bytes in front move each place.
 module _ (front s : List ℕ) where
@@ -42,6 +42,17 @@ u32_whole x h =
     let high = mod-add-div (x / 256 / 256) 256 in
     rw (third, fourth, mod-eq_of_lt (fourth_small x _ _ _ _ _ _ h low second high))
     (u32_sum x _ _ _ _ _ _ low second high)
+
+-- Four stores are a u32's.
+pub u32_stored : (out : List ℕ) (at x : ℕ) →
+    set (set (set (set out at (x % 256)) (at + 1) (x / 256 % 256)) (at + 2) (x / 65536 % 256)) (at + 3) (x / 16777216 % 256)
+    ≡ sets out at (u32_bytes x)
+unfolding u32_bytes
+u32_stored out at x =
+    let one : at + 1 ≡ suc at = omega arith in
+    let two : at + 2 ≡ suc (suc at) = omega arith in
+    let three : at + 3 ≡ suc (suc (suc at)) = omega arith in
+    rw (one, two, three)
 
 -- A run of stores in two parts.
 pub sets-append : {A : Type 0} (out : List A) (at : ℕ) (xs ys : List A) → sets out at (xs ++ ys) ≡ sets (sets out at xs) (at + length xs) ys

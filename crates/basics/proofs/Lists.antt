@@ -1,12 +1,12 @@
 -- Laws of `range`, `filter` and `list_any`: lengths, elements, and tests that agree. By induction on the list
 -- or on the count of the range.
 use Rattle.std.specs.List.{list_any}
-use Rattle.std.specs.Prelude.{filter}
+use Rattle.std.specs.Prelude.{filter, flat_map}
 use Prim.Native.Nat.{ℕ, zero, suc, ◌+◌, ◌≤◌, ◌<◌}
 use mathlib.Core.Path.{◌≡◌, refl, sym, ap, ap₂, ◌∙◌}
 use mathlib.Core.Bool.{Bool, true, false, ◌||◌, false≢true}
 use mathlib.Core.List.{List, [], ◌∷◌, ◌++◌, map, Memᴰ}
-use native.Mathlib.Nat.{add-zero, zero-add}
+use native.Mathlib.Nat.{add-zero, zero-add, le_refl}
 use native.Mathlib.Omega.{arith}
 use lib.ListN.{length, get_or, replicate}
 use Rattle.std.proofs.lemmas.Bool.{or_parts}
@@ -77,6 +77,14 @@ filter_none p (x ∷ xs) fails = rw (fails x (Memᴰ.head refl)) (filter_none p 
 pub filter_all : (p : ℕ → Bool) (xs : List ℕ) → ((v : ℕ) → Memᴰ v xs → p v ≡ true) → filter p xs ≡ xs
 filter_all p [] passes = refl
 filter_all p (x ∷ xs) passes = rw (passes x (Memᴰ.head refl)) (ap (λ (vs : List ℕ). x ∷ vs) (filter_all p xs (λ v m. passes v (Memᴰ.tail m))))
+
+-- What two functions give for the numbers of a range is the same where they agree on these.
+pub flat_map_same : {A : Type 0} (f g : ℕ → List A) (first n : ℕ) → ((i : ℕ) → first ≤ i → i < first + n → f i ≡ g i) →
+    flat_map f (range first n) ≡ flat_map g (range first n)
+unfolding range
+flat_map_same f g first zero same = refl
+flat_map_same f g first (suc n) same =
+    ap₂ ◌++◌ (same first (le_refl first) (omega arith)) (flat_map_same f g (suc first) n (λ i low high. same i (omega arith) (omega arith)))
 
 -- Where no member passes, none does by its place, and the other way round; where some member passes, it has a place.
 module _ {A : Type 0} (test : A → Bool) (d : A) where

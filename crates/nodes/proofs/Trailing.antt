@@ -10,7 +10,7 @@ use native.Mathlib.Omega.{arith}
 use lib.Bits.{bit_and, and_step, and_self}
 use lib.Count.{count_trailing_zeros}
 use Rattle.nodes.specs.Sets.{has, members}
-use Rattle.nodes.proofs.Bits.{digit_cases, has_first, has_next, within_power, within_le}
+use Rattle.nodes.proofs.Bits.{digit_cases, has_first, has_next, has_lt, within_power, within_le}
 use Rattle.nodes.proofs.Members.{members_zero, members_next}
 
 -- An even set has zeros of its half and one more; an odd set has none.
@@ -37,7 +37,10 @@ has_trailing (suc k) set low high = go (digit_cases set) (λ pos. has_trailing k
     go (inl e) rest = rw (trailing_even k set e, has_next set (count_trailing_zeros k (set / 2))) (rest (omega arith))
     go (inr e) rest = rw (trailing_odd k set e, has_first set, e)
 
--- Its power is a part of the set.
+-- It lies below the width, and its power is a part of the set.
+pub trailing_lt : (k set : ℕ) → 0 < set → set < 2 ^ k → count_trailing_zeros k set < k
+trailing_lt k set low high = has_lt k set (count_trailing_zeros k set) high (has_trailing k set low high)
+
 pub trailing_power : (k set : ℕ) → 0 < set → set < 2 ^ k → 2 ^ count_trailing_zeros k set ≤ set
 trailing_power k set low high =
     within_le (2 ^ count_trailing_zeros k set) set (within_power set (count_trailing_zeros k set) (has_trailing k set low high))

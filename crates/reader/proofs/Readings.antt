@@ -10,12 +10,19 @@ use Rattle.std.proofs.lemmas.Bool.{and_parts}
 use Rattle.basics.proofs.Logic.{within_bounds}
 use Rattle.sheet.specs.declared.refusal.Refusal.{Refusal}
 use Rattle.sheet.specs.declared.refusal.Refusal.TheVariants.{BadHeader}
+use Rattle.sheet.specs.declared.task.Task.{Task}
 use Rattle.sheet.specs.declared.task.TaskSet.{TaskSet}
 use Rattle.sheet.specs.Refusal.{Answer, ◌or_else◌, first_over}
-use Rattle.sheet.specs.Format.{processors_of, count_of, task_set_of}
+use Rattle.sheet.specs.Format.{processors_of, count_of, tasks_below, task_set_of}
 use Rattle.basics.specs.Numbers.{within}
 use Rattle.reader.specs.Reading.{header_lawful, header_answer, place_answer, end_answer, record_answer, read_of, read_answer}
 use Rattle.sheet.proofs.Faults.{after_accepted, after_refused, or_else_ok, or_else_err}
+
+-- The task set of a sheet, by its fields.
+pub set_whole : (s : List ℕ) (processors count : ℕ) (tasks : List Task) → processors ≡ processors_of s → count ≡ count_of s →
+    tasks ≡ tasks_below s (count_of s) → ◌≡◌ {A = TaskSet} (record { processors = processors; count = count; tasks = tasks }) (task_set_of s)
+unfolding task_set_of
+set_whole s processors count tasks p c t = rw (p, c, t)
 
 -- Causes in order may be bracketed either way.
 pub or_else_assoc : {A : Type 0} (x y : Answer) (z : Result A Refusal) → ((x or_else y) or_else z) ≡ (x or_else y or_else z)

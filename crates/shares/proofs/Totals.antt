@@ -26,6 +26,17 @@ total_part true shares zero = omega arith
 total_part true [] (suc i) = omega arith
 total_part true (s ∷ shares) (suc i) = omega (arith, total_part true shares i)
 
+-- More tasks total no less.
+pub total_more : (mode : Bool) (shares : List Share) (i j : ℕ) → i ≤ j → share_total mode (take i shares) ≤ share_total mode (take j shares)
+total_more false shares zero j h = omega arith
+total_more false [] (suc i) j h = omega arith
+total_more false (s ∷ shares) (suc i) zero h = absurd (omega arith)
+total_more false (s ∷ shares) (suc i) (suc j) h = omega (arith, total_more false shares i j (omega arith))
+total_more true shares zero j h = omega arith
+total_more true [] (suc i) j h = omega arith
+total_more true (s ∷ shares) (suc i) zero h = absurd (omega arith)
+total_more true (s ∷ shares) (suc i) (suc j) h = omega (arith, total_more true shares i j (omega arith))
+
 -- The first i shares, and the next one.
 pub total_next : (mode : Bool) (shares : List Share) (i : ℕ) → i < length shares →
     share_total mode (take (i + 1) shares) ≡ share_total mode (take i shares) + share_in mode (share_at shares i)
