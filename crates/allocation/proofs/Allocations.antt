@@ -9,7 +9,7 @@ use lib.ListN.{length, take, set, replicate}
 use Rattle.sheet.specs.declared.task.TaskSet.{TaskSet}
 use Rattle.sheet.specs.Format.{task_in, task_set_of}
 use Rattle.basics.specs.Lists.{cells}
-use Rattle.basics.proofs.Cells.{cells_none, cells_store, cells_at, cells_same}
+use Rattle.basics.proofs.Cells.{cells_none, cells_store, cells-length, cells_at, cells_same}
 use Rattle.std.specs.Prelude.{Ok, Err}
 use Rattle.sheet.specs.declared.refusal.Refusal.{Refusal}
 use Rattle.sheet.specs.Refusal.{Answer, ◌or_else◌}
@@ -41,6 +41,10 @@ module _ (tasks : TaskSet) (shares : List Share) where
       set (cells 16 (allocation_of tasks shares) no_allocation i) i (allocation_of tasks shares i)
       ≡ cells 16 (allocation_of tasks shares) no_allocation (i + 1)
   allocations_store i h = cells_store (allocation_of tasks shares) no_allocation 16 i h
+
+  pub allocations_length : length (allocations_of tasks shares) ≡ 16
+  unfolding allocations_of
+  allocations_length = cells-length (allocation_of tasks shares) no_allocation 0 16 tasks.count
 
   pub allocations_at : tasks.count ≤ 16 → (i : ℕ) → i < tasks.count → allocation_at (allocations_of tasks shares) i ≡ allocation_of tasks shares i
   unfolding allocation_at allocations_of
@@ -118,6 +122,11 @@ module _ (s : List ℕ) where
   pub allocated_refused : {r : Refusal} → allocation_answer s ≡ Err r → Err r ≡ allocated_of s
   unfolding allocated_of
   allocated_refused refused = rw refused
+
+  -- What is fixed for a sheet is a line of sixteen.
+  pub allocated_length : length (allocations_for s) ≡ 16
+  unfolding allocations_for
+  allocated_length = allocations_length (task_set_of s) (shares_of (task_set_of s))
 
   module _ (accepted : allocation_answer s ≡ Ok tt) where
     both_passed : (read_answer s ≡ Ok tt) × (choice_answer (task_set_of s) ≡ Ok tt)

@@ -1,14 +1,36 @@
--- The cells of offers and totals: what tabulated numbers say.
+-- The cells of offers and totals: an offer's cells one after the other, and what tabulated numbers say.
 use Prim.Native.Nat.{ℕ, zero, suc, ◌+◌, ◌≤◌, ◌<◌}
-use mathlib.Core.Path.{◌≡◌, refl, ap}
-use mathlib.Core.Bool.{Bool, true, false}
+use mathlib.Core.Path.{◌≡◌, refl, sym, ap, ◌∙◌}
+use mathlib.Core.Bool.{Bool, true, false, ◌&&◌}
 use mathlib.Core.Logic.{◌⊎◌, inl, inr}
 use mathlib.Core.List.Memᴰ
-use mathlib.Core.List.{◌∷◌, Memᴰ}
+use mathlib.Core.List.{List, ◌∷◌, Memᴰ}
+use native.Mathlib.Numerals.{add-one}
 use native.Mathlib.Omega.{arith}
-use lib.Dec.{leb}
-use borrow.Author.Tests.{leb-true, leb-false}
+use lib.Dec.{leb, ltb}
+use lib.ListN.{length, get_or, drop, drop_of_length-le}
+use lib.Seq.{drop-cons}
+use borrow.Author.Tests.{lt-ltb, le-ltb, leb-true, leb-false}
 use Rattle.shares.specs.Offer.{tabulate}
+use Rattle.allocation.specs.means.Selection.{offers_none}
+
+module _ (M : ℕ) (offer : List ℕ) (i : ℕ) (inside : i < length offer) where
+  offers_open : offers_none M (drop i offer) ≡ ltb M (get_or offer i 0) && offers_none M (drop (i + 1) offer)
+  unfolding offers_none
+  offers_open = rw (drop-cons offer i 0, add-one i)
+
+  -- A cell past M leaves it to the next ones.
+  pub offers_on : M < get_or offer i 0 → offers_none M (drop (i + 1) offer) ≡ offers_none M (drop i offer)
+  offers_on past = sym (offers_open ∙ ap (λ (t : Bool). t && offers_none M (drop (i + 1) offer)) (lt-ltb M (get_or offer i 0) past))
+
+  -- A cell within M is offered.
+  pub offers_stop : get_or offer i 0 ≤ M → offers_none M (drop i offer) ≡ false
+  offers_stop within = offers_open ∙ ap (λ (t : Bool). t && offers_none M (drop (i + 1) offer)) (le-ltb M (get_or offer i 0) within)
+
+-- Behind the last cell nothing is offered.
+pub offers_end : (M : ℕ) (offer : List ℕ) (i : ℕ) → length offer ≤ i → offers_none M (drop i offer) ≡ true
+unfolding offers_none
+offers_end M offer i done = rw (drop_of_length-le offer done)
 
 -- The members of tabulated numbers.
 pub tabulate_from : (g : ℕ → ℕ) (k n x : ℕ) → Memᴰ x (tabulate g k n) → (a : ℕ) × ((k ≤ a) × (x ≡ g a))

@@ -7,7 +7,7 @@ use native.Mathlib.Omega.{arith}
 use native.Mathlib.Decide.{dec_le}
 use lib.ListN.{length, get_or, take, drop, set, replicate, length-map, get_or-map, get_or-eq_default}
 use lib.Seq.{drop-cons, get_or-take, get_or-drop, drop-drop, length-take-le}
-use Rattle.basics.specs.Lists.{cells}
+use Rattle.basics.specs.Lists.{cells, cells_from}
 use Rattle.std.proofs.lemmas.List.{drop_all}
 use Rattle.basics.proofs.Cells.{cells_none, cells_store, cells_at}
 use Rattle.shares.specs.declared.share.Share.{Share}
@@ -264,3 +264,8 @@ pub sixteen_is : (n : ℕ) (shares : List Share) → length shares ≡ n →
     cells 16 (λ j. get_or shares j no_processors) no_processors n ≡ sixteen shares
 unfolding sixteen
 sixteen_is n shares long = rw long
+
+-- No shares as a line of sixteen.
+pub sixteen_none : replicate 16 no_processors ≡ sixteen []
+unfolding sixteen cells_from
+sixteen_none = refl

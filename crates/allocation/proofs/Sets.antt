@@ -14,12 +14,12 @@ use lib.Seq.{drop-cons, length-take-le, get_or-take}
 use borrow.Author.Tests.{ltb-true, lt-ltb}
 use Rattle.sheet.specs.declared.task.Task.{Task}
 use Rattle.sheet.specs.declared.task.TaskSet.{TaskSet}
-use Rattle.std.specs.Prelude.{Result, Ok, Err, unwrap_or}
+use Rattle.std.specs.Prelude.{Result, Ok, Err, None, unwrap_or}
 use Rattle.allocation.proofs.Directory.{tasks_length}
 use Rattle.sheet.specs.declared.refusal.Refusal.{Refusal}
 use Rattle.sheet.specs.declared.refusal.Refusal.TheVariants.{NoShare}
 use Rattle.sheet.specs.Refusal.{Answer, refused_if, ◌or_else◌, first_over}
-use Rattle.basics.specs.Lists.{is_empty}
+use Rattle.basics.specs.Lists.{is_empty, range}
 use Rattle.sheet.specs.Format.{task_in, missing_task}
 use Rattle.basics.proofs.Cells.{cells-length, cells_at}
 use Rattle.sheet.proofs.Faults.{over_same}
@@ -29,7 +29,8 @@ use Rattle.shares.proofs.Levels.{critical_within, critical_bound, critical_past}
 use Rattle.shares.proofs.Offers.{offer_at}
 use Rattle.allocation.specs.Choice.{options_of, choices, fits, fitting, chosen}
 use Rattle.shares.specs.Totals.{no_processors}
-use Rattle.allocation.specs.Allocation.{tasks_of, chosen_for, share_answer, choice_answer, sixteen, choice_of}
+use Rattle.keeping.specs.Kept.{with_kept}
+use Rattle.allocation.specs.Allocation.{tasks_of, chosen_for, share_answer, choice_answer, sixteen, shares_with, shares_of, choice_of}
 use Rattle.allocation.specs.Lawful.{LawfulTask, LawfulSet}
 use Rattle.allocation.specs.means.Selection.{cell_at, offered, selected, zero_offer, missing_offer, offers_of, offers_none, offer_answer, offers_up_to, selection_of, OfferWithin, OffersWithin}
 use Rattle.basics.proofs.Members.{filter_from, all_member, all-members}
@@ -41,6 +42,11 @@ use Rattle.allocation.proofs.Lines.{table_within, offers_open, offers_length}
 -- The answer on a task set beside the choice, before low tasks are kept.
 abbrev pub chosen_line : TaskSet → Result (List Share) Refusal
 chosen_line set = choice_answer set or_else Ok (sixteen (unwrap_or (chosen_for set) []))
+
+-- Where nothing is chosen there are no shares.
+pub none_shares : (set : TaskSet) → chosen_for set ≡ None → shares_of set ≡ []
+unfolding shares_of shares_with with_kept range
+none_shares set e = rw e
 
 -- The offer of a lawful task, as 64 numbers.
 module _ (M : ℕ) (t : Task) (small : M ≤ 64) (lawful : LawfulTask t) where

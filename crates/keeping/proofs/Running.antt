@@ -64,6 +64,11 @@ module _ (n : ℕ) (shares : List Share) where
 
 -- What is found of the next task to keep.
 module _ {M n : ℕ} {shares : List Share} where
+  -- A total within M is that of a task.
+  pub next_inside : {i x : ℕ} → Next M n shares i x → x ≤ M → i < n
+  next_inside (none more) to = absurd (omega arith)
+  next_inside (found inside low fits first) to = inside
+
   -- The total rises, since the task has a typical share.
   pub next_above : Keepable M n shares → {i x : ℕ} → Next M n shares i x → critical_total (take n shares) < x
   next_above able (none more) = let fits = able.fits in omega arith

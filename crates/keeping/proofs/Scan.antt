@@ -37,6 +37,10 @@ module _ (M n : ℕ) (shares : List Share) where
     a_task : task < i → critical_share_at shares task ≡ 0 → below ≡ with task → below ≤ M →
         ((j : ℕ) → j < i → critical_share_at shares j ≡ 0 → NotAfter (typical_share_at shares) task j) → Seen i task below
 
+  -- Before any task is seen there is none.
+  pub seen_none : (task below : ℕ) → task ≡ n → below ≡ M + 1 → Seen 0 task below
+  seen_none task below no_one whole = nothing_seen no_one whole (λ j before low. absurd (omega arith))
+
   at_least : (i task below : ℕ) → Seen i task below → (j : ℕ) → j < i → critical_share_at shares j ≡ 0 → below ≤ with j
   at_least i task below (nothing_seen none_yet whole more) j before low = let past = more j before low in omega arith
   at_least i task below (a_task inside zero-share same fits first) j before low = go (first j before low)

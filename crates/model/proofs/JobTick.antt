@@ -11,7 +11,7 @@ use lib.Dec.{leb, eqb}
 use borrow.Author.Tests.{leb-true, leb-false, le-leb, lt-leb, eq-eqb, ne_eqb}
 use Rattle.model.specs.Budget.{sum_below}
 use Rattle.basics.specs.Lists.{all_below, bit, count}
-use Rattle.basics.proofs.Below.{all_same, all_fails}
+use Rattle.basics.proofs.Below.{all_at, all_same, all_fails}
 use Rattle.model.proofs.Sums.{lowest, LeastFailing, least_failing, sum_add, sum_bits, lowest_passes, lowest_same}
 use Rattle.model.proofs.Chains.{Earlier}
 
@@ -47,6 +47,22 @@ module _ {k : ℕ} {done : ℕ → Bool} where
 
   pub some_alive : Alive k done → all_below k done ≡ false
   some_alive w = all_fails k done w.node w.below w.unended
+
+  -- Either some node is not done, or all are.
+  pub alive_or_done : Alive k done ⊎ (all_below k done ≡ true)
+  alive_or_done = go (all_below k done) refl
+    where
+      go : (t : Bool) → all_below k done ≡ t → Alive k done ⊎ (all_below k done ≡ true)
+      go true e = inr e
+      go false e = inl (alive_some e)
+
+  -- None is left just where each node is done.
+  pub not_alive_iff_done : (¬ Alive k done) ↔ ((v : ℕ) → v < k → done v ≡ true)
+  not_alive_iff_done = (done_of alive_or_done, λ all w. true≢false (sym (all w.node w.below) ∙ w.unended))
+    where
+      done_of : Alive k done ⊎ (all_below k done ≡ true) → ¬ Alive k done → (v : ℕ) → v < k → done v ≡ true
+      done_of (inl w) h v l = absurd (h w)
+      done_of (inr all) h v l = all_at k done all v l
 
 pub alive_same : {k : ℕ} {d e : ℕ → Bool} → ((v : ℕ) → v < k → d v ≡ e v) → Alive k d → Alive k e
 alive_same h w = record { node = w.node; below = w.below; unended = sym (h w.node w.below) ∙ w.unended }
