@@ -6,8 +6,11 @@ use mathlib.Core.List.{List, [], ◌∷◌, ◌++◌, Memᴰ, append_assoc, appe
 use native.Mathlib.Nat.{add-zero}
 use native.Mathlib.Omega.{arith}
 use native.Mathlib.Numerals.{add-one}
+use borrow.Author.Tests.{eq-eqb, ne_eqb}
 use lib.ListN.{length, get_or, set, take, drop, replicate, length-append, length-replicate, length-set, replicate-append-replicate}
 use lib.Seq.{sets, sets-eq, drop_at, take-append_seam, drop-append-add, take_all}
+use Rattle.std.specs.Prelude.{Ok, Err}
+use Rattle.sheet.specs.declared.refusal.Refusal.TheVariants.{NotSound, WrongLength}
 use Rattle.nodes.specs.Sets.{members}
 use Rattle.nodes.proofs.Members.{members_mem}
 use Rattle.shares.specs.Totals.{share_in}
@@ -18,7 +21,7 @@ use Rattle.dispatcher.specs.declared.state.State.{State}
 use Rattle.entries.specs.Entry.{fixed_of, row_of}
 use Rattle.dispatcher.specs.Holds.{model_of}
 use Rattle.dispatcher.specs.Sound.{is_sound}
-use Rattle.dispatcher.specs.Board.{unused, idle, pairs_of, block, blocks, board_bytes}
+use Rattle.dispatcher.specs.Board.{unused, idle, pairs_of, block, blocks, board_bytes, board_answer}
 use Rattle.entries.proofs.NodeSets.{running-members}
 use Rattle.entries.proofs.Soundness.{few_nodes}
 use Rattle.dispatcher.proofs.Soundness.{shares_in, state_facts}
@@ -54,6 +57,12 @@ module _ (whole : List ℕ) (bytes task : ℕ) (buffer : List ℕ) (place : ℕ)
           room = omega (arith, w.room, ap length first);
           rest = rw (next, add-one place) rest;
         }
+
+  -- With none left to write, what is written is the whole.
+  pub written_whole : left ≡ [] → buffer ≡ whole
+  written_whole none =
+      let done : sets buffer place (pairs_of task []) ≡ whole = rw none at w.rest in
+      done
 
 -- The lengths of pairs and of a block.
 pub pairs_length : (task : ℕ) (nodes : List ℕ) → length (pairs_of task nodes) ≡ 2 * length nodes
@@ -258,3 +267,17 @@ module _ (s : State) (long : s.count ≤ length s.entries) (sound : is_sound s �
       b.bytes
       ∙ board_whole s.processors s.critical (model_of s).rows (shares_fit s sound) i (omega (arith, model_length s long))
       ∙ ap (λ (xs : List ℕ). xs ++ idle (s.processors - shares_in s.critical (model_of s).rows)) (sym (blocks-granted (model_of s)))
+
+-- Board by its answer: refusal 10, refusal 16, or acceptance.
+module _ (s : State) (bytes : ℕ) where
+  pub answer_unsound : is_sound s ≡ false → board_answer s bytes ≡ Err NotSound
+  unfolding board_answer
+  answer_unsound e = rw e
+
+  pub answer_length : is_sound s ≡ true → (bytes ≡ 2 * s.processors → ⊥) → board_answer s bytes ≡ Err WrongLength
+  unfolding board_answer
+  answer_length e other = rw (e, ne_eqb bytes (2 * s.processors) other)
+
+  pub answer_accepted : is_sound s ≡ true → bytes ≡ 2 * s.processors → board_answer s bytes ≡ Ok tt
+  unfolding board_answer
+  answer_accepted e same = rw (e, eq-eqb bytes (2 * s.processors) same)

@@ -163,6 +163,12 @@ module _ (s : State) (reports : List ℕ) (long : s.count ≤ length s.entries) 
         written = sym (written_none s long);
       }
 
+  -- The number of tasks is kept.
+  pub scanned_count : (i typical critical : ℕ) (wrong late : Option ℕ) (high : Bool) (next : State) → Scanned s reports i typical critical wrong late high next
+      → next.count ≡ s.count
+  unfolding with_model
+  scanned_count i typical critical wrong late high next p = ap (λ (t : State). t.count) p.written
+
   -- The entry of the turn is as it came.
   pub scanned_entry : (i typical critical : ℕ) (wrong late : Option ℕ) (high : Bool) (next : State) (at : ℕ)
       → Scanned s reports i typical critical wrong late high next → i ≤ s.count → at ≡ i → get_or next.entries at no_entry ≡ entry_at s i

@@ -11,7 +11,8 @@ use Rattle.std.specs.Char.{is_ascii_digit}
 use Rattle.std.specs.Prelude.{Some, None, Ok, Err, Option}
 use Rattle.std.specs.Option.{SomeIff, ok_or}
 use Rattle.graph_text.specs.declared.text.BadFormat.{BadFormat}
-use borrow.Author.Tests.{eqb-true, le-leb, lt-leb, ne_eqb}
+use borrow.Author.Tests.{eqb-true, leb-true, le-leb, lt-leb, ne_eqb}
+use Rattle.std.proofs.lemmas.Bool.{and_parts}
 use Rattle.basics.specs.Digits.{digit, is_digit, value_of}
 use Rattle.basics.proofs.Digits.{value_both, digits_both}
 use Rattle.graph_text.specs.Text.{end_mark, before_mark, is_blank, word_before, words_after, words_of, numeral_limit, is_numeral, numbers_of, numerals_of}
@@ -28,6 +29,13 @@ blank_no_mark b h = unlike is_blank b end_mark refl h
 pub digit_no_mark : (b : ℕ) → is_digit b ≡ true → eqb b end_mark ≡ false
 unfolding is_digit
 digit_no_mark b h = unlike is_digit b end_mark refl h
+
+-- A digit's byte is that of `0` at least, and that of `9` at most.
+pub digit-within : (b : ℕ) → is_digit b ≡ true → (48 ≤ b) × (b ≤ 57)
+unfolding is_digit
+digit-within b h =
+    let both = and_parts (leb (digit 0) b) (leb b (digit 9)) h in
+    (leb-true (digit 0) b both.0, leb-true b (digit 9) both.1)
 
 pub digit_no_blank : (b : ℕ) → is_digit b ≡ true → is_blank b ≡ false
 unfolding is_blank is_digit

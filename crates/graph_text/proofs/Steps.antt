@@ -1,14 +1,17 @@
 -- One step of a reading: a numeral more, or none, and what is then left to take.
 use Prim.Native.Nat.{ℕ, zero, suc, ◌-◌, ◌<◌}
-use mathlib.Core.Bool.{false}
+use mathlib.Core.Bool.{Bool, true, false, cond, ◌&&◌}
 use mathlib.Core.List.{List, [], ◌∷◌}
-use mathlib.Core.Path.{◌≡◌, refl, ◌∙◌}
+use mathlib.Core.Path.{◌≡◌, refl, sym, ◌∙◌}
 use native.Mathlib.Omega.{arith}
-use Rattle.std.specs.Prelude.{Option, None, Some}
+use lib.Dec.{eqb}
+use Rattle.std.specs.Prelude.{Option, None, Some, Result, Ok, Err}
+use Rattle.graph_text.specs.declared.text.BadFormat.{BadFormat}
 use Rattle.graph_text.specs.declared.graph.Node.{Node}
 use Rattle.graph_text.specs.declared.graph.NodeGraph.{NodeGraph}
+use Rattle.graph_text.specs.Graph.{time_lawful}
 use Rattle.graph_text.specs.means.Scan.{number_before, has_first}
-use Rattle.graph_text.specs.means.Entries.{Taken, taken_from, taken_before, after_taken, with_named, named_from, entry_from, held_with, held_from, held_of}
+use Rattle.graph_text.specs.means.Entries.{Taken, taken_from, taken_before, Reads, after_taken, with_named, named_from, node_with, entry_from, held_with, held_from, held_of}
 
 -- Where no numeral was told, there is nothing to take for what needs one.
 pub no_numeral : {A : Type 0} (take : List ℕ → Option (Taken A)) (old : Option (List ℕ)) → has_first old ≡ false → take [] ≡ None →
@@ -35,6 +38,29 @@ pub named_all_taken : (v left : ℕ) (node : Node) (numerals : Option (List ℕ)
 unfolding named_from
 named_all_taken v left node None e = refl
 named_all_taken v left node (Some numerals) e = rw e
+
+-- The same of a rest behind a number.
+pub taken_behind : {A : Type 0} (take : List ℕ → Option (Taken A)) (n : ℕ) (numerals : Option (List ℕ)) →
+    taken_from take (number_before n numerals) ≡ taken_from (λ rest. take (n ∷ rest)) numerals
+taken_behind take n None = refl
+taken_behind take n (Some rest) = refl
+
+-- An entry whose three first numerals are read.
+pub entry_behind : (count v number time many : ℕ) (numerals : Option (List ℕ)) →
+    taken_from (entry_from count v) (number_before number (number_before time (number_before many numerals)))
+    ≡ cond (eqb number v && time_lawful count v time) (taken_from (named_from v many (node_with time)) numerals) None
+entry_behind count v number time many None = sym (both (eqb number v && time_lawful count v time))
+  where
+    both : (t : Bool) → cond t (taken_from (named_from v many (node_with time)) None) None ≡ None
+    both true = refl
+    both false = refl
+entry_behind count v number time many (Some rest) = refl
+
+-- What is told of a reading is told of another that takes the same.
+pub reads_same : (take other : List ℕ → Option (Taken Node)) (from at new : Option (List ℕ)) (r : Result Node BadFormat) →
+    taken_from take from ≡ taken_from other at → Reads other at new r → Reads take from new r
+reads_same take other from at new (Ok node) same told = same ∙ told
+reads_same take other from at new (Err e) same told = same ∙ told
 
 -- One entry more is held, or none could be.
 module _ (count v more : ℕ) (held : NodeGraph) where

@@ -3,6 +3,7 @@ use Prim.Native.Nat.{ℕ, zero, suc, ◌/◌, ◌%◌, ◌≤◌, ◌<◌}
 use mathlib.Core.Bool.{Bool, true, false, cond}
 use mathlib.Core.List.{List, [], ◌∷◌, ◌++◌}
 use mathlib.Core.Path.{◌≡◌, refl, sym, ap, ◌∙◌}
+use native.Mathlib.Nat.{div-lt_self}
 use native.Mathlib.Omega.{arith}
 use lib.Dec.{ltb}
 use lib.ListN.{get_or}
@@ -11,6 +12,10 @@ use Rattle.std.specs.List.{list_all}
 use Rattle.basics.specs.Digits.{digit, is_digit}
 use Rattle.basics.proofs.Digits.{value_both, digits_both}
 use Rattle.plan_text.specs.Decimal.{digits_within, decimal, IsDecimal}
+
+-- A tenth of what is not 0 is smaller.
+pub tenth : (n : ℕ) → 1 ≤ n → n / 10 < n
+tenth n h = div-lt_self (omega arith) (omega arith)
 
 -- Any allowance of n or more gives the same digits.
 same_digits : (k j n : ℕ) → n ≤ k → n ≤ j → digits_within k n ≡ digits_within j n

@@ -3,6 +3,7 @@ use Rattle.std.proofs.Common.{◌≡◌, ℕ, suc, ◌+◌, ◌<◌, List, [], �
 use Rattle.std.proofs.Math.Seq.{take-suc, set_at, length-take-le}
 use Rattle.std.proofs.lemmas.List.{get_or-take}
 use Rattle.sheet.specs.Refusal.{no_task}
+use Rattle.plan_cases.proofs.accepted.Invariants.{numbers_at}
 use Rattle.plan_cases.proofs.accepted.Goals as goal
 
 -- One byte copied to the front of another list, after those before it.
@@ -18,8 +19,8 @@ copy_step xs ys i h g =
     )
 
 -- The same behind two numbers.
-one_more : (plan numbers : List ℕ) (i : ℕ) → i < 18 → i < length plan → numbers ≡ 0 ∷ no_task ∷ (take i plan ++ drop i (replicate 18 0)) →
-    set numbers (i + 2) (get_or plan i 0) ≡ 0 ∷ no_task ∷ (take (i + 1) plan ++ drop (i + 1) (replicate 18 0))
+one_more : (plan numbers : List ℕ) (i : ℕ) → i < 18 → i < length plan → numbers ≡ numbers_at plan i →
+    set numbers (i + 2) (get_or plan i 0) ≡ numbers_at plan (i + 1)
 one_more plan numbers i h g e =
     let place : i + 2 ≡ suc (suc i) = omega arith in
     rw (e, place) (ap (λ (l : List ℕ). 0 ∷ no_task ∷ l) (copy_step plan (replicate 18 0) i g h))
