@@ -41,6 +41,18 @@ module _ (b : List ℕ) (at : ℕ) where
       go false true e = absurd (cc)
       go false false e = refl
 
+  pub asked_release : byte_at b at ≡ 0 → asked_at b at ≡ 5
+  unfolding asked_at
+  asked_release e = rw (eq-eqb (byte_at b at) 0 e)
+
+  pub asked_tick : (byte_at b at ≡ 0 → ⊥) → byte_at b at ≡ 1 → asked_at b at ≡ 2 + 4 * byte_at b (at + 1)
+  unfolding asked_at
+  asked_tick n e = rw (ne_eqb (byte_at b at) 0 n, eq-eqb (byte_at b at) 1 e)
+
+  pub asked_other : (byte_at b at ≡ 0 → ⊥) → (byte_at b at ≡ 1 → ⊥) → asked_at b at ≡ 0
+  unfolding asked_at
+  asked_other n m = rw (ne_eqb (byte_at b at) 0 n, ne_eqb (byte_at b at) 1 m)
+
   pub size_whole : at + asked_at b at ≤ length b → size_at b at ≡ asked_at b at
   unfolding size_at
   size_whole h = rw (le-leb (at + asked_at b at) (length b) h)
@@ -92,14 +104,55 @@ module _ (b : List ℕ) (at : ℕ) where
       go (yes z) = z
       go (no n) = absurd (omega (arith, (whole_inside (omega arith)).0, (whole_inside (omega arith)).1))
 
-  calls_none : (most : ℕ) → size_at b at ≡ 0 → calls_from most b at ≡ []
+  -- A Release ends within the log, and so does a Tick with its reports.
+  pub release_inside : 1 ≤ size_at b at → byte_at b at ≡ 0 → at + 5 ≤ length b
+  release_inside some e = omega (arith, (whole_inside some).1, asked_release e)
+
+  pub tick_inside : 1 ≤ size_at b at → (byte_at b at ≡ 0 → ⊥) → at + 2 + 4 * byte_at b (at + 1) ≤ length b
+  tick_inside some n = go (ℕ_discrete (byte_at b at) 1)
+    where
+      go : Dec (byte_at b at ≡ 1) → at + 2 + 4 * byte_at b (at + 1) ≤ length b
+      go (yes e) = omega (arith, (whole_inside some).1, asked_tick n e)
+      go (no m) = absurd (omega (arith, (whole_inside some).0, asked_other n m))
+
+  pub call_release : byte_at b at ≡ 0 → call_at b at ≡ release (u32_at b (at + 1))
+  unfolding call_at
+  call_release e = rw (eq-eqb (byte_at b at) 0 e)
+
+  pub call_tick : (byte_at b at ≡ 0 → ⊥) → call_at b at ≡ tick (reports_at b (at + 2) (byte_at b (at + 1)))
+  unfolding call_at
+  call_tick n = rw (ne_eqb (byte_at b at) 0 n)
+
+  -- Where the log ends there are no calls, and else there is one more.
+  pub calls_none : (most : ℕ) → size_at b at ≡ 0 → calls_from most b at ≡ []
   unfolding calls_from
   calls_none zero e = refl
   calls_none (suc most) e = rw (eq-eqb (size_at b at) 0 e)
 
-  calls_next : (most : ℕ) → 1 ≤ size_at b at → calls_from (suc most) b at ≡ call_at b at ∷ calls_from most b (at + size_at b at)
+  pub calls_next : (most : ℕ) → (size_at b at ≡ 0 → ⊥) → calls_from (suc most) b at ≡ call_at b at ∷ calls_from most b (at + size_at b at)
   unfolding calls_from
-  calls_next most some = rw (ne_eqb (size_at b at) 0 (λ z. omega arith))
+  calls_next most n = rw (ne_eqb (size_at b at) 0 n)
+
+  -- Where calls are left, one stands whole.
+  pub call_left : (most : ℕ) → length (calls_from (suc most) b at) ≡ suc most → 1 ≤ size_at b at
+  call_left most e = go (ℕ_discrete (size_at b at) 0)
+    where
+      go : Dec (size_at b at ≡ 0) → 1 ≤ size_at b at
+      go (yes z) = absurd (omega (arith, e, ap length (calls_none (suc most) z)))
+      go (no n) = omega arith
+
+-- As many calls as there are, are all.
+pub calls_exact : (most : ℕ) (b : List ℕ) (at : ℕ) → calls_from (length (calls_from most b at)) b at ≡ calls_from most b at
+unfolding calls_from
+calls_exact zero b at = refl
+calls_exact (suc most) b at = go (ℕ_discrete (size_at b at) 0) (calls_exact most b (at + size_at b at))
+  where
+    go : Dec (size_at b at ≡ 0) → calls_from (length (calls_from most b (at + size_at b at))) b (at + size_at b at) ≡ calls_from most b (at + size_at b at)
+        → calls_from (length (calls_from (suc most) b at)) b at ≡ calls_from (suc most) b at
+    go (yes z) rest = rw (calls_none b at (suc most) z)
+    go (no n) rest =
+        rw (calls_next b at most n)
+        (calls_next b at (length (calls_from most b (at + size_at b at))) n ∙ ap (λ (l : List Call). call_at b at ∷ l) rest)
 
 -- More calls than bytes are never asked for.
 calls_enough : (m n : ℕ) (b : List ℕ) (at : ℕ) → length b ≤ at + m → length b ≤ at + n → calls_from m b at ≡ calls_from n b at
@@ -113,7 +166,7 @@ calls_enough (suc m) (suc n) b at h k =
     go (yes z) rest = calls_none b at (suc m) z ∙ sym (calls_none b at (suc n) z)
     go (no z) rest =
         let some : 1 ≤ size_at b at = omega arith in
-        calls_next b at m some ∙ ap (λ (l : List Call). call_at b at ∷ l) (rest some) ∙ sym (calls_next b at n some)
+        calls_next b at m z ∙ ap (λ (l : List Call). call_at b at ∷ l) (rest some) ∙ sym (calls_next b at n z)
 
 calls_few : (most : ℕ) (b : List ℕ) (at : ℕ) → length (calls_from most b at) ≤ most
 unfolding calls_from
@@ -131,7 +184,7 @@ unfolding calls_of
 no_more_calls b = calls_few (length b) b 0
 
 -- One report more.
-reports_more : (b : List ℕ) (at i : ℕ) → reports_at b at (i + 1) ≡ reports_at b at i ++ (u32_at b (at + 4 * i) ∷ [])
+pub reports_more : (b : List ℕ) (at i : ℕ) → reports_at b at (i + 1) ≡ reports_at b at i ++ (u32_at b (at + 4 * i) ∷ [])
 unfolding reports_at range
 reports_more b at i =
     let e : 0 + i ≡ i = omega arith in
@@ -254,7 +307,7 @@ calls_step b k n e asked some inside =
     let more : length b ≡ suc (length b - 1) = omega arith in
     let behind : n + 0 ≡ 0 + size_at b 0 = omega arith in
     ap (λ (m : ℕ). calls_from m b 0) more
-    ∙ calls_next b 0 (length b - 1) (omega arith)
+    ∙ calls_next b 0 (length b - 1) (λ z. omega arith)
     ∙ ap₂ (λ (c : Call) (l : List Call). c ∷ l) (call_taken b n k e asked) (
     calls_enough (length b - 1) (length (drop n b)) b (0 + size_at b 0) (omega arith) (omega (arith, length-drop n b))
     ∙ ap (calls_from (length (drop n b)) b) (sym behind)

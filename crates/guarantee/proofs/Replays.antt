@@ -32,11 +32,12 @@ use Rattle.start.specs.Fresh.{fresh_entry, zero_entry}
 use Rattle.start.specs.Start.{entries_below, fresh_state, zero_state, started_with, prepared_of, start_of}
 use Rattle.guarantee.specs.Record.{Turn}
 use Rattle.guarantee.specs.Runs.{state_of, said_of}
-use Rattle.guarantee.specs.Encoding.{calls_of}
+use Rattle.guarantee.specs.Encoding.{calls_from, calls_of}
 use Rattle.guarantee.specs.Record.{answer_bytes, outcome_of, outcome_number, record_of, model_bytes, turn_of, turn_bytes}
 use Rattle.guarantee.specs.Replay.{records_of, calls_run, replay_bytes, replayed_of, replay_over}
 use Rattle.basics.proofs.Bytes.{sets-append}
 use Rattle.dispatcher.proofs.Rows.{rows_length, model_length}
+use Rattle.guarantee.proofs.Encodings.{calls_exact}
 use Rattle.guarantee.proofs.Records.{record_length, outcome_said}
 
 -- A product is compared by a quotient.
@@ -114,6 +115,10 @@ module _ (whole : List ℕ) (bytes tasks : ℕ) (call : Call) (rest : List Call)
   records_room : place + (4 + 9 * tasks) + length after_here ≤ bytes
   records_room = omega (arith, p.room, ap length records_here, length-append record_here after_here, here_length)
 
+  -- The record ends within the buffer.
+  pub replaying_end : place + (4 + 9 * tasks) ≤ bytes
+  replaying_end = omega (arith, records_room)
+
   module _ (turn : Turn) (e : turn ≡ turn_of s call) where
     state_here : turn.state ≡ state_of s call
     unfolding turn_of
@@ -152,6 +157,13 @@ module _ (whole : List ℕ) (bytes tasks : ℕ) (call : Call) (rest : List Call)
           left = rw here (sym (sets-append out place record_here after_here) ∙ ap (sets out place) (sym records_here) ∙ p.left);
         }))
 
+-- With no call left, what is written is the whole.
+pub replaying_all : (whole : List ℕ) (bytes tasks : ℕ) (calls : List Call) (s : State) (out : List ℕ) (place : ℕ) → calls ≡ [] →
+    Replaying whole bytes tasks calls s out place → out ≡ whole
+replaying_all whole bytes tasks calls s out place none p =
+    let done : sets out place (records_of s []) ≡ whole = rw none at p.left in
+    done
+
 -- S7.1: the state that Start returns has sixteen entries and at most as many tasks.
 pub start_few : (sheet : List ℕ) → (start_of sheet).state.count ≤ 16
 unfolding start_of prepared_of fresh_state zero_state
@@ -168,6 +180,12 @@ start-line sheet = go (allocation_answer sheet)
     go : (a : Answer) → length (started_with (a or_else Ok (fresh_state (task_set_of sheet) (allocations_for sheet)))).state.entries ≡ 16
     go (Ok x) = cells-length (λ i. fresh_entry (task_in (task_set_of sheet) i) (allocation_at (allocations_for sheet) i)) zero_entry 0 16 (task_set_of sheet).count
     go (Err r) = length-replicate 16 zero_entry
+
+-- The calls that are run are the first of the log, as many as they are.
+pub run_exact : (a : Answer) (calls : List ℕ) → calls_from (length (calls_run a (calls_of calls))) calls 0 ≡ calls_run a (calls_of calls)
+unfolding calls_of calls_from
+run_exact (Ok x) calls = calls_exact (length calls) calls 0
+run_exact (Err r) calls = refl
 
 module _ (sheet calls : List ℕ) where
   pub replay_length : length (replay_bytes sheet calls) ≡ 2 + length (calls_run (start_of sheet).answer (calls_of calls)) * (4 + 9 * (start_of sheet).state.count)

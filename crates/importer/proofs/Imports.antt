@@ -72,6 +72,7 @@ pub record Fine (graph : NodeGraph) (t : Terms) (room : ℕ) : Type 0 where
   pub terms : terms_lawful t ≡ true
   pub enough : room_for graph.count ≤ room
   pub count : within 1 32 graph.count ≡ true
+  pub rising : graph.rising ≡ true
 
 pub fine : (graph : NodeGraph) (t : Terms) (room : ℕ) → nodes_answer graph t room ≡ Ok tt → Fine graph t room
 unfolding nodes_answer
@@ -80,10 +81,12 @@ fine graph t room h =
     let first = first_kept_lem (terms_lawful t && leb (room_for graph.count) room) BadText (refused_if (not graph_rule) BadGraph) h in
     let second = rule_kept graph_rule BadGraph first.1 in
     let asked = (and-eq-true_iff (terms_lawful t) (leb (room_for graph.count) room)).0 first.0 in
+    let shape = (and-eq-true_iff (within 1 32 graph.count) graph.rising).0 second in
     record {
       terms = asked.0;
       enough = leb-true (room_for graph.count) room asked.1;
-      count = ((and-eq-true_iff (within 1 32 graph.count) graph.rising).0 second).0;
+      count = shape.0;
+      rising = shape.1;
     }
 
 -- Two causes and a third: what the two refuse is refused, and past them the third answers.
