@@ -1,4 +1,5 @@
 pub mod Numerals
+pub mod Rests
 pub mod Entries
 pub mod Steps
 pub mod Held

@@ -128,7 +128,7 @@ module _ (b : ℕ) (rest : List ℕ) where
   blank_passed h = rw (blank_no_mark b h, h)
 
   -- `#` ends the text.
-  mark_ends : b ≡ end_mark → before_mark (b ∷ rest) ≡ []
+  pub mark_ends : b ≡ end_mark → before_mark (b ∷ rest) ≡ []
   mark_ends e = rw e
 
   pub none_at_mark : b ≡ end_mark → numerals_of (b ∷ rest) ≡ Some []

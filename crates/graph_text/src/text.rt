@@ -1,8 +1,8 @@
 //! S14.1: the numerals of a text, read one after the other.
-ghost use Rattle.std.specs.Prelude.{◌≡◌, ◌≤◌, ◌+◌, ◌-◌, ◌*◌, true, [], Ok, None, MatchResult, OnErr, Some};
+ghost use Rattle.std.specs.Prelude.{◌≡◌, ◌≤◌, ◌+◌, ◌-◌, ◌*◌, true, [], length, Ok, None, IfOk, MatchResult, OnErr, Some};
 ghost use Rattle.std.specs.Option.{SomeIff};
 ghost use Rattle.graph_text.specs.Text.{before_mark, is_blank, numeral_limit, numerals_of};
-ghost use Rattle.graph_text.specs.means.Scan.{BeginsFull, number_before, numerals_after, Takes, TakesMaybe};
+ghost use Rattle.graph_text.specs.means.Scan.{BeginsFull, IsRest, number_before, numerals_after, Takes, TakesMaybe, Told};
 
 use std::error::Error;
 use std::fmt;
@@ -22,7 +22,7 @@ impl Error for BadFormat {}
 
 /// A text of which numerals are read. A clause sees the numerals that are left, or that something else stands
 /// among them.
-#[derive(Drop)]
+#[derive(Clone, Drop)]
 pub struct Numerals<'a> {
     rest: &'a [u8],
 }
@@ -57,19 +57,7 @@ impl<'a> Numerals<'a> {
         ensures kept_at_end { result ≡ Ok None → self.new ≡ self.old }
         ensures kept_at_fault { OnErr result (self.new ≡ self.old) }
     {
-        let text = after_blanks(self.rest);
-        let Some((b, rest)) = text.split_first() else {
-            return Ok(None);
-        };
-        if *b == b'#' {
-            return Ok(None);
-        }
-        if !b.is_ascii_digit() {
-            return Err(BadFormat);
-        }
-        let (value, rest) = read_digits(rest, u16::from(*b - b'0'))?;
-        self.rest = rest;
-        Ok(Some(value))
+        read_numeral(&mut self.rest)
     }
 
     /// A numeral that has to be there. Where none is told, the same numerals are left.
@@ -81,6 +69,41 @@ impl<'a> Numerals<'a> {
     }
 }
 
+/// The numeral from a place of a text on, with the place behind it, or none where none is left.
+pub fn next_numeral(text: &[u8], from: usize) -> Result<Option<(u16, usize)>, BadFormat>
+    requires { from ≤ length text.now }
+    ensures { Told text.now from result }
+{
+    let mut rest = &text[from..];
+    let Some(value) = read_numeral(&mut rest)? else {
+        return Ok(None);
+    };
+    Ok(Some((value, text.len() - rest.len())))
+}
+
+/// The next numeral, or none at the end; `rest` becomes what is left behind it. Where none is told, it stays.
+#[tactic(auto, using(crate::proofs::Rests::rest_whole))]
+fn read_numeral(rest: &mut &[u8]) -> Result<Option<u16>, BadFormat>
+    ensures told { TakesMaybe (numerals_of rest.old.now) (numerals_of rest.new.now) result }
+    ensures left { IfOk result (λ _. IsRest rest.old.now rest.new.now) }
+    ensures kept_at_end { result ≡ Ok None → rest.new.now ≡ rest.old.now }
+    ensures kept_at_fault { OnErr result (rest.new.now ≡ rest.old.now) }
+{
+    let text = after_blanks(rest);
+    let Some((b, behind)) = text.split_first() else {
+        return Ok(None);
+    };
+    if *b == b'#' {
+        return Ok(None);
+    }
+    if !b.is_ascii_digit() {
+        return Err(BadFormat);
+    }
+    let (value, behind) = read_digits(behind, u16::from(*b - b'0'))?;
+    *rest = behind;
+    Ok(Some(value))
+}
+
 /// A tab, a line feed, a carriage return or a space. By `matches!` an import takes a tenth more instructions.
 #[tactic(auto, unfolding(crate::specs::Text::is_blank))]
 fn is_blank(b: u8) -> bool
@@ -90,8 +113,10 @@ fn is_blank(b: u8) -> bool
 }
 
 /// What is left of a text from the first byte on that is no blank.
+#[tactic(auto, using(crate::proofs::Rests::rest_whole))]
 fn after_blanks(text: &[u8]) -> &[u8]
     ensures same { numerals_of result.now ≡ numerals_of text.now }
+    ensures left { IsRest text.now result.now }
     ensures stops { BeginsFull result.now }
 {
     let mut rest = text;
@@ -114,10 +139,12 @@ fn with_digit(value: u16, b: u8) -> Option<u16>
 
 /// The numeral that begins with the digit `first` and whose other digits are at the front of a text, and what
 /// is left.
+#[tactic(auto, using(crate::proofs::Rests::rest_whole))]
 fn read_digits(text: &[u8], first: u16) -> Result<(u16, &[u8]), BadFormat>
-    ensures { MatchResult result
+    ensures told { MatchResult result
         (λ r. numerals_after first (before_mark text.now) ≡ number_before r.0 (numerals_of r.1.now))
         (λ _. numerals_after first (before_mark text.now) ≡ None) }
+    ensures left { IfOk result (λ r. IsRest text.now r.1.now) }
 {
     // A walk of its own: `after_blanks` keeps no value and can't fail.
     let mut value = first;

@@ -5,6 +5,7 @@ use Rattle.std.proofs.lemmas.List.{nil_from_length}
 use Rattle.graph_text.specs.Text.{before_mark}
 use Rattle.graph_text.specs.means.Scan.{numerals_after}
 use Rattle.graph_text.proofs.Numerals.{digit_is, digit_more, digits_end, digits_to_end, too_great, more_taken, more_refused}
+use Rattle.graph_text.proofs.Rests.{rest_passed}
 use Rattle.graph_text.proofs.text.read_digits.Goals.{Else-not-is_ascii_digit, in-Some+then-not-is_ascii_digit, in_default}
 use Rattle.graph_text.proofs.text.read_digits.Goals as goal
 
@@ -18,11 +19,11 @@ read_at c =
     ∙ ap (λ text. numerals_after c.loop-b.value (before_mark text)) (sym c.in-Some.ensures.cases.0)
     ∙ c.loop-b.invariant.same
 
-pub returns-in_err-value : goal.returns-in_err-value
-returns-in_err-value c =
+pub returns-in_err-value-clause-told : goal.returns-in_err-value-clause-told
+returns-in_err-value-clause-told c =
     let p = err_from_is_err_and c.from_residual.result c.from_residual.ensures.1 in
     let great = more_refused _ _ _ _ c.with_digit.ensures (sym c.ok_or.ensures.value ∙ c.in_err-value.was) in
-    rw p.1 (sym (read_at (goal.at.returns-in_err-value c).Else-not-is_ascii_digit) ∙ too_great _ _ great)
+    rw p.1 (sym (read_at (goal.at.returns-in_err-value-clause-told c).Else-not-is_ascii_digit) ∙ too_great _ _ great)
 
 pub loop-b-preserved : goal.loop-b-preserved
 loop-b-preserved c =
@@ -30,10 +31,11 @@ loop-b-preserved c =
     record {
       small = omega arith;
       same = rw more.0 (read_at (goal.at.loop-b-preserved c).Else-not-is_ascii_digit);
+      left = rest_passed _ _ _ _ c.loop-b.invariant.left c.in-Some.ensures.cases.0;
     }
 
-pub returns : goal.returns
-returns c =
+pub returns-clause-told : goal.returns-clause-told
+returns-clause-told c =
     elim c.match-split_first.branch [
       | in-Some+then-not-is_ascii_digit w ↦
           sym c.loop-b.invariant.same
