@@ -2,6 +2,7 @@
 pub mod Worked
 pub mod Sheets
 pub mod Digits
+pub mod Arrays
 pub mod Growths
 pub mod Lengths
 pub mod Tasks

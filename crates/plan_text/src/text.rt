@@ -4,25 +4,34 @@ ghost use Rattle.std.specs.Prelude.{◌≡◌, ◌≤◌, [], length};
 ghost use Rattle.plan_text.specs.Decimal.{decimal};
 ghost use Rattle.plan_text.specs.means.Growth.{room, with_byte, with_bytes};
 
-use arrayvec::ArrayVec;
 use std::marker::Model;
 
 /// Room for sixteen lines of 26 bytes.
 const ROOM: usize = 480;
 
-/// The bytes written so far, 480 at most. A clause sees the list of them. A text is not copied, since an `ArrayVec` is
-/// not, and no caller has to: each line goes to the end of the one text.
-#[derive(Drop)]
+/// The bytes written so far, 480 at most, in an array that is zero behind them. A clause sees the list of them.
+/// A text is `Copy`, which an `ArrayVec` is not; so the array and its length stand here.
+#[derive(Clone, Copy, Debug, PartialEq, Eq)]
 pub struct Text {
-    bytes: ArrayVec<u8, ROOM>,
+    bytes: [u8; ROOM],
+    len: usize,
 }
 
 impl Model for Text {
-    ghost use Rattle.std.specs.Prelude.{ℕ, List};
+    ghost use Rattle.std.specs.Prelude.{ℕ, List, ◌≡◌, ◌≤◌, ◌-◌, ◌++◌, length, take, replicate};
+    ghost use Rattle.plan_text.specs.means.Growth.{room};
 
     ghost Value = { List ℕ };
 
-    ghost view = { λ t. t.bytes.items };
+    ghost view = { λ t. take t.len t.bytes };
+
+    ghost invariant = { λ t. (t.len ≤ room)
+        × (take t.len t.bytes ++ replicate (room - length (take t.len t.bytes)) 0 ≡ t.bytes)
+        × (length (take t.len t.bytes) ≡ t.len) };
+
+    ghost inverse = { λ b. record { bytes = b ++ replicate (room - length b) 0; len = length b } };
+
+    ghost inverse_ok = { λ t h i. record { bytes = h.1 i; len = h.2 i } };
 }
 
 impl Text {
@@ -31,7 +40,8 @@ impl Text {
         ensures { result ≡ [] }
     {
         Text {
-            bytes: ArrayVec::new(),
+            bytes: [0; ROOM],
+            len: 0,
         }
     }
 
@@ -40,15 +50,18 @@ impl Text {
         ensures value { result.now ≡ self.now }
         ensures fits { length result.now ≤ room }
     {
-        self.bytes.as_slice()
+        &self.bytes[..self.len]
     }
 
     /// Adds a byte; a full text stays as it is.
-    #[tactic(auto, using(crate::proofs::Growths::byte_fits, crate::proofs::Growths::byte_lost))]
+    #[tactic(auto, using(crate::proofs::Arrays::longer, crate::proofs::Growths::byte_lost))]
     pub fn push(&mut self, b: u8)
         ensures { self.new ≡ with_byte self.old b }
     {
-        let _ = self.bytes.try_push(b);
+        if self.len < ROOM {
+            self.bytes[self.len] = b;
+            self.len += 1;
+        }
     }
 
     /// Adds bytes, one after the other.
