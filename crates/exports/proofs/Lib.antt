@@ -3,6 +3,7 @@
 pub mod Lines
 pub mod Codec
 pub mod Decoded
+pub mod Read
 pub mod Stored
 pub mod Called
 pub mod Refusals

@@ -1,9 +1,9 @@
 -- Calls repeated: one of those that are left, and then the others.
-use Prim.Native.Nat.{ℕ, suc, ◌+◌, ◌-◌, ◌≤◌, ◌<◌}
+use Prim.Native.Nat.{ℕ, zero, suc, ◌%◌, ◌+◌, ◌-◌, ◌≤◌, ◌<◌}
 use mathlib.Core.Path.{◌≡◌, refl, ap, ◌∙◌}
 use mathlib.Core.Bool.{true, false}
-use mathlib.Core.List.{List}
-use lib.ListN.{length}
+use mathlib.Core.List.{List, [], ◌∷◌}
+use lib.ListN.{length, get_or}
 use native.Mathlib.Numerals.{add-one}
 use native.Mathlib.Omega.{arith}
 use Rattle.dispatcher.specs.declared.state.State.{State}
@@ -15,6 +15,15 @@ use Rattle.exports.specs.Ticks.{accepted_word, tick_word}
 use Rattle.exports.specs.Words.{state_from, is_state}
 use Rattle.exports.specs.Repeats.{ticks_word, last_word, boards_of, ticks_call, releases_call, boards_call}
 use Rattle.exports.proofs.Called.{Does}
+
+-- Of two copies each is the state.
+pub by_turns : (s other : State) (i : ℕ) → get_or (s ∷ s ∷ []) (i % 2) other ≡ s
+by_turns s other i = go (i % 2) (omega arith)
+  where
+    go : (k : ℕ) → k < 2 → get_or (s ∷ s ∷ []) k other ≡ s
+    go zero h = refl
+    go (suc zero) h = refl
+    go (suc (suc k)) h = absurd (omega arith)
 
 module _ (count i word : ℕ) (s : State) (reports : List ℕ) where
   pub ticks_next : i < count → (next : ℕ) (t : Ticked) → next ≡ tick_word t.answer → t ≡ tick_of s reports →

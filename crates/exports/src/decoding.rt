@@ -1,7 +1,7 @@
 //! S13.1, S13.2: which lines are states, and a state out of its line. An `Option<State>` says both in one step, and was
 //! tried: it costs a call 5,000 instructions more, since the slot of such a value is filled before each call that
 //! returns one.
-ghost use Rattle.std.specs.Prelude.{◌≡◌, ◌≤◌, true, length, drop};
+ghost use Rattle.std.specs.Prelude.{◌≡◌, ◌≤◌, true, length, take, drop};
 ghost use Rattle.basics.specs.Lists.{all_below};
 ghost use Rattle.exports.specs.Words.{entry_size, entry_start, state_size, entry_from, state_from, entry_fits, is_state};
 
@@ -37,6 +37,19 @@ pub fn is_state(line: &[u32]) -> bool
     line.len() == STATE_WORDS && line[0] < 256 && line[1] < 256 && line[2] < 2 && entries_fit(line)
 }
 
+/// S13.1: the masks among the words of an entry. By index: `copy_from_slice` is left as a call, by which a release or a
+/// tick on a line takes a quarter more time.
+fn masks_from(words: &[u32]) -> [u32; 32]
+    requires { entry_size ≤ length words.now }
+    ensures { result ≡ take 32 (drop 2 words.now) }
+{
+    let mut masks = [0; 32];
+    for v in 0..32 {
+        masks[v] = words[2 + v];
+    }
+    masks
+}
+
 /// S13.1: the entry that the first of these words say. The casts lose nothing: each word fits its field.
 fn entry_from(words: &[u32]) -> TaskState
     requires room { entry_size ≤ length words.now }
@@ -47,12 +60,10 @@ fn entry_from(words: &[u32]) -> TaskState
         typical: words[36] as u8,
         critical: words[37] as u8,
     };
-    let mut predecessors = [0; 32];
-    predecessors.copy_from_slice(&words[2..34]);
     TaskState {
         level: words[0] as u8,
         nodes: words[1] as u8,
-        predecessors,
+        predecessors: masks_from(words),
         deadline: words[34],
         virtual_deadline: words[35],
         share,

@@ -18,4 +18,4 @@ overflow_cast-result-2 c = omega (arith, (entry_fitting c.args.words.now c.requi
 
 pub returns : goal.returns
 unfolding entry_from is_set
-returns c = rw c.copy_from_slice.ensures.after
+returns c = rw c.masks_from.ensures

@@ -9,7 +9,7 @@ use Rattle.dispatcher.specs.Calls.{release_of}
 use Rattle.sheet.specs.Refusal.{answer_word}
 use Rattle.exports.specs.Words.{state_from, is_state}
 use Rattle.exports.specs.Repeats.{last_word}
-use Rattle.exports.proofs.Repeated.{last_next, releases_no_state, releases_of_state}
+use Rattle.exports.proofs.Repeated.{by_turns, last_next, releases_no_state, releases_of_state}
 use Rattle.exports.proofs.repeating.dibwunek_release_many.Goals.{Else-not-is_state}
 use Rattle.exports.proofs.repeating.dibwunek_release_many.Goals as goal
 
@@ -21,18 +21,18 @@ returns-then-not-is_state c =
 is : (c : Else-not-is_state) → is_state c.args.state.now ≡ true
 is c = sym c.is_state.ensures ∙ c.if-not-is_state.false
 
-pub loop-init : goal.loop-init
+pub loop-i-init : goal.loop-i-init
 unfolding last_word answer_word
-loop-init c = (omega arith, c.answer_word-word.ensures)
+loop-i-init c = c.answer_word-word.ensures
 
-pub loop-preserved : goal.loop-preserved
-loop-preserved c =
-    let released = c.release-released.ensures.whole ∙ ap (λ (s : State). release_of s c.args.task) c.state_from-before.ensures in
-    (omega arith, last_next c.loop.counter _ _ (c.answer_word-word-in-loop.ensures ∙ ap (λ (r : Released). answer_word r.answer) released))
+pub loop-i-preserved : goal.loop-i-preserved
+loop-i-preserved c =
+    let released = c.release-released.ensures.whole ∙ ap (λ (s : State). release_of s c.args.task) (by_turns c.state_from-before.result _ c.loop-i.i ∙ c.state_from-before.ensures) in
+    last_next c.loop-i.i _ _ (c.answer_word-word-in-loop-i.ensures ∙ ap (λ (r : Released). answer_word r.answer) released)
 
 pub returns : goal.returns
 returns c =
-    let all : c.loop.counter ≡ c.args.count = omega arith in
-    c.loop.invariant.1
+    let all : c.loop-i.i ≡ c.args.count = omega arith in
+    c.loop-i.invariant
     ∙ ap (λ (n : ℕ). last_word n (answer_word (release_of (state_from c.args.state.now) c.args.task).answer)) all
     ∙ releases_of_state c.args.count c.args.state.now c.args.task (is (goal.at.returns c).Else-not-is_state)

@@ -1,5 +1,4 @@
 -- `exports::repeating::dibwunek_release_many`: the word is that of the last release made.
-use Prim.Native.Nat.{◌≤◌}
 use mathlib.Core.Path.{◌≡◌}
 use Rattle.dispatcher.specs.Calls.{release_of}
 use Rattle.sheet.specs.Refusal.{answer_word}
@@ -7,5 +6,5 @@ use Rattle.exports.specs.Words.{state_from}
 use Rattle.exports.specs.Repeats.{last_word}
 use Rattle.exports.proofs.repeating.dibwunek_release_many.Given as goal
 
-abbrev pub invariant-loop : goal.invariant-loop
-invariant-loop l = (l.counter ≤ l.count) × (l.word ≡ last_word l.counter (answer_word (release_of (state_from l.state) l.task).answer))
+abbrev pub invariant-loop-i : goal.invariant-loop-i
+invariant-loop-i l = l.word ≡ last_word l.i (answer_word (release_of (state_from l.state) l.task).answer)
