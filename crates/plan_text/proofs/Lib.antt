@@ -6,3 +6,4 @@ pub mod Growths
 pub mod Lengths
 pub mod Tasks
 pub mod Fitting
+pub mod Promises
