@@ -26,6 +26,7 @@ use Rattle.entries.specs.Sound.{entry_sound}
 use Rattle.dispatcher.specs.Sound.{entries_sound, is_sound}
 use Rattle.dispatcher.specs.Answers.{release_answer, tick_answer}
 use Rattle.dispatcher.specs.Calls.{released_by, release_of, ticked_by, tick_of}
+use Rattle.dispatcher.specs.Laws.{ReleaseSound, TickSound, ReleaseModel, TickModel}
 use Rattle.entries.proofs.Soundness.{SoundEntry, entry_facts, sound_entry}
 use Rattle.dispatcher.proofs.Soundness.{shares_in, SoundState, state_facts, sound_state}
 use Rattle.dispatcher.proofs.Entries.{no_entry, sound_in}
@@ -141,11 +142,11 @@ module _ (s : State) (sound : is_sound s ≡ true) (c : Call) where
   step_sound = sound_state stepped (facts_kept (state_facts s sound))
 
 -- S7.2: a sound state stays sound under Release and Tick.
-pub release_sound : (s : State) (i : ℕ) → is_sound s ≡ true → is_sound (release_of s i).state ≡ true
+pub release_sound : ReleaseSound
 unfolding release_of
 release_sound s i sound = rw sound (step_sound s sound (release i))
 
-pub tick_sound : (s : State) (reports : List ℕ) → is_sound s ≡ true → is_sound (tick_of s reports).state ≡ true
+pub tick_sound : TickSound
 unfolding tick_of
 tick_sound s reports sound = rw sound (step_sound s sound (tick reports))
 
@@ -159,11 +160,11 @@ unfolding tick_of
 tick_answered s reports sound = rw sound
 
 -- S10.3: the state after a call holds the model after its step.
-pub release_model : (s : State) (i : ℕ) → is_sound s ≡ true → model_of (release_of s i).state ≡ (step (model_of s) (release i)).model
+pub release_model : ReleaseModel
 unfolding release_of
 release_model s i sound = rw sound (step_model s sound (release i))
 
-pub tick_model : (s : State) (reports : List ℕ) → is_sound s ≡ true → model_of (tick_of s reports).state ≡ (step (model_of s) (tick reports)).model
+pub tick_model : TickModel
 unfolding tick_of
 tick_model s reports sound = rw sound (step_model s sound (tick reports))
 

@@ -17,15 +17,11 @@ use Rattle.dispatcher.specs.declared.state.State.{State}
 use Rattle.dispatcher.specs.Holds.{model_of}
 use Rattle.dispatcher.specs.Sound.{is_sound}
 use Rattle.dispatcher.specs.Board.{unused, idle, pairs_of, block, board_bytes}
+use Rattle.dispatcher.specs.Laws.{Shows, BoardsShow}
 use Rattle.dispatcher.proofs.Soundness.{shares_in}
 use Rattle.entries.proofs.NodeSets.{running_rises}
 use Rattle.dispatcher.proofs.Boards.{pairs_length, grant_in, block_in, blocks_in, blocks-granted, block-length, blocks-length, shares_more, shares_part, shares_fit, board_length, board_whole}
 use Rattle.dispatcher.proofs.Rows.{model_length}
-
--- The pair of processor p, in bytes.
-pub record Shows (bytes : List ℕ) (p task node : ℕ) : Type 0 where
-  pub first : get_or bytes (2 * p) 0 ≡ task
-  pub second : get_or bytes (2 * p + 1) 0 ≡ node
 
 -- A pair of two lists of bytes, one behind the other.
 shows_front : (xs ys : List ℕ) (n p task node : ℕ) → length xs ≡ 2 * n → p < n → Shows xs p task node → Shows (xs ++ ys) p task node
@@ -106,23 +102,6 @@ rises_between (v ∷ vs) low k j zero r h b = absurd (omega arith)
 rises_between (v ∷ vs) low k zero (suc l) r h b = rises_at vs (suc v) k l r.2 (omega arith)
 rises_between (v ∷ vs) low k (suc j) (suc l) r h b = rises_between vs (suc v) k j l r.2 (omega arith) (omega arith)
 
--- S8.8: what the board of a state shows.
-pub record BoardShows (s : State) (bytes : List ℕ) : Type 0 where
-  -- It has M pairs.
-  pub size : length bytes ≡ 2 * s.processors
-  -- A task's running nodes fill its block from the front,
-  pub nodes : (i j : ℕ) → i < s.count → j < length (running_at (model_of s) i)
-      → Shows bytes (shares_in s.critical (take i (model_of s).rows) + j) i (get_or (running_at (model_of s) i) j 0)
-  -- each of them once, lowest first;
-  pub once : (i j l : ℕ) → j < l → l < length (running_at (model_of s) i)
-      → get_or (running_at (model_of s) i) j 0 < get_or (running_at (model_of s) i) l 0
-  -- what is left of the block is 255, 255,
-  pub rest : (i j : ℕ) → i < s.count → length (running_at (model_of s) i) ≤ j
-      → j < granted (model_of s) i
-      → Shows bytes (shares_in s.critical (take i (model_of s).rows) + j) unused unused
-  -- and so is all behind the blocks.
-  pub behind : (p : ℕ) → shares_in s.critical (model_of s).rows ≤ p → p < s.processors → Shows bytes p unused unused
-
 module _ (s : State) (sound : is_sound s ≡ true) (long : s.count ≤ length s.entries) where
   -- The board, with its blocks by the mode.
   bytes_are : board_bytes s.processors (model_of s)
@@ -160,19 +139,19 @@ module _ (s : State) (sound : is_sound s ≡ true) (long : s.count ≤ length s.
       ∙ ap length (sym (board_whole s.processors s.critical (model_of s).rows (shares_fit s sound) (length (model_of s).rows) (omega arith)))
       ∙ board_length s.processors s.critical (model_of s).rows (shares_fit s sound) (length (model_of s).rows)
 
-  -- The board of a sound state shows each running node once, in its task's block, and 255, 255 elsewhere.
-  pub board_shows : BoardShows s (board_bytes s.processors (model_of s))
-  unfolding running_at
-  board_shows =
-      record {
-        size = whole_size;
-        nodes = λ i j h k.
-            in_block i j i (get_or (running_at (model_of s) i) j 0) h
-            (omega (arith, running-count (granted (model_of s) i) (row_at (model_of s) i)))
-            (block-running (granted (model_of s) i) i (row_at (model_of s) i) j k);
-        once = λ i j l.
-            rises_between (running_at (model_of s) i) 0 (row_at (model_of s) i).fixed.nodes j l
-            (running_rises (granted (model_of s) i) (row_at (model_of s) i) (row_at (model_of s) i).fixed.nodes (omega arith));
-        rest = λ i j h low high. in_block i j unused unused h high (block_rest (granted (model_of s) i) i (row_at (model_of s) i) j low high);
-        behind = out_of_blocks;
-      }
+-- The board of a sound state shows each running node once, in its task's block, and 255, 255 elsewhere.
+pub board_shows : BoardsShow
+unfolding BoardsShow running_at
+board_shows s sound long =
+    record {
+      size = whole_size s sound long;
+      nodes = λ i j h k.
+          in_block s sound long i j i (get_or (running_at (model_of s) i) j 0) h
+          (omega (arith, running-count (granted (model_of s) i) (row_at (model_of s) i)))
+          (block-running (granted (model_of s) i) i (row_at (model_of s) i) j k);
+      once = λ i j l low high.
+          rises_between (running_at (model_of s) i) 0 (row_at (model_of s) i).fixed.nodes j l
+          (running_rises (granted (model_of s) i) (row_at (model_of s) i) (row_at (model_of s) i).fixed.nodes (omega arith)) (omega arith) high;
+      rest = λ i j h low high. in_block s sound long i j unused unused h high (block_rest (granted (model_of s) i) i (row_at (model_of s) i) j low high);
+      behind = out_of_blocks s sound long;
+    }

@@ -2,6 +2,7 @@
 #![tactic(auto)]
 
 pub mod board;
+pub mod promise;
 pub mod release;
 pub mod state;
 pub mod tick;

@@ -8,7 +8,7 @@ use crate::decoding::{is_state, state_from};
 use crate::encoding::write_state;
 use crate::words::STATE_WORDS;
 use dispatcher::tick::TickAnswer;
-use sheet::refusal::answer_word;
+use sheet::refusal::{answer_word, word_of};
 
 /// S13.4: what a switch adds to the word. These three words are numbers, since C reads them.
 const SWITCH: u32 = 65536;
@@ -26,7 +26,7 @@ pub fn tick_word(a: TickAnswer) -> u32
 {
     match a {
         TickAnswer::Ran => answer_word(Ok(())),
-        TickAnswer::Switched(task) => SWITCH + 256 * u32::from(task),
+        TickAnswer::Switched(task) => SWITCH + word_of(0, task),
         TickAnswer::Returned => RETURN + answer_word(Ok(())),
         TickAnswer::Refused(refusal) => answer_word(Err(refusal)),
     }

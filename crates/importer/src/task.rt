@@ -1,7 +1,7 @@
 //! S14.6 and S14.7: the task that a graph becomes.
-ghost use Rattle.std.specs.Prelude.{◌≡◌, ◌≤◌, true};
+ghost use Rattle.std.specs.Prelude.{◌≡◌, ◌≤◌};
 ghost use Rattle.chains.specs.means.Bounds.{time_limit, Small};
-ghost use Rattle.importer.specs.Task.{scaled, terms_lawful};
+ghost use Rattle.importer.specs.Task.{scaled};
 ghost use Rattle.importer.specs.means.Nodes.{scaled_times, nodes_task};
 
 use crate::terms::Terms;
@@ -36,13 +36,14 @@ fn scaled_times(k: usize, percentage: u32, times: &[u16; 32]) -> [u32; 32]
 /// S14.7: the task of a graph of at most 32 nodes. Its nominal times are the times at 100 percent.
 pub fn task_of(graph: &NodeGraph, t: Terms) -> Task
     requires few { graph.now.count ≤ 32 }
-    requires lawful { terms_lawful t ≡ true }
+    requires level { t.level ≤ 1 }
+    requires percentage { t.percentage ≤ 400 }
     ensures { result ≡ nodes_task graph.now t }
 {
     let k = usize::from(graph.count);
     let nominal = scaled_times(k, 100, &graph.times);
     let overload = scaled_times(k, t.percentage, &graph.times);
-    // A lawful level is 0 or 1, and 32 nodes are few; `try_from` would make an error that can't come.
+    // A level is 0 or 1, and 32 nodes are few; `try_from` would make an error that can't come.
     let (level, nodes) = (t.level as u8, graph.count as u8);
     Task {
         figures: Figures {

@@ -7,3 +7,4 @@ pub mod Growths
 pub mod Lengths
 pub mod Tasks
 pub mod Fitting
+pub mod Promises

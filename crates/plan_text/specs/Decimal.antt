@@ -18,3 +18,7 @@ pub record IsDecimal (n : ℕ) (bytes : List ℕ) : Type 0 where
   pub says : value_of bytes ≡ n
   pub digits : list_all is_digit bytes ≡ true
   pub front : 1 ≤ n → digit 1 ≤ get_or bytes 0 0
+
+-- S6.3: the digits of any number are that number in decimal.
+unfoldable pub DecimalReads : Type 0
+DecimalReads = (n : ℕ) → IsDecimal n (decimal n)

@@ -3,4 +3,5 @@
 
 pub mod line;
 pub mod printed;
+pub mod promise;
 pub mod text;

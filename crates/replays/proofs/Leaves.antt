@@ -7,12 +7,12 @@ use native.Mathlib.Omega.{arith}
 use lib.Dec.{leb}
 use lib.ListN.{length, drop}
 use Rattle.sheet.specs.Refusal.{Answer}
-use Rattle.std.specs.Prelude.{Ok, Err, Some, None}
+use Rattle.std.specs.Prelude.{Ok, Err}
 use Rattle.start.specs.Start.{start_of}
 use Rattle.guarantee.specs.Encoding.{calls_of}
 use Rattle.guarantee.specs.Record.{answer_bytes}
 use Rattle.guarantee.specs.Replay.{records_of, calls_run, replay_bytes, replayed_of, replay_over}
-use Rattle.replays.specs.Written.{bytes_written, ShortLeaves}
+use Rattle.replays.specs.Written.{ShortLeaves}
 
 -- A replay that is written has at least the two bytes of Start's answer.
 some_bytes : (sheet calls : List ℕ) → 2 ≤ length (replay_bytes sheet calls)
@@ -25,9 +25,9 @@ some_bytes sheet calls = go (start_of sheet).answer
 
 pub short_leaves : ShortLeaves
 unfolding ShortLeaves replayed_of replay_over
-short_leaves sheet calls out = go (leb (length (replay_bytes sheet calls)) (length out))
+short_leaves sheet calls out none = go (leb (length (replay_bytes sheet calls)) (length out)) refl
   where
-    go : (t : Bool) → bytes_written (cond t (Some (length (replay_bytes sheet calls))) None) ≡ 0 →
+    go : (t : Bool) → leb (length (replay_bytes sheet calls)) (length out) ≡ t →
         cond t (replay_bytes sheet calls ++ drop (length (replay_bytes sheet calls)) out) out ≡ out
-    go true none = absurd (omega (arith, some_bytes sheet calls))
-    go false none = refl
+    go true fits = absurd (omega (arith, some_bytes sheet calls, (rw fits at none)))
+    go false fits = refl

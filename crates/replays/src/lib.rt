@@ -6,6 +6,8 @@ ghost use Rattle.std.specs.Prelude.{◌≡◌, length};
 ghost use Rattle.guarantee.specs.Replay.{replayed_of, replay_over};
 ghost use Rattle.replays.specs.Written.{bytes_written};
 
+pub mod promise;
+
 /// S12.2: the bytes of the run go to the front of the buffer. S13.7: where it is too short C is told 0.
 #[unsafe(no_mangle)]
 pub extern "C" fn dibwunek_replay(sheet: &[u8], calls: &[u8], out: &mut [u8]) -> usize

@@ -4,6 +4,7 @@ use Prim.Native.Nat.{ℕ, ◌<◌, ◌^◌}
 use mathlib.Core.Bool.{true, true≢false}
 use mathlib.Core.List.{List}
 use mathlib.Core.Path.{◌≡◌, sym, ◌∙◌}
+use native.Mathlib.Omega.{arith}
 use native.Mathlib.Nat.{lt_of_not-le}
 use lib.ListN.{get_or}
 use borrow.Author.Tests.{ltb-true, lt-ltb}
@@ -25,8 +26,8 @@ module _ (masks : List ℕ) (v : ℕ) where
 pub mask_law : MaskLaw
 unfolding MaskLaw
 mask_law masks v = (
-  λ e j up. has_above v (get_or masks v 0) j (mask_below masks v e) up,
-  λ none. below_mask masks v (below_of_has v (get_or masks v 0) (λ j m. lt_of_not-le (λ up. true≢false (sym m ∙ none j up)))),
+  λ e j up. has_above v (get_or masks v 0) j (mask_below masks v e) (omega arith),
+  λ none. below_mask masks v (below_of_has v (get_or masks v 0) (λ j m. lt_of_not-le (λ up. true≢false (sym m ∙ none j (omega arith))))),
 )
 
 pub masks_law : MasksLaw

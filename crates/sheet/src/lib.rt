@@ -2,6 +2,7 @@
 #![tactic(auto)]
 
 pub mod level;
+pub mod promise;
 pub mod refusal;
 pub mod rules;
 pub mod task;

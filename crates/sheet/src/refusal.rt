@@ -1,5 +1,5 @@
 //! S3 and S9: why a call is refused.
-ghost use Rattle.std.specs.Prelude.{◌≡◌, ◌≤◌};
+ghost use Rattle.std.specs.Prelude.{◌≡◌, ◌≤◌, ◌+◌, ◌*◌};
 ghost use Rattle.sheet.specs.Refusal.{number, task, answer_word};
 
 use std::error::Error;
@@ -147,6 +147,13 @@ impl Error for Refusal {}
 /// Each format writes it in its own way, a word, bytes or a line, so that no function makes the two numbers for all.
 pub const NO_TASK: u8 = 255;
 
+/// S13.4: the word of a number and a task, for every pair of bytes.
+pub fn word_of(number: u8, task: u8) -> u32
+    ensures { result ≡ number + 256 * task }
+{
+    u32::from(number) + 256 * u32::from(task)
+}
+
 /// S13.4: an answer in one word, its number and 256 times its task.
 #[tactic(auto, unfolding(crate::specs::Refusal::answer_word))]
 pub fn answer_word(answer: Result<(), Refusal>) -> u32
@@ -156,5 +163,5 @@ pub fn answer_word(answer: Result<(), Refusal>) -> u32
         Ok(()) => (0, None),
         Err(refusal) => (refusal.number(), refusal.task()),
     };
-    u32::from(number) + 256 * u32::from(task.unwrap_or(NO_TASK))
+    word_of(number, task.unwrap_or(NO_TASK))
 }

@@ -51,6 +51,7 @@ fn begin(state: &mut State, set: &TaskSet, allocations: &[Allocation; 16])
 /// steps, but it does not give back the task set, of which the state is made.
 pub fn start_into(sheet: &[u8], state: &mut State) -> Result<(), Refusal>
     ensures answered { result ≡ (start_of sheet.now).answer }
+    ensures says { Says result (number_of (start_of sheet.now).answer) (task_of (start_of sheet.now).answer) }
     ensures started { state.new ≡ (start_of sheet.now).state }
 {
     *state = zero_state();

@@ -5,6 +5,7 @@ use Rattle.std.specs.Result.{result_and}
 use Rattle.std.specs.Prelude.{Result, Err}
 use Rattle.sheet.specs.declared.refusal.Refusal.{Refusal}
 use Rattle.sheet.specs.Format.{task_set_of}
+use Rattle.sheet.proofs.Said.{said}
 use Rattle.sheet.specs.declared.task.TaskSet.{TaskSet}
 use Rattle.reader.specs.Reading.{read_answer}
 use Rattle.reader.proofs.Readings.{read_ok, read_err}
@@ -25,7 +26,9 @@ unread c =
     rw (c.zero_state.ensures, answer) (start_refused _ (answer_read _ (read_err c.args.sheet.now (sym c.read-reading.ensures.whole ∙ c.in_default.is))))
 
 pub returns-in_default : goal.returns-in_default
-returns-in_default c = record { answered = ap (λ (r : Started). r.answer) (unread c); started = ap (λ (r : Started). r.state) (unread c) }
+returns-in_default c =
+    let same = ap (λ (r : Started). r.answer) (unread c) in
+    record { answered = same; says = said same; started = ap (λ (r : Started). r.state) (unread c) }
 
 -- Past the reader the sheet is accepted, and the set is what it says.
 read : (c : In-Ok) → (read_answer c.args.sheet.now ≡ Ok tt) × (c.in-Ok.set ≡ task_set_of c.args.sheet.now)
@@ -43,7 +46,9 @@ unchosen c =
     rw c.zero_state.ensures (start_refused _ (answer_choice _ both.0 ∙ choice_err (task_set_of c.args.sheet.now) chosen))
 
 pub returns-in-Err : goal.returns-in-Err
-returns-in-Err c = record { answered = ap (λ (r : Started). r.answer) (unchosen c); started = ap (λ (r : Started). r.state) (unchosen c) }
+returns-in-Err c =
+    let same = ap (λ (r : Started). r.answer) (unchosen c) in
+    record { answered = same; says = said same; started = ap (λ (r : Started). r.state) (unchosen c) }
 
 -- Past the choice, it is accepted, and the shares are those of the set.
 kept : (c : In-Ok-choose) → (choice_answer (task_set_of c.args.sheet.now) ≡ Ok tt) × (c.in-Ok-choose.shares ≡ sixteen (shares_of (task_set_of c.args.sheet.now)))
@@ -71,4 +76,6 @@ planned c =
     rw (c.begin.ensures, c.allocations_of.ensures, set.1, shares.1, line_fixed _ accepted) (start_accepted _ accepted)
 
 pub returns : goal.returns
-returns c = record { answered = ap (λ (r : Started). r.answer) (planned c); started = ap (λ (r : Started). r.state) (planned c) }
+returns c =
+    let same = ap (λ (r : Started). r.answer) (planned c) in
+    record { answered = same; says = said same; started = ap (λ (r : Started). r.state) (planned c) }

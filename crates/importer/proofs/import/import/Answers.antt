@@ -48,7 +48,7 @@ returns-in_err-graph_answer c =
 pub task_of-task-requires : goal.task_of-task-requires
 task_of-task-requires c =
     let before = (goal.at.task_of-task-requires c).In_ok-graph_answer in
-    record { few = few_at before; lawful = (fine_at before).terms }
+    record { few = few_at before; level = (terms_at before).level; percentage = (terms_at before).most }
 
 -- The answer by whether the figures are in their range.
 answered_at : (c : After-are_in_range) →

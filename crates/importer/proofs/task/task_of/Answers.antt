@@ -1,15 +1,11 @@
 -- `importer::task::task_of`: the task by its definition, budgets and times put in.
 use Rattle.std.proofs.Common.{arith}
 use Rattle.importer.specs.means.Nodes.{nodes_task}
-use Rattle.importer.proofs.Acceptance.{terms_kept}
 use Rattle.importer.proofs.Figures.{small_taken, budget_taken}
 use Rattle.importer.proofs.task.task_of.Goals as goal
 
 pub scaled_times-overload-requires : goal.scaled_times-overload-requires
-scaled_times-overload-requires c = (rw c.from-k.ensures c.requires.few, (terms_kept c.args.t c.requires.lawful).most)
-
-pub overflow_cast-level : goal.overflow_cast-level
-overflow_cast-level c = let kept = terms_kept c.args.t c.requires.lawful in omega (arith, kept.level)
+scaled_times-overload-requires c = (rw c.from-k.ensures c.requires.few, c.requires.percentage)
 
 pub budget_of-requires-clause-small : goal.budget_of-requires-clause-small
 budget_of-requires-clause-small c = small_taken c.from-k.result c.scaled_times-nominal.result c.scaled_times-nominal.ensures.small
