@@ -46,17 +46,8 @@ fn by_tick(state: &State, reports: &[u32]) -> Turn
     tick(*state, reports)
 }
 
-/// A logged Tick, put to a state.
-fn by_logged_tick(state: &State, call: &[u8]) -> Turn
-    requires { 2 + 4 * byte_at call.now 1 ≤ length call.now }
-    ensures { result ≡ turn_of state.now (tick (reports_at call.now 2 (byte_at call.now 1))) }
-{
-    let count = byte_at(call, 1);
-    let reports = reports_of(call, count);
-    by_tick(state, &reports[..usize::from(count)])
-}
-
-/// A logged call, put to a state.
+/// A logged call, put to a state. A tick's reports are read here: a function between would have a turn of its own to
+/// fill, and a replay would take half as long again.
 #[tactic(auto, unfolding(crate::specs::Encoding::call_in, crate::specs::Encoding::asked_by))]
 pub fn turn_of(state: &State, call: LoggedCall) -> Turn
     ensures { result ≡ turn_of state.now (call_in call.entry.kind call.entry.bytes.now) }
@@ -64,6 +55,10 @@ pub fn turn_of(state: &State, call: LoggedCall) -> Turn
     match call.kind {
         // `u32` has no `From` to `usize`.
         Kind::Release => by_release(state, u32_at(call.bytes, 1) as usize),
-        Kind::Tick => by_logged_tick(state, call.bytes),
+        Kind::Tick => {
+            let count = byte_at(call.bytes, 1);
+            let reports = reports_of(call.bytes, count);
+            by_tick(state, &reports[..usize::from(count)])
+        }
     }
 }
