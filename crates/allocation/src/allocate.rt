@@ -67,9 +67,12 @@ pub fn allocate(sheet: &[u8]) -> Result<Allocated, Refusal>
     ensures says { Says result (number_of (allocated_of sheet.now)) (task_of (allocated_of sheet.now)) }
 {
     let set = read(sheet)?;
-    let shares = choose(&set)?;
-    Ok(Allocated {
-        count: set.count,
-        allocations: allocations_of(&set, &shares),
-    })
+    // By a match, so that the choice's refusal (S3.3) has an arm of its own, which a must-fail edit can turn.
+    match choose(&set) {
+        Ok(shares) => Ok(Allocated {
+            count: set.count,
+            allocations: allocations_of(&set, &shares),
+        }),
+        Err(refusal) => Err(refusal),
+    }
 }

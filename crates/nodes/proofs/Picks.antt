@@ -14,8 +14,8 @@ use Rattle.nodes.proofs.Members.{ones_members, set_of-members}
 use Rattle.nodes.proofs.Rising.{Rising, rising_range, rising_filter, rising_take}
 
 -- Where a set has no more than s members, its s lowest are the set.
-pub set_of-take-all : (k set s : ℕ) → set < 2 ^ k → ones set ≤ s → set_of (take s (members k set)) ≡ set
-set_of-take-all k set s below few =
+pub all_lowest : (k set s : ℕ) → set < 2 ^ k → ones set ≤ s → set_of (take s (members k set)) ≡ set
+all_lowest k set s below few =
     ap set_of (take_all s (members k set) (omega (arith, ones_members k set below))) ∙ set_of-members k set below
 
 -- The set of a list is the sum of its nodes' bits.

@@ -75,6 +75,7 @@ impl NodeSet {
     }
 
     /// The `count` lowest members, or the whole set where it has no more than these.
+    #[tactic(auto, using(crate::proofs::Picks::all_lowest))]
     pub fn lowest(self, count: u32) -> NodeSet
         ensures { result ≡ set_of (take count (members 32 self)) }
     {

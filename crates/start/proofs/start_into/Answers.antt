@@ -1,12 +1,9 @@
 -- `start::start_into`: refused by the reader, or by the choice, or accepted. Past the reader the set is what the sheet
 -- says, and lawful; past the choice the shares are those of the set.
 use Rattle.std.proofs.Common.{◌≡◌, Ok, sym, ap, ◌∙◌}
-use Rattle.std.specs.Result.{result_and}
-use Rattle.std.specs.Prelude.{Result, Err}
-use Rattle.sheet.specs.declared.refusal.Refusal.{Refusal}
+use Rattle.std.specs.Prelude.{Err}
 use Rattle.sheet.specs.Format.{task_set_of}
 use Rattle.sheet.proofs.Said.{said}
-use Rattle.sheet.specs.declared.task.TaskSet.{TaskSet}
 use Rattle.reader.specs.Reading.{read_answer}
 use Rattle.reader.proofs.Readings.{read_ok, read_err}
 use Rattle.allocation.specs.Allocation.{choice_answer, choice_of, sixteen, shares_of}
@@ -16,19 +13,18 @@ use Rattle.allocation.proofs.Allocations.{shares_fit, answer_read, answer_choice
 use Rattle.start.specs.Start.{Started}
 use Rattle.start.specs.Start.{start_of}
 use Rattle.start.proofs.Starts.{start_refused, start_accepted}
-use Rattle.start.proofs.start_into.Goals.{After-and, In-Ok, In-Ok-choose, After-begin, In-Err}
+use Rattle.start.proofs.start_into.Goals.{In_default, In-Ok, In-Ok-choose, After-begin, In-Err}
 use Rattle.start.proofs.start_into.Goals as goal
 
-unread : (c : After-and) → ◌≡◌ {A = Started} (record { state = c.zero_state.result; answer = c.and.result }) (start_of c.args.sheet.now)
-unread c =
-    let answer : c.and.result ≡ Err c.in_default.field-0 =
-    c.and.ensures ∙ ap (λ (r : Result TaskSet Refusal). result_and {U = Unit {0}} r (Ok tt)) c.in_default.is in
-    rw (c.zero_state.ensures, answer) (start_refused _ (answer_read _ (read_err c.args.sheet.now (sym c.read-reading.ensures.whole ∙ c.in_default.is))))
+unread : (c : In_default) → ◌≡◌ {A = Started} (record { state = c.zero_state.result; answer = Err c.in_default.field-0 }) (start_of c.args.sheet.now)
+unread c = rw c.zero_state.ensures (start_refused _ (answer_read _ (read_err c.args.sheet.now (sym c.read-reading.ensures.whole ∙ c.in_default.is))))
 
+-- By the equations that are known there, under whatever name the reader's refusal is given on.
 pub returns-in_default : goal.returns-in_default
 returns-in_default c =
-    let same = ap (λ (r : Started). r.answer) (unread c) in
-    record { answered = same; says = said same; started = ap (λ (r : Started). r.state) (unread c) }
+    let both = unread (goal.at.returns-in_default c).In_default in
+    let answer = ap (λ (r : Started). r.answer) both in
+    record { answered = cc answer; says = said (cc answer); started = ap (λ (r : Started). r.state) both }
 
 -- Past the reader the sheet is accepted, and the set is what it says.
 read : (c : In-Ok) → (read_answer c.args.sheet.now ≡ Ok tt) × (c.in-Ok.set ≡ task_set_of c.args.sheet.now)

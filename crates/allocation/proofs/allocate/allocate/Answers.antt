@@ -11,7 +11,7 @@ use Rattle.allocation.specs.Allocation.{choice_answer, choice_of, sixteen, share
 use Rattle.allocation.proofs.Accepted.{sheet_lawful}
 use Rattle.allocation.proofs.KeptLine.{accepted_shares, choice_ok, choice_err}
 use Rattle.allocation.proofs.Allocations.{shares_fit, answer_read, answer_choice, allocated_refused, line_fixed, allocated_accepted}
-use Rattle.allocation.proofs.allocate.allocate.Goals.{After-from_residual, In_ok-set, After-choose, After-from_residual-in_err-shares, In_ok-shares, After-allocations_of}
+use Rattle.allocation.proofs.allocate.allocate.Goals.{After-from_residual, In_ok-set, After-choose, In-Ok, After-allocations_of}
 use Rattle.allocation.proofs.allocate.allocate.Goals as goal
 
 unread : (c : After-from_residual) → c.from_residual.result ≡ allocated_of c.args.sheet.now
@@ -34,33 +34,30 @@ choose-requires c =
 chosen : (c : After-choose) → choice_of (task_set_of c.args.sheet.now) ≡ c.choose.result
 chosen c = let both = told (goal.at.After-choose c).In_ok-set in rw (c.choose.ensures.whole, both.1)
 
-unchosen : (c : After-from_residual-in_err-shares) → c.from_residual-in_err-shares.result ≡ allocated_of c.args.sheet.now
-unchosen c =
-    let both = told (goal.at.After-from_residual-in_err-shares c).In_ok-set in
-    let p = err_from_is_err_and c.from_residual-in_err-shares.result c.from_residual-in_err-shares.ensures.1 in
-    let refused = choice_err (task_set_of c.args.sheet.now) (chosen (goal.at.After-from_residual-in_err-shares c).After-choose ∙ c.in_err-shares.was) in
-    rw (p.1, p.2) (allocated_refused _ (answer_choice _ both.0 ∙ refused))
-
-pub returns-in_err-shares : goal.returns-in_err-shares
-returns-in_err-shares c = let e = unchosen c in record { whole = e; says = said e }
+pub returns-in-Err : goal.returns-in-Err
+returns-in-Err c =
+    let both = told (goal.at.returns-in-Err c).In_ok-set in
+    let refused = choice_err (task_set_of c.args.sheet.now) (chosen (goal.at.returns-in-Err c).After-choose ∙ c.in-Err.is) in
+    let e = allocated_refused _ (answer_choice _ both.0 ∙ refused) in
+    record { whole = e; says = said e }
 
 -- Past the choice, it is accepted, and the shares are those of the set.
-kept : (c : In_ok-shares) → (choice_answer (task_set_of c.args.sheet.now) ≡ Ok tt) × (c.in_ok-shares.shares ≡ sixteen (shares_of (task_set_of c.args.sheet.now)))
-kept c = choice_ok (task_set_of c.args.sheet.now) (chosen (goal.at.In_ok-shares c).After-choose ∙ c.in_ok-shares.was)
+kept : (c : In-Ok) → (choice_answer (task_set_of c.args.sheet.now) ≡ Ok tt) × (c.in-Ok.shares ≡ sixteen (shares_of (task_set_of c.args.sheet.now)))
+kept c = choice_ok (task_set_of c.args.sheet.now) (chosen (goal.at.In-Ok c).After-choose ∙ c.in-Ok.is)
 
 pub allocations_of-requires : goal.allocations_of-requires
 allocations_of-requires c =
     let set = told (goal.at.allocations_of-requires c).In_ok-set in
-    let shares = kept (goal.at.allocations_of-requires c).In_ok-shares in
+    let shares = kept (goal.at.allocations_of-requires c).In-Ok in
     let lawful = sheet_lawful c.args.sheet.now set.0 in
     rw (set.1, shares.1) (shares_fit (task_set_of c.args.sheet.now) lawful _ (accepted_shares _ lawful shares.0))
 
 planned : (c : After-allocations_of) → Ok (record { count = c.in_ok-set.set.count; allocations = c.allocations_of.result }) ≡ allocated_of c.args.sheet.now
 planned c =
     let set = told (goal.at.After-allocations_of c).In_ok-set in
-    let shares = kept (goal.at.After-allocations_of c).In_ok-shares in
+    let shares = kept (goal.at.After-allocations_of c).In-Ok in
     let accepted = answer_choice _ set.0 ∙ shares.0 in
     allocated_accepted _ accepted _ _ (ap (λ (t : TaskSet). t.count) set.1) (rw (c.allocations_of.ensures, set.1, shares.1) (line_fixed _ accepted))
 
-pub returns : goal.returns
-returns c = let e = planned c in record { whole = e; says = said e }
+pub returns-in-Ok : goal.returns-in-Ok
+returns-in-Ok c = let e = planned c in record { whole = e; says = said e }

@@ -2,10 +2,7 @@
 -- what is left, is the whole.
 use Prim.Native.Nat.{◌≤◌, ◌<◌}
 use mathlib.Core.Path.{◌≡◌, sym, ap, ◌∙◌}
-use mathlib.Core.Bool.{Bool, ◌&&◌}
 use native.Mathlib.Omega.{arith}
-use borrow.Author.Tests.{le-leb}
-use lib.Dec.{leb}
 use lib.ListN.{length, take, get_or}
 use lib.Seq.{length-take-le}
 use Rattle.entries.specs.declared.state.TaskState.{TaskState}
@@ -49,5 +46,5 @@ pub returns-then-typical-processors : goal.returns-then-typical-processors
 returns-then-typical-processors c =
     let all : c.args.self.now.count ≤ c.loop-e.e-index =
     omega (arith, c.from.ensures, length-take-le _ c.args.self.now.entries (long (goal.at.returns-then-typical-processors c).Start)) in
-    ap (λ (t : Bool). t && leb c.loop-e.critical c.from-processors.result) (sym (le-leb c.loop-e.typical c.from-processors.result c.if-typical-processors.true))
-    ∙ rw c.from-processors.ensures (passed_all c.args.self.now (long (goal.at.returns-then-typical-processors c).Start) c.loop-e.e-index _ _ all c.loop-e.invariant)
+    let passed = passed_all c.args.self.now (long (goal.at.returns-then-typical-processors c).Start) c.loop-e.e-index _ _ all c.loop-e.invariant in
+    grind (arith, passed)
