@@ -1,9 +1,9 @@
 //! S14.2 to S14.5: the graph that a text says.
-ghost use Rattle.std.specs.Prelude.{◌≡◌, suc};
+ghost use Rattle.std.specs.Prelude.{◌≡◌, suc, MatchResult, None, Some};
 ghost use Rattle.graph_text.specs.Graph.{time_lawful};
 ghost use Rattle.graph_text.specs.Read.{read_of};
 ghost use Rattle.graph_text.specs.means.Entries.{bit_named, named_from, entry_from, Reads};
-ghost use Rattle.graph_text.specs.means.Entries.{none_held, held_of, held_graph};
+ghost use Rattle.graph_text.specs.means.Entries.{held_of};
 
 use crate::text::{BadFormat, Numerals};
 
@@ -132,16 +132,19 @@ fn read_entry(numerals: &mut Numerals, count: u16, v: u32) -> Result<Node, BadFo
     read_named(numerals, v, many, begun)
 }
 
-/// S14.2: the entries of a graph with this count, behind which nothing follows.
-fn read_entries(numerals: &mut Numerals, count: u16) -> Result<NodeGraph, BadFormat>
-    ensures { result ≡ held_graph (held_of count 0 (suc (suc count)) (none_held count) numerals.old) }
+/// S14.2: the entries of a graph, from the first on, behind which nothing follows. They are held in place: a graph handed
+/// back would be copied once more.
+fn read_entries(numerals: &mut Numerals, graph: &mut NodeGraph) -> Result<(), BadFormat>
+    ensures { MatchResult result
+        (λ _. held_of graph.old.count 0 (suc (suc graph.old.count)) graph.old numerals.old ≡ Some graph.new)
+        (λ _. held_of graph.old.count 0 (suc (suc graph.old.count)) graph.old numerals.old ≡ None) }
 {
-    let mut graph = NodeGraph::new(count);
+    let count = graph.count;
     for v in 0..u32::from(count) + 2 {
         graph.hold(v, read_entry(numerals, count, v)?);
     }
     match numerals.next_numeral()? {
-        None => Ok(graph),
+        None => Ok(()),
         Some(_) => Err(BadFormat),
     }
 }
@@ -151,6 +154,7 @@ pub fn read_graph(text: &[u8]) -> Result<NodeGraph, BadFormat>
     ensures { result ≡ read_of text.now }
 {
     let mut numerals = Numerals::new(text);
-    let count = numerals.take()?;
-    read_entries(&mut numerals, count)
+    let mut graph = NodeGraph::new(numerals.take()?);
+    read_entries(&mut numerals, &mut graph)?;
+    Ok(graph)
 }

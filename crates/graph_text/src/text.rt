@@ -130,11 +130,12 @@ fn after_blanks(text: &[u8]) -> &[u8]
 }
 
 /// A value with one digit more, if that is at most the greatest numeral.
-fn with_digit(value: u16, b: u8) -> Option<u16>
-    requires { (48 ≤ b) × (b ≤ 57) }
+fn with_digit(value: u32, b: u8) -> Option<u32>
+    requires { (value ≤ numeral_limit) × (48 ≤ b) × (b ≤ 57) }
     ensures { SomeIff result (10 * value + (b - 48) ≤ numeral_limit) (10 * value + (b - 48)) }
 {
-    u16::try_from(10 * u32::from(value) + u32::from(b - b'0')).ok()
+    let more = 10 * value + u32::from(b - b'0');
+    (more <= u32::from(u16::MAX)).then_some(more)
 }
 
 /// The numeral that begins with the digit `first` and whose other digits are at the front of a text, and what
@@ -146,8 +147,9 @@ fn read_digits(text: &[u8], first: u16) -> Result<(u16, &[u8]), BadFormat>
         (λ _. numerals_after first (before_mark text.now) ≡ None) }
     ensures left { IfOk result (λ r. IsRest text.now r.1.now) }
 {
-    // A walk of its own: `after_blanks` keeps no value and can't fail.
-    let mut value = first;
+    // A walk of its own: `after_blanks` keeps no value and can't fail. The value is a `u32` on the way: from a `u16` each
+    // digit would wait for a conversion more.
+    let mut value = u32::from(first);
     let mut rest = text;
     while let Some((b, behind)) = rest.split_first() {
         if !b.is_ascii_digit() {
@@ -156,5 +158,6 @@ fn read_digits(text: &[u8], first: u16) -> Result<(u16, &[u8]), BadFormat>
         value = with_digit(value, *b).ok_or(BadFormat)?;
         rest = behind;
     }
-    Ok((value, rest))
+    // At most the greatest numeral, and `u32` has no `From` to `u16`.
+    Ok((value as u16, rest))
 }

@@ -1,6 +1,6 @@
 -- `graph_text::graph::read_entries`: the loop's invariant.
 use Rattle.std.proofs.Common.{◌≡◌, ◌+◌, ◌-◌, suc}
-use Rattle.graph_text.specs.means.Entries.{none_held, held_of}
+use Rattle.graph_text.specs.means.Entries.{held_of}
 use Rattle.graph_text.proofs.graph.read_entries.Given as goal
 
 -- What is held, with the entries that are left, is what is held of all.
@@ -9,5 +9,5 @@ invariant-loop-v l =
     record {
       count : l.graph.count ≡ l.count;
       held : held_of l.count l.v (l.count + 2 - l.v) l.graph l.numerals
-          ≡ held_of l.count 0 (suc (suc l.count)) (none_held l.count) l.initial.numerals;
+          ≡ held_of l.count 0 (suc (suc l.count)) l.initial.graph l.initial.numerals;
     }
