@@ -67,7 +67,7 @@ pub fn allocate(sheet: &[u8]) -> Result<Allocated, Refusal>
     ensures says { Says result (number_of (allocated_of sheet.now)) (task_of (allocated_of sheet.now)) }
 {
     let set = read(sheet)?;
-    // By a match, so that the choice's refusal (S3.3) has an arm of its own, which a must-fail edit can turn.
+    // By a match, as Start has it: the refusal of the choice (S3.3) has an arm of its own.
     match choose(&set) {
         Ok(shares) => Ok(Allocated {
             count: set.count,
