@@ -32,15 +32,16 @@ impl TryFrom<u8> for Kind {
     }
 }
 
-/// S12.1: how many bytes a call of this kind asks for; its second byte is the number of a tick's reports.
+/// S12.1: how many bytes a call of this kind asks for; its second byte is the number of a tick's reports. It is read for
+/// a tick alone: a release does not wait for it.
 #[tactic(auto, unfolding(crate::specs::Encoding::asked_by))]
-fn asked_by(kind: Kind, second: u8) -> usize
-    ensures value { result ≡ asked_by kind second }
+fn asked_by(kind: Kind, call: &[u8]) -> usize
+    ensures value { result ≡ asked_by kind (byte_at call.now 1) }
     ensures some { 1 ≤ result }
 {
     match kind {
         Kind::Release => 5,
-        Kind::Tick => 2 + 4 * usize::from(second),
+        Kind::Tick => 2 + 4 * usize::from(byte_at(call, 1)),
     }
 }
 
@@ -76,7 +77,7 @@ impl<'a> Iterator for LoggedCalls<'a> {
 
     fn next(&mut self) -> Option<LoggedCall<'a>> {
         let kind = Kind::try_from(byte_at(self.rest, 0)).ok()?;
-        let size = asked_by(kind, byte_at(self.rest, 1));
+        let size = asked_by(kind, self.rest);
         let (bytes, rest) = self.rest.split_at_checked(size)?;
         self.rest = rest;
         Some(LoggedCall { kind, bytes })

@@ -18,14 +18,14 @@ known c = grind (arith, c.try_from.ensures, c.ok.ensures, c.in_ok-kind.was, c.by
 pub returns-in_err-bytes-clause-steps : goal.returns-in_err-bytes-clause-steps
 returns-in_err-bytes-clause-steps c =
     let k = known (goal.at.returns-in_err-bytes-clause-steps c).In_ok-kind in
-    let none = calls_cut c.args.self.now.rest.now c.in_ok-kind.kind k (rw (← c.byte_at-2.ensures, ← c.asked_by-size.ensures.value) c.in_err-bytes.ensures.cases) in
+    let none = calls_cut c.args.self.now.rest.now c.in_ok-kind.kind k (rw (← c.asked_by-size.ensures.value) c.in_err-bytes.ensures.cases) in
     rw c.from_residual-in_err-bytes.ensures (none, none)
 
 pub invariant_of-result : goal.invariant_of-result
 invariant_of-result c =
     record {
       whole = call_whole c.args.self.now.rest.now c.asked_by-size.result c.in_ok-kind.kind c.in_ok-bytes.bytes.now
-          (rw (← c.byte_at-2.ensures) c.asked_by-size.ensures.value) c.in_ok-bytes.ensures.cases.1 c.in_ok-bytes.ensures.cases.3;
+          c.asked_by-size.ensures.value c.in_ok-bytes.ensures.cases.1 c.in_ok-bytes.ensures.cases.3;
     }
 
 step : (c : In_ok-bytes) →
@@ -34,7 +34,7 @@ step c =
     let split = c.in_ok-bytes.ensures.cases in
     let k = known (goal.at.In_ok-bytes c).In_ok-kind in
     rw (split.1, split.2)
-    (calls_step c.args.self.now.rest.now c.in_ok-kind.kind c.asked_by-size.result k (rw (← c.byte_at-2.ensures) c.asked_by-size.ensures.value)
+    (calls_step c.args.self.now.rest.now c.in_ok-kind.kind c.asked_by-size.result k c.asked_by-size.ensures.value
     c.asked_by-size.ensures.some split.0)
 
 pub returns-clause-steps : goal.returns-clause-steps
