@@ -11,27 +11,30 @@ use Rattle.dispatcher.specs.Sound.{is_sound}
 use Rattle.dispatcher.specs.Calls.{release_of, tick_of}
 use Rattle.dispatcher.specs.Board.{unused, board_bytes}
 
--- S7.2: a sound state stays sound under Release and Tick.
+-- S7.2: a sound state stays sound under Release.
 abbrev pub ReleaseSound : Type 0
 ReleaseSound = (s : State) (i : ℕ) → is_sound s ≡ true → is_sound (release_of s i).state ≡ true
 
+-- S7.2: and under Tick.
 abbrev pub TickSound : Type 0
 TickSound = (s : State) (reports : List ℕ) → is_sound s ≡ true → is_sound (tick_of s reports).state ≡ true
 
--- S10.3: the state after a call holds the model after its step.
+-- S10.3: the state after a release holds the model after its step.
 abbrev pub ReleaseModel : Type 0
 ReleaseModel =
     (s : State) (i : ℕ) → is_sound s ≡ true → model_of (release_of s i).state ≡ (step (model_of s) (release i)).model
 
+-- S10.3: and so does the state after a tick.
 abbrev pub TickModel : Type 0
 TickModel =
     (s : State) (reports : List ℕ) → is_sound s ≡ true →
     model_of (tick_of s reports).state ≡ (step (model_of s) (tick reports)).model
 
--- S3.4: a refused call hands back an equal state.
+-- S3.4: a refused release hands back an equal state.
 abbrev pub ReleaseBack : Type 0
 ReleaseBack = (s : State) (i : ℕ) (r : Refusal) → (release_of s i).answer ≡ Err r → (release_of s i).state ≡ s
 
+-- S3.4: and so does a refused tick.
 abbrev pub TickBack : Type 0
 TickBack =
     (s : State) (reports : List ℕ) (r : Refusal) → (tick_of s reports).answer ≡ TickRefused r → (tick_of s reports).state ≡ s
