@@ -47,7 +47,7 @@ fn by_tick(state: &State, reports: &[u32]) -> Turn
 }
 
 /// A logged call, put to a state. A tick's reports are read here: a function between would have a turn of its own to
-/// fill, and a replay would take half as long again.
+/// fill, and a replay would take a quarter more time.
 #[tactic(auto, unfolding(crate::specs::Encoding::call_in, crate::specs::Encoding::asked_by))]
 pub fn turn_of(state: &State, call: LoggedCall) -> Turn
     ensures { result ≡ turn_of state.now (call_in call.entry.kind call.entry.bytes.now) }
