@@ -30,7 +30,7 @@ use Rattle.entries.specs.Sound.{entry_sound}
 use Rattle.dispatcher.specs.Sound.{is_sound}
 use Rattle.dispatcher.specs.Answers.{tick_answer}
 use Rattle.dispatcher.specs.Calls.{tick_of}
-use Rattle.dispatcher.specs.means.Passed.{HasPassed}
+use Rattle.dispatcher.specs.means.Passed.{with_parts, HasPassed}
 use Rattle.dispatcher.proofs.Soundness.{ranges_kept, few_entries}
 use Rattle.dispatcher.proofs.Entries.{no_entry, entry_at, left_next, left_none, Passed, passed_none, passed_broken, passed_more, passed_all}
 use Rattle.dispatcher.proofs.Rows.{rows_own, row_with, model_own, model_with, model_again, model_length, rows_none, written_to, written_at, written_more, row_here}
@@ -263,6 +263,10 @@ module _ (s : State) (reports : List ℕ) (long : s.count ≤ length s.entries) 
   unfolding model_of high_from
   alive = sym (or-false p.high) ∙ ap (λ (t : Bool). p.high || t) (sym (high_end s reports long same i all)) ∙ scanned.highs
 
+  -- Each task has had its part of the tick.
+  pub scanned_parts : next ≡ with_parts s reports
+  scanned_parts = scanned.written ∙ ap (written_to s s.critical) (ticked_whole s long reports i all)
+
   module _ (fit : (leb p.typical s.processors && leb p.critical s.processors) ≡ true) where
     pub scanned_wrong : {task : ℕ} → p.wrong ≡ Some task → tick_of s reports ≡ record { state = s; answer = TickRefused (NotRunning task) }
     scanned_wrong found =
@@ -273,7 +277,7 @@ module _ (s : State) (reports : List ℕ) (long : s.count ≤ length s.entries) 
         record {
           sound = scanned_sound ∙ fit;
           accepted = reported ∙ ap (λ (o : Option ℕ). found_or (λ (i : ℕ). Err (NotRunning i)) o (Ok tt)) none;
-          written = scanned.written ∙ ap (written_to s s.critical) (ticked_whole s long reports i all);
+          written = scanned_parts;
           late = lowest;
           high = alive;
         }

@@ -7,7 +7,7 @@ ghost use Rattle.dispatcher.specs.Holds.{model_of, with_model};
 ghost use Rattle.dispatcher.specs.Sound.{is_sound};
 ghost use Rattle.dispatcher.specs.Answers.{tick_answer, tick_number, tick_task, TickSays};
 ghost use Rattle.dispatcher.specs.Calls.{tick_of};
-ghost use Rattle.dispatcher.specs.means.Passed.{HasPassed};
+ghost use Rattle.dispatcher.specs.means.Passed.{HasPassed, HasStopped};
 
 use crate::state::{Answered, State};
 use entries::pass::Pass;
@@ -51,11 +51,12 @@ fn critical_answer(high: bool) -> TickAnswer
 }
 
 /// S8.5: each task's part of a tick, in one pass: soundness, its report, and what it becomes. Where the tick is refused
-/// the state is left half way: the caller has it as it was.
+/// the state may be left half way: the caller has it as it was.
 /// The reports are a list of the caller's (S8.5), so they stand beside the entries.
 fn pass_over(state: &mut State, reports: &[u32]) -> Result<Pass, Refusal>
     ensures refused { IfErr result
         (λ r. tick_of state.old reports.now ≡ record { state = state.old; answer = TickAnswer.Refused r }) }
+    ensures stopped { IfErr result (λ r. HasStopped state.old reports.now r state.new) }
     ensures passed { IfOk result (λ p. HasPassed state.old reports.now p state.new) }
 {
     if reports.len() != usize::from(state.count) {

@@ -24,7 +24,7 @@ use Rattle.dispatcher.specs.Holds.{model_of}
 use Rattle.dispatcher.proofs.Soundness.{ranges_broken, count-within}
 use Rattle.dispatcher.proofs.Entries.{no_entry, entry_at}
 use Rattle.dispatcher.proofs.Rows.{granted_entry}
-use Rattle.dispatcher.proofs.Ticks.{test_after, scanned_none, scanned_entry, scanned_broken, scanned_more, tick_unsound, tick_miscounted, scanned_unfit, scanned_wrong, scanned_passed}
+use Rattle.dispatcher.proofs.Ticks.{test_after, scanned_none, scanned_entry, scanned_broken, scanned_more, tick_unsound, tick_miscounted, scanned_unfit, scanned_wrong, scanned_parts, scanned_passed}
 use Rattle.dispatcher.proofs.tick.pass_over.Goals.{Start, Else-not-is_in_range, Else-not-is_sound, Else-not-fits}
 use Rattle.dispatcher.proofs.tick.pass_over.Goals as goal
 
@@ -144,6 +144,11 @@ returns-in-Some-clause-refused c =
     let t = (goal.at.returns-in-Some-clause-refused c).Else-not-is_in_range in
     scanned_wrong c.args.state.now c.args.reports.now (long t) (same t) c.loop-i.i c.loop-i.pass c.loop-i.state c.loop-i.invariant (omega arith) (ranges t)
     (fit (goal.at.returns-in-Some-clause-refused c).Else-not-fits) c.in-Some.is
+
+pub returns-in-Some-clause-stopped : goal.returns-in-Some-clause-stopped
+returns-in-Some-clause-stopped c =
+    let t = (goal.at.returns-in-Some-clause-stopped c).Else-not-is_in_range in
+    scanned_parts c.args.state.now c.args.reports.now (long t) (same t) c.loop-i.i c.loop-i.pass c.loop-i.state c.loop-i.invariant (omega arith) (ranges t)
 
 pub returns-clause-passed : goal.returns-clause-passed
 returns-clause-passed c =
