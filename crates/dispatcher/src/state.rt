@@ -39,6 +39,7 @@ impl State {
     }
 
     /// S7.2: whether each of the first n entries is sound and their shares fit M processors in either mode.
+    #[tactic(auto, using(crate::proofs::Entries::left_sound, crate::proofs::Entries::left_typical, crate::proofs::Entries::left_critical))]
     fn has_sound_entries(&self) -> bool
         requires { self.now.count ≤ 16 }
         ensures { result ≡ (

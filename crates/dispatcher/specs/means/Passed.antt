@@ -23,8 +23,8 @@ pub record HasPassed (s : State) (reports : List ℕ) (p : Pass) (next : State) 
   pub late : p.late ≡ lowest_late 0 (ticked_rows (model_of s).rows reports)
   pub high : p.high ≡ list_any has_high_job (ticked_rows (model_of s).rows reports)
 
--- What is left of a tick that is refused, by the refusal: where there is not a report for each task (S9.14) the state as
--- it came, and where a report is wrong (S9.15) the state with each task's part. A state that is not sound (S9.10) may be
+-- What is left of a tick that is refused, by the refusal: where there are not just n reports (S9.14) the state as it
+-- came, and where a report is wrong (S9.15) the state with each task's part. A state that is not sound (S9.10) may be
 -- left half way, and a pass has no other refusal.
 abbrev pub HasStopped : State → List ℕ → Refusal → State → Type 0
 HasStopped s reports NotSound next = ⊤

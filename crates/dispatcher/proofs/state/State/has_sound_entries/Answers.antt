@@ -6,7 +6,7 @@ use native.Mathlib.Omega.{arith}
 use lib.ListN.{length, take, get_or}
 use lib.Seq.{length-take-le}
 use Rattle.entries.specs.declared.state.TaskState.{TaskState}
-use Rattle.dispatcher.proofs.Entries.{no_entry, entry_at, turn_entry, passed_none, passed_broken, passed_more, passed_all}
+use Rattle.dispatcher.proofs.Entries.{no_entry, entry_at, turn_entry, passed_none, passed_broken, passed_more}
 use Rattle.dispatcher.proofs.state.State.has_sound_entries.Goals.{Start, In-loop-e}
 use Rattle.dispatcher.proofs.state.State.has_sound_entries.Goals as goal
 
@@ -41,10 +41,3 @@ loop-e-preserved c =
     (omega (arith, typical, c.from-typical.ensures))
     (omega (arith, critical, c.from-critical.ensures))
     c.loop-e.invariant)
-
-pub returns-then-typical-processors : goal.returns-then-typical-processors
-returns-then-typical-processors c =
-    let all : c.args.self.now.count ≤ c.loop-e.e-index =
-    omega (arith, c.from.ensures, length-take-le _ c.args.self.now.entries (long (goal.at.returns-then-typical-processors c).Start)) in
-    let passed = passed_all c.args.self.now (long (goal.at.returns-then-typical-processors c).Start) c.loop-e.e-index _ _ all c.loop-e.invariant in
-    grind (arith, passed)
