@@ -111,18 +111,18 @@ module _ (s : State) (long : s.count ≤ length s.entries) where
 
 -- Nothing is left past the entries that are read.
 module _ (s : State) (i : ℕ) (past : length (take s.count s.entries) ≤ i) where
-  none_left : drop i (entries_of s) ≡ []
+  nothing_past : drop i (entries_of s) ≡ []
   unfolding entries_of
-  none_left = drop_of_length-le (take s.count s.entries) {i = i} past
+  nothing_past = drop_of_length-le (take s.count s.entries) {i = i} past
 
   pub left_sound : entries_sound (drop i (entries_of s)) ≡ true
-  left_sound = rw none_left refl
+  left_sound = rw nothing_past refl
 
   pub left_typical : shares_in false (map row_of (drop i (entries_of s))) ≡ 0
-  left_typical = rw none_left refl
+  left_typical = rw nothing_past refl
 
   pub left_critical : shares_in true (map row_of (drop i (entries_of s))) ≡ 0
-  left_critical = rw none_left refl
+  left_critical = rw nothing_past refl
 
 -- Every entry that is read of a sound state is sound.
 pub sound_in : (es : List TaskState) (i : ℕ) → entries_sound es ≡ true → i < length es → entry_sound (get_or es i no_entry) ≡ true

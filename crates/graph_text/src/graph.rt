@@ -114,13 +114,16 @@ fn read_named(numerals: &mut Numerals, v: u32, many: u16, begun: Node) -> Result
     Ok(node)
 }
 
-/// S14.2, S14.3: entry v.
+/// S14.2, S14.3: entry v. A call: inlined, each walk over blanks or digits moves the places of the next ones too. It reads
+/// by numerals of its own, which stay in registers.
+#[inline(never)]
 fn read_entry(numerals: &mut Numerals, count: u16, v: u32) -> Result<Node, BadFormat>
     ensures { Reads (entry_from count v) numerals.old numerals.new result }
 {
-    let number = numerals.take()?;
-    let time = numerals.take()?;
-    let many = numerals.take()?;
+    let mut own = numerals.again();
+    let number = own.take()?;
+    let time = own.take()?;
+    let many = own.take()?;
     if u32::from(number) != v || !time_lawful(count, v, time) {
         return Err(BadFormat);
     }
@@ -129,7 +132,9 @@ fn read_entry(numerals: &mut Numerals, count: u16, v: u32) -> Result<Node, BadFo
         mask: 0,
         rising: true,
     };
-    read_named(numerals, v, many, begun)
+    let node = read_named(&mut own, v, many, begun)?;
+    *numerals = own;
+    Ok(node)
 }
 
 /// S14.2: the entries of a graph, from the first on, behind which nothing follows. They are held in place: a graph handed

@@ -51,6 +51,13 @@ impl<'a> Numerals<'a> {
         self.rest.is_empty()
     }
 
+    /// The same numerals, to be read apart.
+    pub(crate) fn again(&self) -> Numerals<'a>
+        ensures { result ≡ self.now }
+    {
+        Numerals { rest: self.rest }
+    }
+
     /// The next numeral, or none at the end. Where none is told, the same numerals are left.
     pub fn next_numeral(&mut self) -> Result<Option<u16>, BadFormat>
         ensures told { TakesMaybe self.old self.new result }
